@@ -1,0 +1,142 @@
+-- The eight calls. Each is one outcome for every input: the tests that concern its arguments in rising order, then the act.
+-- Assumes nothing.
+use mathlib.Core.Bool.{Bool, true, false, not}
+use mathlib.Core.List.{List, [], _∷_, _++_}
+use mathlib.Core.Option.{Option, some, none}
+use Prim.Native.Nat.{ℕ, zero, suc, _+_, _-_, _*_, _/_}
+use lib.Dec.{eqb, leb, ltb}
+use lib.ListN.{length, take, drop, replicate}
+use lib.Seq.{sets}
+use Rattle.rules.specs.Tests.{pick, isNone, orElse}
+use Rattle.rules.specs.Words.{wordAt, withWord, wordsOf}
+use Rattle.rules.specs.Entries.{FREE}
+use Rattle.rules.specs.Tables.{wellFormed, blockCount, fits, freeFrom, firstRun, placed, released, extended, used, objects, longest}
+use Rattle.rules.specs.Outcomes.{Heap, Answer, Outcome, changeFrom, onlyRefusal, placedAt, collectedTo, surveyed, loaded, leaves, unlessRefused, clearedBlocks}
+use Rattle.rules.specs.Refusals.{firstOf, badShape, badLists, illFormed, manyRoots, longStack, noBytes, outside, noHead, noWord, noRoom}
+use Rattle.rules.specs.Marking.{Scene, State, Marked, markAll, sweep}
+
+-- how many blocks hold a number of bytes
+unfoldable pub blocksFor : ℕ → ℕ
+blocksFor bytes = (bytes + 15) / 16
+
+-- Init: the table becomes all zero, the pool is not touched
+unfoldable pub init : ℕ → Heap → Outcome
+init base h =
+    unlessRefused (firstOf (badShape base h ∷ [])) h []
+    (leaves (onlyRefusal 0) (record { pool = h .pool; entries = replicate (length (h .entries)) FREE }))
+
+-- the heap with a new object of b blocks at s, all its bytes zero
+unfoldable pub taken : Heap → ℕ → ℕ → Heap
+taken h s b = record { pool = clearedBlocks (h .pool) s b; entries = placed (h .entries) s b }
+
+-- an accepted call that answers block k and the change
+unfoldable pub placing : Heap → ℕ → Heap → Outcome
+placing h k after = leaves (placedAt k (changeFrom (h .entries) (after .entries))) after
+
+-- Allocate: the lowest start at which the blocks fit
+unfoldable pub allocate : ℕ → Heap → ℕ → Outcome
+allocate base h bytes =
+    let b : ℕ = blocksFor bytes in
+    let start : Option ℕ = firstRun (h .entries) b in
+    unlessRefused (firstOf (badShape base h ∷ illFormed h ∷ noBytes bytes ∷ noRoom (isNone start) ∷ [])) h []
+    (placing h (orElse start 0) (taken h (orElse start 0) b))
+
+-- Free: the object's head and all its TAILs become FREE, bytes stay
+unfoldable pub freed : Heap → ℕ → Heap
+freed h k = record { pool = h .pool; entries = released (h .entries) k (blockCount (h .entries) k) }
+
+unfoldable pub free : ℕ → Heap → ℕ → Outcome
+free base h k =
+    unlessRefused (firstOf (badShape base h ∷ illFormed h ∷ outside h k ∷ noHead h k ∷ [])) h []
+    (placing h 0 (freed h k))
+
+-- the ways to reallocate an object of b blocks at k to c blocks
+pub data Way : Type 0 where
+  stay : Way
+  shrink : Way
+  grow : Way
+  move : ℕ → Way
+  noWay : Way
+
+-- the last blocks are given back
+unfoldable pub shrunk : Heap → ℕ → ℕ → ℕ → Heap
+shrunk h k b c = record { pool = h .pool; entries = released (h .entries) (k + c) (b - c) }
+
+-- the c - b blocks directly after the object are taken and cleared
+unfoldable pub grown : Heap → ℕ → ℕ → ℕ → Heap
+grown h k b c = record { pool = clearedBlocks (h .pool) (k + b) (c - b); entries = extended (h .entries) (k + b) (c - b) }
+
+-- a new object of c blocks at s, sought with the old one still held: the old 16b bytes are copied to its front,
+-- the rest is cleared, and the old object is freed, its bytes staying
+unfoldable pub moved : Heap → ℕ → ℕ → ℕ → ℕ → Heap
+moved h k b c s = record {
+  pool = sets (h .pool) (16 * s) (take (16 * b) (drop (16 * k) (h .pool)) ++ replicate (16 * (c - b)) 0);
+  entries = released (placed (h .entries) s c) k b;
+}
+
+-- more blocks are wanted: in place if the blocks directly after are FREE, else where c blocks fit
+unfoldable pub movesTo : Option ℕ → Way
+movesTo none = noWay
+movesTo (some s) = move s
+
+unfoldable pub wayToGrow : List ℕ → ℕ → ℕ → ℕ → Way
+wayToGrow es k b c = pick (leb (c - b) (freeFrom es (k + b))) grow (movesTo (firstRun es c))
+
+unfoldable pub wayTo : List ℕ → ℕ → ℕ → ℕ → Way
+wayTo es k b c = pick (eqb c b) stay (pick (ltb c b) shrink (wayToGrow es k b c))
+
+abbrev pub isNoWay : Way → Bool
+isNoWay stay = false
+isNoWay shrink = false
+isNoWay grow = false
+isNoWay (move s) = false
+isNoWay noWay = true
+
+unfoldable pub along : Way → Heap → ℕ → ℕ → ℕ → Outcome
+along stay h k b c = placing h k h
+along shrink h k b c = placing h k (shrunk h k b c)
+along grow h k b c = placing h k (grown h k b c)
+along (move s) h k b c = placing h s (moved h k b c s)
+along noWay h k b c = leaves (onlyRefusal 9) h
+
+-- Reallocate
+unfoldable pub reallocate : ℕ → Heap → ℕ → ℕ → Outcome
+reallocate base h k bytes =
+    let b : ℕ = blockCount (h .entries) k in
+    let c : ℕ = blocksFor bytes in
+    let way : Way = wayTo (h .entries) k b c in
+    unlessRefused (firstOf (badShape base h ∷ illFormed h ∷ noBytes bytes ∷ outside h k ∷ noHead h k ∷ noRoom (isNoWay way) ∷ [])) h []
+    (along way h k b c)
+
+-- Collect: roots and mark stack are bytes, four to an entry. The pool is not written, and every stack entry is then zero
+unfoldable pub collecting : Heap → List ℕ → Marked → Outcome
+collecting h stack m =
+    let after : List ℕ = sweep (m .last .entries) in
+    record {
+      answer = collectedTo (objects after) (m .rescans) (changeFrom (h .entries) after);
+      heap = record { pool = h .pool; entries = after };
+      stack = replicate (length stack) 0;
+    }
+
+unfoldable pub collect : ℕ → Heap → List ℕ → List ℕ → Outcome
+collect base h roots stack =
+    unlessRefused (firstOf (badLists base h roots stack ∷ illFormed h ∷ manyRoots roots ∷ longStack stack ∷ [])) h stack
+    (collecting h stack (markAll (record { base = base; pool = h .pool; room = length stack / 4 }) (wordsOf roots) (h .entries)))
+
+-- Survey
+unfoldable pub survey : ℕ → Heap → Outcome
+survey base h =
+    unlessRefused (firstOf (badShape base h ∷ illFormed h ∷ [])) h []
+    (leaves (surveyed (used (h .entries)) (objects (h .entries)) (longest (h .entries))) h)
+
+-- Load: word i of the object with head k
+unfoldable pub load : ℕ → Heap → ℕ → ℕ → Outcome
+load base h k i =
+    unlessRefused (firstOf (badShape base h ∷ illFormed h ∷ outside h k ∷ noHead h k ∷ noWord h k i ∷ [])) h []
+    (leaves (loaded (wordAt (h .pool) (4 * k + i))) h)
+
+-- Store: those four bytes only
+unfoldable pub store : ℕ → Heap → ℕ → ℕ → ℕ → Outcome
+store base h k i w =
+    unlessRefused (firstOf (badShape base h ∷ illFormed h ∷ outside h k ∷ noHead h k ∷ noWord h k i ∷ [])) h []
+    (leaves (onlyRefusal 0) (record { pool = withWord (h .pool) (4 * k + i) w; entries = h .entries }))

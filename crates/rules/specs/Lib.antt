@@ -1,0 +1,11 @@
+pub mod Tests
+pub mod Words
+pub mod Entries
+pub mod Tables
+pub mod Pointers
+pub mod Outcomes
+pub mod Refusals
+pub mod Marking
+pub mod Reach
+pub mod Calls
+pub mod Examples

@@ -1,0 +1,38 @@
+-- Addresses, and what a word leads to.
+-- Assumes nothing.
+use mathlib.Core.Bool.{Bool, true, false}
+use mathlib.Core.List.{List}
+use mathlib.Core.Option.{Option, some, none}
+use Prim.Native.Nat.{ℕ, _+_, _-_, _*_, _/_, _%_, _^_}
+use lib.Dec.{eqb, leb, ltb}
+use lib.ListN.{length}
+use Rattle.rules.specs.Tests.{pick, both, either}
+use Rattle.rules.specs.Entries.{HEAD, MARK}
+use Rattle.rules.specs.Tables.{entryAt}
+
+-- the address of block k
+unfoldable pub addressOf : ℕ → ℕ → ℕ
+addressOf base k = base + 16 * k
+
+-- a base for n blocks: a multiple of 16, at least 16, with the end of the last block within 32 bits
+unfoldable pub goodBase : ℕ → ℕ → Bool
+goodBase base n = both (eqb (base % 16) 0) (both (leb 16 base) (leb (addressOf base n) (2 ^ 32)))
+
+-- the block of n blocks whose address is w, if there is one: w is then a pointer, and the block its target
+unfoldable pub targetOf : ℕ → ℕ → ℕ → Option ℕ
+targetOf base n w =
+    pick (both (leb base w) (both (eqb ((w - base) % 16) 0) (ltb ((w - base) / 16) n)))
+    (some ((w - base) / 16))
+    none
+
+-- the head of an object, marked or not
+unfoldable pub headsObject : ℕ → Bool
+headsObject e = either (eqb e HEAD) (eqb e MARK)
+
+unfoldable pub headAt : List ℕ → Option ℕ → Option ℕ
+headAt es none = none
+headAt es (some k) = pick (headsObject (entryAt es k)) (some k) none
+
+-- the head of the object that the word w leads to, if it leads to one: w counts only if its target is a head
+unfoldable pub leadsTo : ℕ → List ℕ → ℕ → Option ℕ
+leadsTo base es w = headAt es (targetOf base (length es) w)

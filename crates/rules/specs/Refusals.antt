@@ -1,0 +1,72 @@
+-- The refusal numbers: the test behind each, and the tests of each call in rising order. The first that holds gives the answer.
+-- Assumes nothing.
+use mathlib.Core.Bool.{Bool, true, false, not}
+use mathlib.Core.List.{List, [], _∷_}
+use Prim.Native.Nat.{ℕ, _*_, _/_, _%_}
+use lib.Dec.{eqb, leb, ltb}
+use lib.ListN.{length}
+use Rattle.rules.specs.Tests.{pick, both, either}
+use Rattle.rules.specs.Tables.{entryAt, isHead, wellFormed, blockCount}
+use Rattle.rules.specs.Pointers.{goodBase}
+use Rattle.rules.specs.Outcomes.{Heap}
+
+-- a refusal number and whether its condition holds
+pub record Test : Type 0 where
+  pub number : ℕ
+  pub holds : Bool
+
+abbrev pub test : ℕ → Bool → Test
+test r b = record { number = r; holds = b }
+
+-- the number of the first test that holds, 0 if none does
+unfoldable pub firstOf : List Test → ℕ
+firstOf [] = 0
+firstOf (t ∷ ts) = pick (t .holds) (t .number) (firstOf ts)
+
+-- 1: a table of t bytes has t from 1 to 1,024 and rules n = 4t blocks; the pool has 64t bytes, 16 for each block; the base suits n
+unfoldable pub goodShape : ℕ → Heap → Bool
+goodShape base h =
+    both (both (leb 1 (length (h .entries))) (leb (length (h .entries)) 4096))
+    (both (eqb (length (h .pool)) (16 * length (h .entries))) (goodBase base (length (h .entries))))
+
+abbrev pub badShape : ℕ → Heap → Test
+badShape base h = test 1 (not (goodShape base h))
+
+-- 1, of a collection: the shape, or roots or a mark stack that are not whole words
+unfoldable pub wholeWords : List ℕ → Bool
+wholeWords bs = eqb (length bs % 4) 0
+
+abbrev pub badLists : ℕ → Heap → List ℕ → List ℕ → Test
+badLists base h roots stack = test 1 (not (both (goodShape base h) (both (wholeWords roots) (wholeWords stack))))
+
+-- 2: the table is not well-formed
+abbrev pub illFormed : Heap → Test
+illFormed h = test 2 (not (wellFormed (h .entries)))
+
+-- 3: more than 4,096 root words
+abbrev pub manyRoots : List ℕ → Test
+manyRoots roots = test 3 (ltb 4096 (length roots / 4))
+
+-- 4: a mark stack of more than 64 entries
+abbrev pub longStack : List ℕ → Test
+longStack stack = test 4 (ltb 64 (length stack / 4))
+
+-- 5: a request for 0 bytes
+abbrev pub noBytes : ℕ → Test
+noBytes bytes = test 5 (eqb bytes 0)
+
+-- 6: the block number is n or more
+abbrev pub outside : Heap → ℕ → Test
+outside h k = test 6 (leb (length (h .entries)) k)
+
+-- 7: the block is not a HEAD
+abbrev pub noHead : Heap → ℕ → Test
+noHead h k = test 7 (not (isHead (entryAt (h .entries) k)))
+
+-- 8: the word index is not inside the object; an object of b blocks has words 0 to 4b - 1
+abbrev pub noWord : Heap → ℕ → ℕ → Test
+noWord h k i = test 8 (leb (4 * blockCount (h .entries) k) i)
+
+-- 9: no room, as each call defines it
+abbrev pub noRoom : Bool → Test
+noRoom b = test 9 b

@@ -1,0 +1,1 @@
+// The rules of the heap are definitions: see specs/. There is no code here.
