@@ -1,0 +1,11 @@
+-- What a search or a pointer answers, as the rules have it.
+-- Assumes nothing.
+use mathlib.Core.Option.{Option, some, none}
+use Prim.Native.Nat.{ℕ}
+use Rattle.memory.specs.declared.Found.{Found}
+use Rattle.memory.specs.declared.Found.the-variants.{At, Nowhere}
+
+-- the block that was found, if one was
+abbrev pub found : Found → Option ℕ
+found (At k) = some (k .0)
+found Nowhere = none

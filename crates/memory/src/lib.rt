@@ -1,0 +1,146 @@
+// Numbers by kind, words in bytes, and parts of the pool. Only this crate knows the byte order.
+ghost use mathlib.Core.Path.{_≡_};
+ghost use mathlib.Core.Logic.{_⊎_};
+ghost use Prim.Native.Nat.{_+_, _*_, _/_, _≤_, _<_, _^_};
+ghost use lib.ListN.{length, take, drop, replicate};
+ghost use lib.Seq.{sets};
+ghost use Rattle.rules.specs.Words.{wordAt, withWord};
+ghost use Rattle.rules.specs.Pointers.{addressOf, targetOf};
+ghost use Rattle.rules.specs.Calls.{blocksFor};
+ghost use Rattle.memory.specs.Places.{found};
+
+// A block's number in the pool, from 0.
+pub struct Block(pub usize);
+
+// An address as a word holds it, or the end of the address space.
+pub struct Address(pub u64);
+
+// A count of bytes, or an offset into the pool.
+pub struct Bytes(pub usize);
+
+// What a search or a pointer comes to.
+pub enum Found {
+    At(Block),
+    Nowhere,
+}
+
+impl Block {
+    // The block `count` blocks further on.
+    pub fn plus(self, count: usize) -> Block
+        requires { ⌜ self .0 + count < 2 ^ 32 ⌝ }
+        ensures { λ r. ⌜ r .0 ≡ self .0 + count ⌝ }
+    {
+        Block(self.0 + count)
+    }
+
+    // Where the block's bytes start in the pool.
+    pub fn offset(self) -> Bytes
+        requires { ⌜ self .0 < 2 ^ 32 ⌝ }
+        ensures { λ r. ⌜ r .0 ≡ 16 * self .0 ⌝ }
+    {
+        Bytes(16 * self.0)
+    }
+
+    // The index of the block's first word among the pool's words.
+    pub fn first_word(self) -> usize
+        requires { ⌜ self .0 < 2 ^ 32 ⌝ }
+        ensures { λ r. ⌜ r ≡ 4 * self .0 ⌝ }
+    {
+        4 * self.0
+    }
+}
+
+impl Bytes {
+    // How many blocks hold so many bytes.
+    pub fn blocks(self) -> usize
+        requires { ⌜ self .0 < 2 ^ 32 ⌝ }
+        ensures { λ r. ⌜ r ≡ blocksFor (self .0) ⌝ }
+    {
+        (self.0 + 15) / 16
+    }
+}
+
+impl Address {
+    // The address of block k.
+    pub fn of_block(self, k: Block) -> Address
+        requires { ⌜ (self .0 ≤ 2 ^ 32) × (k .0 < 2 ^ 32) ⌝ }
+        ensures { λ r. ⌜ r .0 ≡ addressOf (self .0) (k .0) ⌝ }
+    {
+        Address(self.0 + 16 * (k.0 as u64))
+    }
+
+    // The block of n blocks from this base on whose address is the word w.
+    pub fn target(self, n: usize, w: u32) -> Found
+        ensures { λ r. ⌜ found r ≡ targetOf (self .0) n w ⌝ }
+    {
+        let base = self.0;
+        let at = w as u64;
+        if at < base {
+            return Found::Nowhere;
+        }
+        let d = at - base;
+        if d % 16 != 0 {
+            return Found::Nowhere;
+        }
+        let k = (d / 16) as usize;
+        if k < n {
+            Found::At(Block(k))
+        } else {
+            Found::Nowhere
+        }
+    }
+}
+
+fn wide(b: u8) -> u32
+    ensures { λ r. ⌜ r ≡ b ⌝ }
+{
+    b as u32
+}
+
+// Word i of the bytes.
+pub fn word(bytes: &[u8], i: usize) -> u32
+    requires { ⌜ 4 * i + 4 ≤ length (now bytes) ⌝ }
+    ensures { λ r. ⌜ r ≡ wordAt (now (bytes .entry)) i ⌝ }
+{
+    let at = 4 * i;
+    wide(bytes[at]) + 256 * wide(bytes[at + 1]) + 65536 * wide(bytes[at + 2]) + 16777216 * wide(bytes[at + 3])
+}
+
+// w becomes word i.
+pub fn set_word(bytes: &mut [u8], i: usize, w: u32)
+    requires { ⌜ 4 * i + 4 ≤ length (now bytes) ⌝ }
+    ensures { λ _. ⌜ now (bytes .exit) ≡ withWord (now (bytes .entry)) i w ⌝ }
+{
+    let at = 4 * i;
+    bytes[at] = (w % 256) as u8;
+    bytes[at + 1] = (w / 256 % 256) as u8;
+    bytes[at + 2] = (w / 65536 % 256) as u8;
+    bytes[at + 3] = (w / 16777216 % 256) as u8;
+}
+
+// Every byte of the part becomes zero.
+pub fn clear(part: &mut [u8])
+    ensures { λ _. ⌜ now (part .exit) ≡ replicate (length (now (part .entry))) 0 ⌝ }
+{
+    let mut i = 0;
+    while i < part.len() {
+        part[i] = 0;
+        i += 1;
+    }
+}
+
+// The count bytes from `from` on are copied to `to`. The two parts do not overlap.
+pub fn copy(pool: &mut [u8], from: Bytes, to: Bytes, count: Bytes)
+    requires { ⌜ (from .0 + count .0 ≤ length (now pool)) × (to .0 + count .0 ≤ length (now pool)) ⌝ }
+    requires { ⌜ (from .0 + count .0 ≤ to .0) ⊎ (to .0 + count .0 ≤ from .0) ⌝ }
+    ensures { λ _. ⌜ now (pool .exit) ≡ sets (now (pool .entry)) (to .0) (take (count .0) (drop (from .0) (now (pool .entry)))) ⌝ }
+{
+    let source = from.0;
+    let target = to.0;
+    let n = count.0;
+    let mut i = 0;
+    while i < n {
+        pool[target + i] = pool[source + i];
+        i += 1;
+    }
+}

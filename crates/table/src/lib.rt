@@ -1,0 +1,154 @@
+// Objects and runs of free blocks in the allocation table, entry by entry.
+ghost use mathlib.Core.Path.{_≡_};
+ghost use Prim.Native.Nat.{_+_, _≤_, _<_};
+ghost use lib.Dec.{leb};
+ghost use lib.ListN.{length};
+ghost use Rattle.rules.specs.Entries.{entriesOf};
+ghost use Rattle.rules.specs.Tables.{blockCount, freeFrom, firstRun, placed, released, extended, used as usedOf, objects as objectsOf, longest as longestOf};
+ghost use Rattle.memory.specs.Places.{found};
+use memory::Block;
+use memory::Found;
+
+// How many blocks the object with head k has.
+pub fn block_count(table: &[u8], k: Block) -> usize
+    requires { ⌜ (length (now table) ≤ 1024) × (k .0 < length (entriesOf (now table))) ⌝ }
+    ensures { λ r. ⌜ (r ≡ blockCount (entriesOf (now (table .entry))) (k .0)) × (k .0 + r ≤ length (entriesOf (now (table .entry)))) ⌝ }
+{
+    let n = entries::blocks(table);
+    let first = k.0;
+    let mut i = first + 1;
+    while i < n {
+        if entries::entry(table, Block(i)) != entries::TAIL {
+            return i - first;
+        }
+        i += 1;
+    }
+    i - first
+}
+
+// Whether the count blocks from `from` on are blocks of the table, and FREE.
+pub fn is_free(table: &[u8], from: Block, count: usize) -> bool
+    requires { ⌜ (length (now table) ≤ 1024) × (from .0 ≤ length (entriesOf (now table))) ⌝ }
+    ensures { λ r. ⌜ r ≡ leb count (freeFrom (entriesOf (now (table .entry))) (from .0)) ⌝ }
+{
+    let n = entries::blocks(table);
+    let first = from.0;
+    if n - first < count {
+        return false;
+    }
+    let mut i = 0;
+    while i < count {
+        if entries::entry(table, Block(first + i)) != entries::FREE {
+            return false;
+        }
+        i += 1;
+    }
+    true
+}
+
+// The lowest start at which count blocks fit.
+pub fn first_run(table: &[u8], count: usize) -> Found
+    requires { ⌜ (length (now table) ≤ 1024) × (0 < count) ⌝ }
+    ensures { λ r. ⌜ found r ≡ firstRun (entriesOf (now (table .entry))) count ⌝ }
+{
+    let n = entries::blocks(table);
+    if n < count {
+        return Found::Nowhere;
+    }
+    let last = n - count;
+    let mut start = 0;
+    'starts: while start <= last {
+        let mut i = 0;
+        while i < count {
+            if entries::entry(table, Block(start + i)) != entries::FREE {
+                start = start + i + 1;
+                continue 'starts;
+            }
+            i += 1;
+        }
+        return Found::At(Block(start));
+    }
+    Found::Nowhere
+}
+
+// A new object of count blocks at k: a HEAD and count - 1 TAILs.
+pub fn place(table: &mut [u8], k: Block, count: usize)
+    requires { ⌜ (length (now table) ≤ 1024) × ((0 < count) × (k .0 + count ≤ length (entriesOf (now table)))) ⌝ }
+    ensures { λ _. ⌜ entriesOf (now (table .exit)) ≡ placed (entriesOf (now (table .entry))) (k .0) count ⌝ }
+{
+    entries::set_entry(&mut *table, k, entries::HEAD);
+    entries::set_run(&mut *table, k.plus(1), count - 1, entries::TAIL);
+}
+
+// The count blocks from k on become FREE.
+pub fn release(table: &mut [u8], k: Block, count: usize)
+    requires { ⌜ k .0 + count ≤ length (entriesOf (now table)) ⌝ }
+    ensures { λ _. ⌜ entriesOf (now (table .exit)) ≡ released (entriesOf (now (table .entry))) (k .0) count ⌝ }
+{
+    entries::set_run(table, k, count, entries::FREE);
+}
+
+// The count blocks from k on become TAIL.
+pub fn extend(table: &mut [u8], k: Block, count: usize)
+    requires { ⌜ k .0 + count ≤ length (entriesOf (now table)) ⌝ }
+    ensures { λ _. ⌜ entriesOf (now (table .exit)) ≡ extended (entriesOf (now (table .entry))) (k .0) count ⌝ }
+{
+    entries::set_run(table, k, count, entries::TAIL);
+}
+
+// How many blocks are not FREE.
+pub fn used(table: &[u8]) -> usize
+    requires { ⌜ length (now table) ≤ 1024 ⌝ }
+    ensures { λ r. ⌜ r ≡ usedOf (entriesOf (now (table .entry))) ⌝ }
+{
+    let n = entries::blocks(table);
+    let mut count = 0;
+    let mut i = 0;
+    while i < n {
+        if entries::entry(table, Block(i)) != entries::FREE {
+            count += 1;
+        }
+        i += 1;
+    }
+    count
+}
+
+// How many objects there are.
+pub fn objects(table: &[u8]) -> usize
+    requires { ⌜ length (now table) ≤ 1024 ⌝ }
+    ensures { λ r. ⌜ r ≡ objectsOf (entriesOf (now (table .entry))) ⌝ }
+{
+    let n = entries::blocks(table);
+    let mut count = 0;
+    let mut i = 0;
+    while i < n {
+        if entries::entry(table, Block(i)) == entries::HEAD {
+            count += 1;
+        }
+        i += 1;
+    }
+    count
+}
+
+// The longest run of FREE blocks.
+pub fn longest(table: &[u8]) -> usize
+    requires { ⌜ length (now table) ≤ 1024 ⌝ }
+    ensures { λ r. ⌜ r ≡ longestOf (entriesOf (now (table .entry))) ⌝ }
+{
+    let n = entries::blocks(table);
+    let mut best = 0;
+    let mut run = 0;
+    let mut i = 0;
+    while i < n {
+        if entries::entry(table, Block(i)) == entries::FREE {
+            run += 1;
+        } else {
+            run = 0;
+        }
+        if best < run {
+            best = run;
+        }
+        i += 1;
+    }
+    best
+}
