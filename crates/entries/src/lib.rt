@@ -8,8 +8,11 @@ ghost use Rattle.rules.specs.Tables.{entryAt, wellFormed};
 use memory::Block;
 
 pub const FREE: u8 = 0;
+
 pub const HEAD: u8 = 1;
+
 pub const TAIL: u8 = 2;
+
 pub const MARK: u8 = 3;
 
 // How many blocks the table rules.

@@ -103,7 +103,10 @@ pub fn word(bytes: &[u8], i: usize) -> u32
     ensures { λ r. ⌜ r ≡ wordAt (now (bytes .entry)) i ⌝ }
 {
     let at = 4 * i;
-    wide(bytes[at]) + 256 * wide(bytes[at + 1]) + 65536 * wide(bytes[at + 2]) + 16777216 * wide(bytes[at + 3])
+    wide(bytes[at])
+        + 256 * wide(bytes[at + 1])
+        + 65536 * wide(bytes[at + 2])
+        + 16777216 * wide(bytes[at + 3])
 }
 
 // w becomes word i.
