@@ -1,0 +1,128 @@
+-- Laws of the refusals: the first test that holds, what the shape test says, and what a refusal leaves.
+-- Assumes nothing.
+use mathlib.Core.Path.{_≡_, refl, sym, ap, _∙_}
+use mathlib.Core.Bool.{Bool, true, false, not}
+use mathlib.Core.List.{List, [], _∷_, _++_}
+use Prim.Native.Nat.{ℕ, zero, suc, _+_, _*_, _%_, _^_, _≤_, _<_}
+use native.Mathlib.Omega.{arith}
+use lib.Dec.{eqb, leb, ltb}
+use lib.ListN.{length}
+use borrow.Author.Tests.{eqb-true, leb-true, ltb-true, eq-eqb, le-leb}
+use Rattle.rules.specs.Tests.{pick, both}
+use Rattle.rules.specs.Pointers.{addressOf, goodBase}
+use Rattle.rules.specs.Outcomes.{Heap, Outcome, onlyRefusal, unlessRefused}
+use Rattle.rules.specs.Refusals.{Test, firstOf, goodShape}
+
+-- ---- booleans
+
+pub true-not-false : {b : Bool} → b ≡ true → b ≡ false → ⊥
+true-not-false p q = let z : _≡_ {A = ℕ} 0 1 = cc in omega arith
+
+pub both-left : (a b : Bool) → both a b ≡ true → a ≡ true
+both-left true b t = refl
+both-left false b t = t
+
+pub both-right : (a b : Bool) → both a b ≡ true → b ≡ true
+both-right true b t = t
+both-right false b t = absurd (true-not-false t refl)
+
+pub not-true : (b : Bool) → not b ≡ true → b ≡ false
+not-true false e = refl
+not-true true e = absurd (true-not-false e refl)
+
+pub not-false : (b : Bool) → not b ≡ false → b ≡ true
+not-false true e = refl
+not-false false e = absurd (true-not-false refl e)
+
+-- a test is false if its being true is absurd
+pub not-so : (b : Bool) → (b ≡ true → ⊥) → b ≡ false
+not-so true f = absurd (f refl)
+not-so false f = refl
+
+-- ---- the first test that holds
+
+pub first-yes : (t : Test) (ts : List Test) → t .holds ≡ true → firstOf (t ∷ ts) ≡ t .number
+unfolding firstOf
+first-yes t ts h = rw h
+
+pub first-no : (t : Test) (ts : List Test) → t .holds ≡ false → firstOf (t ∷ ts) ≡ firstOf ts
+unfolding firstOf
+first-no t ts h = rw h
+
+-- none of the numbers is 0
+abbrev pub numbered : List Test → Bool
+numbered [] = true
+numbered (t ∷ ts) = both (ltb 0 (t .number)) (numbered ts)
+
+-- no refusal: the first test does not hold, nor does any other
+pub first-none : (t : Test) (ts : List Test) → 0 < t .number → firstOf (t ∷ ts) ≡ 0 → (t .holds ≡ false) × (firstOf ts ≡ 0)
+unfolding firstOf
+first-none t ts p e = go (t .holds) refl e
+  where
+    go : (b : Bool) → t .holds ≡ b → pick b (t .number) (firstOf ts) ≡ 0 → (t .holds ≡ false) × (firstOf ts ≡ 0)
+    go true q e = absurd (omega arith)
+    go false q e = (q, e)
+
+-- further tests after those of which none holds
+pub first-more : (ts us : List Test) → numbered ts ≡ true → firstOf ts ≡ 0 → firstOf (ts ++ us) ≡ firstOf us
+first-more [] us n e = refl
+first-more (t ∷ ts) us n e =
+    let r = first-none t ts (ltb-true 0 (t .number) (both-left (ltb 0 (t .number)) (numbered ts) n)) e in
+    first-no t (ts ++ us) (r .0) ∙ first-more ts us (both-right (ltb 0 (t .number)) (numbered ts) n) (r .1)
+
+-- further tests after one that holds
+pub first-less : (ts us : List Test) (r : ℕ) → 0 < r → firstOf ts ≡ r → firstOf (ts ++ us) ≡ r
+unfolding firstOf
+first-less [] us r p e = absurd (omega arith)
+first-less (t ∷ ts) us r p e = go (t .holds) e (first-less ts us r p)
+  where
+    go : (b : Bool) → pick b (t .number) (firstOf ts) ≡ r → (firstOf ts ≡ r → firstOf (ts ++ us) ≡ r) → pick b (t .number) (firstOf (ts ++ us)) ≡ r
+    go true e rest = e
+    go false e rest = rest e
+
+-- ---- what a call leaves
+
+pub refuses : (r : ℕ) (h : Heap) (stack : List ℕ) (acted : Outcome) {n : ℕ} → n ≡ r → 0 < r
+    → unlessRefused n h stack acted ≡ record { answer = onlyRefusal r; heap = h; stack = stack }
+unfolding unlessRefused
+refuses zero h stack acted e p = absurd (omega arith)
+refuses (suc r) h stack acted e p = rw e
+
+pub accepts : (h : Heap) (stack : List ℕ) (acted : Outcome) {n : ℕ} → n ≡ 0 → unlessRefused n h stack acted ≡ acted
+unfolding unlessRefused
+accepts h stack acted e = rw e
+
+-- ---- the shape of a heap: the base, the number of blocks and the pool suit each other
+
+pub record Shape (base : ℕ) (h : Heap) : Type 0 where
+  pub some : 1 ≤ length (h .entries)
+  pub few : length (h .entries) ≤ 4096
+  pub pool : length (h .pool) ≡ 16 * length (h .entries)
+  pub aligned : base % 16 ≡ 0
+  pub above : 16 ≤ base
+  pub below : base + 16 * length (h .entries) ≤ 2 ^ 32
+
+pub shape-true : (base : ℕ) (h : Heap) → goodShape base h ≡ true → Shape base h
+unfolding goodShape goodBase addressOf
+shape-true base h t =
+    let n = length (h .entries) in
+    let t1 = both-left (both (leb 1 n) (leb n 4096)) _ t in
+    let t2 = both-right (both (leb 1 n) (leb n 4096)) _ t in
+    let t3 = both-right (eqb (length (h .pool)) (16 * n)) _ t2 in
+    let t4 = both-right (eqb (base % 16) 0) _ t3 in
+    record {
+      some = leb-true 1 n (both-left (leb 1 n) _ t1);
+      few = leb-true n 4096 (both-right (leb 1 n) _ t1);
+      pool = eqb-true _ _ (both-left (eqb (length (h .pool)) (16 * n)) _ t2);
+      aligned = eqb-true _ _ (both-left (eqb (base % 16) 0) _ t3);
+      above = leb-true 16 base (both-left (leb 16 base) _ t4);
+      below = leb-true _ _ (both-right (leb 16 base) _ t4)
+    }
+
+pub shape-of : (base : ℕ) (h : Heap) → Shape base h → goodShape base h ≡ true
+unfolding goodShape goodBase addressOf
+shape-of base h s =
+    rw (le-leb _ _ (s .some), le-leb _ _ (s .few), eq-eqb _ _ (s .pool), eq-eqb _ _ (s .aligned), le-leb _ _ (s .above), le-leb _ _ (s .below))
+
+pub shape-not : (base : ℕ) (h : Heap) → (Shape base h → ⊥) → goodShape base h ≡ false
+shape-not base h f = not-so (goodShape base h) (λ t. f (shape-true base h t))
