@@ -7,11 +7,14 @@ use Prim.Native.Nat.{ℕ, zero, suc, _+_, _*_, _%_, _^_, _≤_, _<_}
 use native.Mathlib.Omega.{arith}
 use lib.Dec.{eqb, leb, ltb}
 use lib.ListN.{length}
-use borrow.Author.Tests.{eqb-true, leb-true, ltb-true, eq-eqb, le-leb}
+use borrow.Author.Tests.{eqb-true, leb-true, leb-false, ltb-true, eq-eqb, le-leb}
 use Rattle.rules.specs.Tests.{pick, both}
 use Rattle.rules.specs.Pointers.{addressOf, goodBase}
-use Rattle.rules.specs.Outcomes.{Heap, Outcome, onlyRefusal, unlessRefused}
-use Rattle.rules.specs.Refusals.{Test, firstOf, goodShape}
+use Rattle.rules.specs.Entries.{HEAD}
+use Rattle.rules.specs.Tables.{entryAt, wellFormed}
+use Rattle.rules.specs.Outcomes.{Heap, Outcome, heapOf, onlyRefusal, unlessRefused}
+use Rattle.rules.specs.Refusals.{Test, firstOf, goodShape, badShape, illFormed, outside, noHead}
+use Rattle.rules.proofs.Entries.{length-entries}
 
 -- ---- booleans
 
@@ -49,6 +52,11 @@ pub first-no : (t : Test) (ts : List Test) → t .holds ≡ false → firstOf (t
 unfolding firstOf
 first-no t ts h = rw h
 
+-- the last test does not hold either
+pub first-last : (t : Test) → t .holds ≡ false → firstOf (t ∷ []) ≡ 0
+unfolding firstOf
+first-last t h = rw h
+
 -- none of the numbers is 0
 abbrev pub numbered : List Test → Bool
 numbered [] = true
@@ -79,6 +87,13 @@ first-less (t ∷ ts) us r p e = go (t .holds) e (first-less ts us r p)
     go : (b : Bool) → pick b (t .number) (firstOf ts) ≡ r → (firstOf ts ≡ r → firstOf (ts ++ us) ≡ r) → pick b (t .number) (firstOf (ts ++ us)) ≡ r
     go true e rest = e
     go false e rest = rest e
+
+-- the same, as a function that tests in two steps answers: the first step's number if it refuses, else the second's
+pub refused-first : (ts us : List Test) {r : ℕ} → r ≡ firstOf ts → (r ≡ 0 → ⊥) → r ≡ firstOf (ts ++ us)
+refused-first ts us {r} e ne = sym (first-less ts us r (omega arith) (sym e))
+
+pub refused-next : (ts us : List Test) {r n : ℕ} → numbered ts ≡ true → r ≡ firstOf ts → r ≡ 0 → n ≡ firstOf us → n ≡ firstOf (ts ++ us)
+refused-next ts us {r} {n} k e z h = h ∙ sym (first-more ts us k (sym e ∙ z))
 
 -- ---- what a call leaves
 
@@ -126,3 +141,33 @@ shape-of base h s =
 
 pub shape-not : (base : ℕ) (h : Heap) → (Shape base h → ⊥) → goodShape base h ≡ false
 shape-not base h f = not-so (goodShape base h) (λ t. f (shape-true base h t))
+
+-- a table of a heap of good shape has at most 1,024 bytes
+pub few-bytes : (base : ℕ) (pool table : List ℕ) → Shape base (heapOf pool table) → length table ≤ 1024
+few-bytes base pool table s = omega (arith, s .few, length-entries table)
+
+-- what every call but init knows of its heap once it is not refused
+pub record Passed (base : ℕ) (h : Heap) : Type 0 where
+  pub shape : Shape base h
+  pub well : wellFormed (h .entries) ≡ true
+
+pub passed : (base : ℕ) (h : Heap) (ts : List Test) → firstOf (badShape base h ∷ illFormed h ∷ ts) ≡ 0 → Passed base h
+passed base h ts e =
+    let a = first-none (badShape base h) (illFormed h ∷ ts) (omega arith) e in
+    let b = first-none (illFormed h) ts (omega arith) (a .1) in
+    record { shape = shape-true base h (not-false _ (a .0)); well = not-false _ (b .0) }
+
+-- what a call that names an object knows of it: block k is a HEAD of the table
+pub record Named (h : Heap) (k : ℕ) : Type 0 where
+  pub inside : k < length (h .entries)
+  pub head : entryAt (h .entries) k ≡ HEAD
+
+pub named : (h : Heap) (k : ℕ) (ts : List Test) → firstOf (outside h k ∷ noHead h k ∷ ts) ≡ 0 → Named h k
+named h k ts e =
+    let a = first-none (outside h k) (noHead h k ∷ ts) (omega arith) e in
+    let b = first-none (noHead h k) ts (omega arith) (a .1) in
+    record { inside = leb-false _ _ (a .0); head = eqb-true _ _ (not-false _ (b .0)) }
+
+-- the tests behind the first
+pub first-rest : (t : Test) (ts : List Test) → 0 < t .number → firstOf (t ∷ ts) ≡ 0 → firstOf ts ≡ 0
+first-rest t ts p e = first-none t ts p e .1
