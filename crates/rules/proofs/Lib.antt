@@ -1,3 +1,4 @@
 pub mod Lists
-pub mod Refusals
+pub mod Below
 pub mod Entries
+pub mod Refusals

@@ -14,7 +14,7 @@ use Rattle.rules.specs.Entries.{HEAD}
 use Rattle.rules.specs.Tables.{entryAt, wellFormed}
 use Rattle.rules.specs.Outcomes.{Heap, Outcome, heapOf, onlyRefusal, unlessRefused}
 use Rattle.rules.specs.Refusals.{Test, firstOf, goodShape, badShape, illFormed, outside, noHead}
-use Rattle.rules.proofs.Entries.{length-entries}
+use Rattle.rules.proofs.Entries.{length-entriesOf}
 
 -- ---- booleans
 
@@ -144,7 +144,7 @@ shape-not base h f = not-so (goodShape base h) (λ t. f (shape-true base h t))
 
 -- a table of a heap of good shape has at most 1,024 bytes
 pub few-bytes : (base : ℕ) (pool table : List ℕ) → Shape base (heapOf pool table) → length table ≤ 1024
-few-bytes base pool table s = omega (arith, s .few, length-entries table)
+few-bytes base pool table s = omega (arith, s .few, length-entriesOf table)
 
 -- what every call but init knows of its heap once it is not refused
 pub record Passed (base : ℕ) (h : Heap) : Type 0 where

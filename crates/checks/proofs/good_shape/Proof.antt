@@ -11,7 +11,7 @@ use lib.Dec.{leb}
 use lib.ListN.{length}
 use Rattle.rules.specs.Outcomes.{heapOf}
 use Rattle.rules.specs.Refusals.{goodShape}
-use Rattle.rules.proofs.Entries.{length-entries}
+use Rattle.rules.proofs.Entries.{length-entriesOf}
 use Rattle.rules.proofs.Refusals.{Shape, shape-of, shape-not}
 use Rattle.checks.proofs.good_shape.Statement.{statement}
 use Rattle.checks.proofs.good_shape.Tie as tie
@@ -22,7 +22,7 @@ last : (base : ℕ) (pool table : List ℕ) → 1 ≤ length table → length ta
 last base pool table some few long aligned above = by-cases (leb base (4294967296 - 64 * length table)) refl
   where
     e : length (heapOf pool table .entries) ≡ 4 * length table
-    e = length-entries table
+    e = length-entriesOf table
     by-cases : (b : Bool) → leb base (4294967296 - 64 * length table) ≡ b → b ≡ goodShape base (heapOf pool table)
     by-cases true t =
         let l = leb-true base (4294967296 - 64 * length table) t in
@@ -34,22 +34,22 @@ last base pool table some few long aligned above = by-cases (leb base (429496729
         sym (shape-not base (heapOf pool table) (λ s. omega (arith, e, l, s .below)))
 
 returns : tie.Need-returns
-returns c = sym (shape-not _ _ (λ s. omega (arith, s .some, length-entries (c .before .args .table .now))))
+returns c = sym (shape-not _ _ (λ s. omega (arith, s .some, length-entriesOf (c .before .args .table .now))))
 
 returns-2 : tie.Need-returns-2
-returns-2 c = sym (shape-not _ _ (λ s. omega (arith, s .few, length-entries (c .before .before .args .table .now))))
+returns-2 c = sym (shape-not _ _ (λ s. omega (arith, s .few, length-entriesOf (c .before .before .args .table .now))))
 
 mul-if3 : tie.Need-mul-if3
 mul-if3 c = search needs
 
 returns-3 : tie.Need-returns-3
-returns-3 c = sym (shape-not _ _ (λ s. omega (arith, s .pool, length-entries (c .before .before .before .args .table .now))))
+returns-3 c = sym (shape-not _ _ (λ s. omega (arith, s .pool, length-entriesOf (c .before .before .before .args .table .now))))
 
 returns-4 : tie.Need-returns-4
-returns-4 c = sym (shape-not _ _ (λ s. omega (arith, s .aligned, length-entries (c .before .before .before .before .args .table .now))))
+returns-4 c = sym (shape-not _ _ (λ s. omega (arith, s .aligned, length-entriesOf (c .before .before .before .before .args .table .now))))
 
 returns-5 : tie.Need-returns-5
-returns-5 c = sym (shape-not _ _ (λ s. omega (arith, s .above, length-entries (c .before .before .before .before .before .args .table .now))))
+returns-5 c = sym (shape-not _ _ (λ s. omega (arith, s .above, length-entriesOf (c .before .before .before .before .before .args .table .now))))
 
 mul-result : tie.Need-mul-result
 mul-result c = search needs

@@ -1,0 +1,17 @@
+-- `Bytes::blocks` is the rule's own quotient.
+-- Assumes nothing.
+use mathlib.Core.Path.{refl}
+use borrow.Author.Needs.{needs}
+use Rattle.rules.specs.Calls.{blocksFor}
+use Rattle.memory.proofs.Bytes.blocks.Statement.{statement}
+use Rattle.memory.proofs.Bytes.blocks.Tie as tie
+
+add-result : tie.Need-add-result
+add-result c = search needs
+
+returns : tie.Need-returns
+unfolding blocksFor
+returns c = refl
+
+pub blocks-spec : {M : Type 1} → statement M
+blocks-spec = tie.close (tie.spec add-result returns)

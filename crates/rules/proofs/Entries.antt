@@ -1,0 +1,170 @@
+-- Laws of entries and table bytes: what each entry is, that a table and its entries say the same, and what changes with one byte or one entry.
+-- Assumes nothing.
+use mathlib.Core.Path.{_≡_, refl, sym, ap, _∙_}
+use mathlib.Core.Logic.{_≢_}
+use mathlib.Core.List.{List, [], _∷_}
+use Prim.Native.Nat.{ℕ, zero, suc, _+_, _*_, _/_, _%_, _^_, _<_}
+use native.Mathlib.Decide.{ℕ-discrete}
+use native.Mathlib.Omega.{arith}
+use lib.Dec.{eqb, eqb→eq}
+use lib.ListN.{length, getD, set, replicate, length-set}
+use lib.Seq.{sets, ext-getD, getD-set-same, getD-set-other}
+use Rattle.rules.specs.Entries.{entryOf, entriesOf, tableOf}
+use Rattle.rules.proofs.Below.{below}
+
+-- what holds at 0, 1, 2 and 3 holds below 4
+pub four : (P : ℕ → Type 0) → P 0 → P 1 → P 2 → P 3 → (j : ℕ) → j < 4 → P j
+four P a b c d zero h = a
+four P a b c d (suc zero) h = b
+four P a b c d (suc (suc zero)) h = c
+four P a b c d (suc (suc (suc zero))) h = d
+four P a b c d (suc (suc (suc (suc j)))) h = absurd (omega arith)
+
+-- ---- one byte
+
+pub entryOf-lt : (b j : ℕ) → entryOf b j < 4
+unfolding entryOf
+entryOf-lt b j = omega arith
+
+pub entryOf-zero : (j : ℕ) → j < 4 → entryOf 0 j ≡ 0
+unfolding entryOf
+entryOf-zero j h = four (λ (j : ℕ). 0 / 4 ^ j % 4 ≡ 0) refl refl refl refl j h
+
+-- a byte is its four entries
+pub byte-entries : (b : ℕ) → b < 256 → entryOf b 0 + 4 * entryOf b 1 + 16 * entryOf b 2 + 64 * entryOf b 3 ≡ b
+unfolding entryOf
+byte-entries b h =
+    eqb→eq (entryOf b 0 + 4 * entryOf b 1 + 16 * entryOf b 2 + 64 * entryOf b 3) b
+    (below 256 (λ (b : ℕ). eqb (entryOf b 0 + 4 * entryOf b 1 + 16 * entryOf b 2 + 64 * entryOf b 3) b) tt b h)
+
+-- the byte b with e as its entry j
+unfoldable pub byteWith : ℕ → ℕ → ℕ → ℕ
+byteWith b j e = b / 4 ^ (j + 1) * 4 ^ (j + 1) + e * 4 ^ j + b % 4 ^ j
+
+pub byteWith-same : (b j e : ℕ) → j < 4 → e < 4 → entryOf (byteWith b j e) j ≡ e
+unfolding entryOf byteWith
+byteWith-same b j e hj he =
+    four (λ (j : ℕ). (b / 4 ^ (j + 1) * 4 ^ (j + 1) + e * 4 ^ j + b % 4 ^ j) / 4 ^ j % 4 ≡ e) (omega arith) (omega arith) (omega arith) (omega arith) j hj
+
+pub byteWith-other : (b j i e : ℕ) → j < 4 → i < 4 → e < 4 → i ≢ j → entryOf (byteWith b j e) i ≡ entryOf b i
+unfolding entryOf byteWith
+byteWith-other b j i e hj hi he =
+    four (λ (j : ℕ). i ≢ j → (b / 4 ^ (j + 1) * 4 ^ (j + 1) + e * 4 ^ j + b % 4 ^ j) / 4 ^ i % 4 ≡ b / 4 ^ i % 4)
+    (four (λ (i : ℕ). i ≢ 0 → (b / 4 * 4 + e * 1 + b % 1) / 4 ^ i % 4 ≡ b / 4 ^ i % 4) (omega arith) (omega arith) (omega arith) (omega arith) i hi)
+    (four (λ (i : ℕ). i ≢ 1 → (b / 16 * 16 + e * 4 + b % 4) / 4 ^ i % 4 ≡ b / 4 ^ i % 4) (omega arith) (omega arith) (omega arith) (omega arith) i hi)
+    (four (λ (i : ℕ). i ≢ 2 → (b / 64 * 64 + e * 16 + b % 16) / 4 ^ i % 4 ≡ b / 4 ^ i % 4) (omega arith) (omega arith) (omega arith) (omega arith) i hi)
+    (four (λ (i : ℕ). i ≢ 3 → (b / 256 * 256 + e * 64 + b % 64) / 4 ^ i % 4 ≡ b / 4 ^ i % 4) (omega arith) (omega arith) (omega arith) (omega arith) i hi)
+    j hj
+
+pub byteWith-small : (b j e : ℕ) → j < 4 → e < 4 → b < 256 → byteWith b j e < 256
+unfolding byteWith
+byteWith-small b j e hj he hb =
+    four (λ (j : ℕ). b / 4 ^ (j + 1) * 4 ^ (j + 1) + e * 4 ^ j + b % 4 ^ j < 256) (omega arith) (omega arith) (omega arith) (omega arith) j hj
+
+-- ---- the entries of a table
+
+pub length-entriesOf : (t : List ℕ) → length (entriesOf t) ≡ 4 * length t
+unfolding entriesOf
+length-entriesOf [] = refl
+length-entriesOf (b ∷ t) = omega (arith, length-entriesOf t)
+
+-- block k is in byte k / 4, entry k mod 4
+pub getD-entriesOf : (t : List ℕ) (k : ℕ) → getD (entriesOf t) k 0 ≡ entryOf (getD t (k / 4) 0) (k % 4)
+unfolding entriesOf
+getD-entriesOf [] k = sym (entryOf-zero (k % 4) (omega arith))
+getD-entriesOf (b ∷ t) zero = refl
+getD-entriesOf (b ∷ t) (suc zero) = refl
+getD-entriesOf (b ∷ t) (suc (suc zero)) = refl
+getD-entriesOf (b ∷ t) (suc (suc (suc zero))) = refl
+getD-entriesOf (b ∷ t) (suc (suc (suc (suc k)))) =
+    let d : suc (suc (suc (suc k))) / 4 ≡ suc (k / 4) = omega arith in
+    let m : suc (suc (suc (suc k))) % 4 ≡ k % 4 = omega arith in
+    rw (d, m) (getD-entriesOf t k)
+
+pub entriesOf-lt : (t : List ℕ) (k : ℕ) → getD (entriesOf t) k 0 < 4
+entriesOf-lt t k = rw getD-entriesOf (entryOf-lt (getD t (k / 4) 0) (k % 4))
+
+pub entriesOf-replicate : (n : ℕ) → entriesOf (replicate n 0) ≡ replicate (4 * n) 0
+unfolding entriesOf entryOf
+entriesOf-replicate zero = refl
+entriesOf-replicate (suc n) =
+    let e : 4 * suc n ≡ suc (suc (suc (suc (4 * n)))) = omega arith in
+    rw (e, entriesOf-replicate n)
+
+-- ---- there and back
+
+pub length-tableOf : (es : List ℕ) → length (tableOf es) ≡ length es / 4
+unfolding tableOf
+length-tableOf [] = refl
+length-tableOf (a ∷ []) = refl
+length-tableOf (a ∷ b ∷ []) = refl
+length-tableOf (a ∷ b ∷ c ∷ []) = refl
+length-tableOf (a ∷ b ∷ c ∷ d ∷ es) = omega (arith, length-tableOf es)
+
+pub tableOf-entriesOf : (t : List ℕ) → ((i : ℕ) → getD t i 0 < 256) → tableOf (entriesOf t) ≡ t
+unfolding entriesOf tableOf
+tableOf-entriesOf [] small = refl
+tableOf-entriesOf (b ∷ t) small = rw (byte-entries b (small 0), tableOf-entriesOf t (λ i. small (suc i)))
+
+-- the entries of the byte of four entries
+pub entries-byte : (a b c d : ℕ) → a < 4 → b < 4 → c < 4 → d < 4 → (j : ℕ) → j < 4
+    → entryOf (a + 4 * b + 16 * c + 64 * d) j ≡ getD (a ∷ b ∷ c ∷ d ∷ []) j 0
+unfolding entryOf
+entries-byte a b c d ha hb hc hd j hj =
+    four (λ (j : ℕ). (a + 4 * b + 16 * c + 64 * d) / 4 ^ j % 4 ≡ getD (a ∷ b ∷ c ∷ d ∷ []) j 0) (omega arith) (omega arith) (omega arith) (omega arith) j hj
+
+pub entriesOf-tableOf : (es : List ℕ) → length es % 4 ≡ 0 → ((k : ℕ) → getD es k 0 < 4) → entriesOf (tableOf es) ≡ es
+unfolding entriesOf tableOf
+entriesOf-tableOf [] m small = refl
+entriesOf-tableOf (a ∷ []) m small = absurd (omega arith)
+entriesOf-tableOf (a ∷ b ∷ []) m small = absurd (omega arith)
+entriesOf-tableOf (a ∷ b ∷ c ∷ []) m small = absurd (omega arith)
+entriesOf-tableOf (a ∷ b ∷ c ∷ d ∷ es) m small =
+    let at = entries-byte a b c d (small 0) (small 1) (small 2) (small 3) in
+    rw (at 0 (omega arith), at 1 (omega arith), at 2 (omega arith), at 3 (omega arith), entriesOf-tableOf es (omega arith) (λ k. small (suc (suc (suc (suc k))))))
+
+-- the table of entries holds bytes
+pub tableOf-small : (es : List ℕ) → ((k : ℕ) → getD es k 0 < 4) → (i : ℕ) → getD (tableOf es) i 0 < 256
+unfolding tableOf
+tableOf-small [] small i = omega arith
+tableOf-small (a ∷ []) small i = omega arith
+tableOf-small (a ∷ b ∷ []) small i = omega arith
+tableOf-small (a ∷ b ∷ c ∷ []) small i = omega arith
+tableOf-small (a ∷ b ∷ c ∷ d ∷ es) small zero = omega (arith, small 0, small 1, small 2, small 3)
+tableOf-small (a ∷ b ∷ c ∷ d ∷ es) small (suc i) = tableOf-small es (λ k. small (suc (suc (suc (suc k))))) i
+
+-- two tables with the same entries are the same
+pub entriesOf-injective : (t u : List ℕ) → ((i : ℕ) → getD t i 0 < 256) → ((i : ℕ) → getD u i 0 < 256) → entriesOf t ≡ entriesOf u → t ≡ u
+entriesOf-injective t u st su e = sym (tableOf-entriesOf t st) ∙ ap tableOf e ∙ tableOf-entriesOf u su
+
+-- ---- one byte or one entry changed
+
+pub entriesOf-set : (t : List ℕ) (i b : ℕ) → entriesOf (set t i b) ≡ sets (entriesOf t) (4 * i) (entryOf b 0 ∷ entryOf b 1 ∷ entryOf b 2 ∷ entryOf b 3 ∷ [])
+unfolding entriesOf
+entriesOf-set [] i b = refl
+entriesOf-set (x ∷ t) zero b = refl
+entriesOf-set (x ∷ t) (suc i) b =
+    let e : 4 * suc i ≡ suc (suc (suc (suc (4 * i)))) = omega arith in
+    rw (e, entriesOf-set t i b)
+
+with-at : (t : List ℕ) (k e i : ℕ) → k < 4 * length t → e < 4 → Dec (i / 4 ≡ k / 4) → Dec (i ≡ k)
+    → entryOf (getD (set t (k / 4) (byteWith (getD t (k / 4) 0) (k % 4) e)) (i / 4) 0) (i % 4) ≡ getD (set (entriesOf t) k e) i 0
+with-at t k e i hk he (yes same) (yes here) =
+    let h : k / 4 < length t = omega arith in
+    let g : k < length (entriesOf t) = rw length-entriesOf hk in
+    rw (here, getD-set-same t (k / 4) (byteWith (getD t (k / 4) 0) (k % 4) e) 0 h, getD-set-same (entriesOf t) k e 0 g)
+    (byteWith-same (getD t (k / 4) 0) (k % 4) e (omega arith) he)
+with-at t k e i hk he (yes same) (no other) =
+    let h : k / 4 < length t = omega arith in
+    rw (getD-set-other (entriesOf t) k i e 0 other, getD-entriesOf t i, same, getD-set-same t (k / 4) (byteWith (getD t (k / 4) 0) (k % 4) e) 0 h)
+    (byteWith-other (getD t (k / 4) 0) (k % 4) (i % 4) e (omega arith) (omega arith) he (omega arith))
+with-at t k e i hk he (no far) (yes here) = absurd (far (ap (λ (n : ℕ). n / 4) here))
+with-at t k e i hk he (no far) (no other) =
+    rw (getD-set-other (entriesOf t) k i e 0 other, getD-entriesOf t i, getD-set-other t (k / 4) (i / 4) (byteWith (getD t (k / 4) 0) (k % 4) e) 0 far)
+
+-- e becomes the entry of block k
+pub entriesOf-with : (t : List ℕ) (k e : ℕ) → k < 4 * length t → e < 4 → entriesOf (set t (k / 4) (byteWith (getD t (k / 4) 0) (k % 4) e)) ≡ set (entriesOf t) k e
+entriesOf-with t k e hk he =
+    ext-getD 0 (entriesOf (set t (k / 4) (byteWith (getD t (k / 4) 0) (k % 4) e))) (set (entriesOf t) k e)
+    (simp (length-entriesOf, length-set))
+    (λ i l. getD-entriesOf (set t (k / 4) (byteWith (getD t (k / 4) 0) (k % 4) e)) i ∙ with-at t k e i hk he (ℕ-discrete (i / 4) (k / 4)) (ℕ-discrete i k))
