@@ -29,6 +29,10 @@ pub both-right : (a b : Bool) → both a b ≡ true → b ≡ true
 both-right true b t = t
 both-right false b t = absurd (true-not-false t refl)
 
+pub both-false : (a : Bool) → both a false ≡ false
+both-false true = refl
+both-false false = refl
+
 pub not-true : (b : Bool) → not b ≡ true → b ≡ false
 not-true false e = refl
 not-true true e = absurd (true-not-false e refl)

@@ -1,0 +1,178 @@
+// The calls on a heap: init, allocate, free, reallocate, survey, load and store. Each checks its arguments first and then acts:
+// a refused call has written nothing.
+ghost use mathlib.Core.Path.{_≡_};
+ghost use mathlib.Core.Logic.{_⊎_};
+ghost use Prim.Native.Nat.{_+_, _*_, _≤_, _<_};
+ghost use lib.ListN.{length};
+ghost use Rattle.rules.specs.Entries.{entriesOf};
+ghost use Rattle.rules.specs.Tables.{firstRun};
+ghost use Rattle.rules.specs.Outcomes.{heapOf, clearedBlocks};
+ghost use Rattle.rules.specs.Calls.{init as initOf, allocate as allocateOf, free as freeOf, reallocate as reallocateOf, survey as surveyOf, load as loadOf, store as storeOf, taken, grown, moved};
+ghost use Rattle.heap.specs.Answers.{status, placed, freed, surveyed, loaded};
+use memory::Address;
+use memory::Block;
+use memory::Bytes;
+use memory::Found;
+
+// Where an object is, and the change in used blocks.
+pub struct Placed {
+    pub refusal: u32,
+    pub block: Block,
+    pub change: i32,
+}
+
+// The change in used blocks.
+pub struct Freed {
+    pub refusal: u32,
+    pub change: i32,
+}
+
+// What the table holds.
+pub struct Surveyed {
+    pub refusal: u32,
+    pub used: u32,
+    pub objects: u32,
+    pub longest: u32,
+}
+
+// A word of an object.
+pub struct Loaded {
+    pub refusal: u32,
+    pub value: u32,
+}
+
+// Every block becomes FREE. The pool is not touched.
+pub fn init(base: Address, pool: &[u8], table: &mut [u8]) -> u32
+    ensures { λ r. ⌜ status r (now (pool .entry)) (now (table .exit)) ≡ initOf (base .0) (heapOf (now (pool .entry)) (now (table .entry))) ⌝ }
+{
+    if !checks::good_shape(base, pool, &*table) {
+        return 1;
+    }
+    entries::clear(table);
+    0
+}
+
+// An object of so many bytes, all zero, at the lowest start where its blocks fit.
+pub fn allocate(base: Address, pool: &mut [u8], table: &mut [u8], bytes: Bytes) -> Placed
+    ensures { λ r. ⌜ placed r (now (pool .exit)) (now (table .exit)) ≡ allocateOf (base .0) (heapOf (now (pool .entry)) (now (table .entry))) (bytes .0) ⌝ }
+{
+    let r = checks::request(base, &*pool, &*table, bytes);
+    if r != 0 {
+        return unplaced(r);
+    }
+    if pool.len() < bytes.0 {
+        return unplaced(9);
+    }
+    let count = bytes.blocks();
+    match table::first_run(&*table, count) {
+        Found::At(k) => {
+            take(&mut *pool, &mut *table, k, count);
+            Placed {
+                refusal: 0,
+                block: k,
+                change: count as i32,
+            }
+        }
+        Found::Nowhere => unplaced(9),
+    }
+}
+
+// A refusal: every other part of the answer is zero.
+fn unplaced(refusal: u32) -> Placed
+    ensures { λ r. ⌜ r ≡ record { refusal = refusal; block = record { 0 = 0 }; change = lib.IntN.pos 0 } ⌝ }
+{
+    Placed {
+        refusal,
+        block: Block(0),
+        change: 0,
+    }
+}
+
+// A new object of count blocks at k, all its bytes zero.
+fn take(pool: &mut [u8], table: &mut [u8], k: Block, count: usize)
+    requires { ⌜ (length (now table) ≤ 1024) × (0 < count) ⌝ }
+    requires { ⌜ (k .0 + count ≤ length (entriesOf (now table))) × (16 * length (entriesOf (now table)) ≤ length (now pool)) ⌝ }
+    ensures { λ _. ⌜ heapOf (now (pool .exit)) (now (table .exit)) ≡ taken (heapOf (now (pool .entry)) (now (table .entry))) (k .0) count ⌝ }
+{
+    table::place(table, k, count);
+    clear_blocks(pool, k, count);
+}
+
+// The bytes of the count blocks from k on become zero.
+fn clear_blocks(pool: &mut [u8], k: Block, count: usize)
+    requires { ⌜ (k .0 + count ≤ 4096) × (16 * (k .0 + count) ≤ length (now pool)) ⌝ }
+    ensures { λ _. ⌜ now (pool .exit) ≡ clearedBlocks (now (pool .entry)) (k .0) count ⌝ }
+{
+    let start = k.offset().0;
+    let end = k.plus(count).offset().0;
+    memory::clear(&mut pool[start..end]);
+}
+
+// The object's blocks become FREE. Its bytes stay.
+pub fn free(base: Address, pool: &[u8], table: &mut [u8], k: Block) -> Freed
+    ensures { λ r. ⌜ freed r (now (pool .entry)) (now (table .exit)) ≡ freeOf (base .0) (heapOf (now (pool .entry)) (now (table .entry))) (k .0) ⌝ }
+{
+    let r = checks::object(base, pool, &*table, k);
+    if r != 0 {
+        return Freed {
+            refusal: r,
+            change: 0,
+        };
+    }
+    let count = table::block_count(&*table, k);
+    table::release(table, k, count);
+    Freed {
+        refusal: 0,
+        change: -(count as i32),
+    }
+}
+
+// Used blocks, objects, and the longest run of FREE blocks.
+pub fn survey(base: Address, pool: &[u8], table: &[u8]) -> Surveyed
+    ensures { λ r. ⌜ surveyed r (now (pool .entry)) (now (table .entry)) ≡ surveyOf (base .0) (heapOf (now (pool .entry)) (now (table .entry))) ⌝ }
+{
+    let r = checks::heap(base, pool, table);
+    if r != 0 {
+        return Surveyed {
+            refusal: r,
+            used: 0,
+            objects: 0,
+            longest: 0,
+        };
+    }
+    Surveyed {
+        refusal: 0,
+        used: table::used(table) as u32,
+        objects: table::objects(table) as u32,
+        longest: table::longest(table) as u32,
+    }
+}
+
+// Word i of the object with head k.
+pub fn load(base: Address, pool: &[u8], table: &[u8], k: Block, i: usize) -> Loaded
+    ensures { λ r. ⌜ loaded r (now (pool .entry)) (now (table .entry)) ≡ loadOf (base .0) (heapOf (now (pool .entry)) (now (table .entry))) (k .0) i ⌝ }
+{
+    let r = checks::word(base, pool, table, k, i);
+    if r != 0 {
+        return Loaded {
+            refusal: r,
+            value: 0,
+        };
+    }
+    Loaded {
+        refusal: 0,
+        value: memory::word(pool, k.first_word() + i),
+    }
+}
+
+// w becomes word i of the object with head k.
+pub fn store(base: Address, pool: &mut [u8], table: &[u8], k: Block, i: usize, w: u32) -> u32
+    ensures { λ r. ⌜ status r (now (pool .exit)) (now (table .entry)) ≡ storeOf (base .0) (heapOf (now (pool .entry)) (now (table .entry))) (k .0) i w ⌝ }
+{
+    let r = checks::word(base, &*pool, table, k, i);
+    if r != 0 {
+        return r;
+    }
+    memory::set_word(pool, k.first_word() + i, w);
+    0
+}
