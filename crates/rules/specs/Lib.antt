@@ -2,6 +2,7 @@ pub mod Tests
 pub mod Words
 pub mod Entries
 pub mod Tables
+pub mod Meaning
 pub mod Pointers
 pub mod Outcomes
 pub mod Refusals
