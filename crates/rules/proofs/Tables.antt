@@ -1,7 +1,7 @@
 -- Laws of the table's definitions: each matches its plain sentence, and a sentence has one answer.
 -- Assumes nothing.
 use mathlib.Core.Path.{_≡_, refl, ap, _∙_}
-use mathlib.Core.Logic.{_≢_, ⊎-elim}
+use mathlib.Core.Logic.{_≢_, _⊎_, inl, inr, ⊎-elim}
 use mathlib.Core.Bool.{Bool, true, false, not}
 use mathlib.Core.List.{List, [], _∷_}
 use mathlib.Core.Option.{Option, some, none}
@@ -14,7 +14,7 @@ use lib.ListN.{length, drop, length-drop, List·getD-eq-default}
 use lib.Seq.{getD-drop}
 use borrow.Author.Tests.{eqb-true, eqb-false, eq-eqb, ne-eqb, leb-true, le-leb}
 use Rattle.rules.specs.Tests.{both, leading}
-use Rattle.rules.specs.Entries.{FREE, TAIL, MARK}
+use Rattle.rules.specs.Entries.{FREE, HEAD, TAIL, MARK}
 use Rattle.rules.specs.Tables.{entryAt, isFree, isHead, isTail, mayFollow, wellAfter, wellFormed, blockCount, freeFrom, fits, firstFrom, firstRun, used, objects}
 use Rattle.rules.specs.Meaning.{Well, Extent, Run, Lowest}
 use Rattle.rules.proofs.Lists.{count-le, leading-le, leading-pass, leading-stop, leading-more}
@@ -49,15 +49,15 @@ entry-inside es k taken = go (decLt k (length es))
 
 -- ---- well-formed
 
-may-not-mark : (p e : ℕ) → mayFollow p e ≡ true → e ≢ MARK
+pub may-not-mark : (p e : ℕ) → mayFollow p e ≡ true → e ≢ MARK
 unfolding mayFollow
 may-not-mark p e m mark = true-not-false m (rw mark)
 
-may-not-tail : (p e : ℕ) → mayFollow p e ≡ true → e ≡ TAIL → p ≢ FREE
+pub may-not-tail : (p e : ℕ) → mayFollow p e ≡ true → e ≡ TAIL → p ≢ FREE
 unfolding mayFollow
 may-not-tail p e m tail free = true-not-false m (rw (tail, free))
 
-may-of : (p e : ℕ) → e ≢ MARK → (e ≡ TAIL → p ≢ FREE) → mayFollow p e ≡ true
+pub may-of : (p e : ℕ) → e ≢ MARK → (e ≡ TAIL → p ≢ FREE) → mayFollow p e ≡ true
 unfolding mayFollow
 may-of p e no-mark after = go (ℕ-discrete e TAIL)
   where
@@ -143,6 +143,14 @@ extent-before es o b k x l other = go (decLt k (o + b))
     go (yes h) = let e : o + (k - o) ≡ k = omega arith in absurd (other (rw e at (x .tail (k - o) (omega arith) (omega arith))))
     go (no h) = omega arith
 
+-- two objects do not overlap
+pub objects-apart : (es : List ℕ) (o c k b : ℕ) → Extent es o c → Extent es k b → entryAt es o ≡ HEAD → entryAt es k ≡ HEAD → o ≢ k → (o + c ≤ k) ⊎ (k + b ≤ o)
+objects-apart es o c k b x y ho hk other = go (decLt o k)
+  where
+    go : Dec (o < k) → (o + c ≤ k) ⊎ (k + b ≤ o)
+    go (yes l) = inl (extent-before es o c k x l (λ t. omega arith))
+    go (no l) = inr (extent-before es k b o y (omega arith) (λ t. omega arith))
+
 -- ---- runs of free blocks
 
 -- freeFrom is the longest run at a start: it is one, and no run there is longer
@@ -177,6 +185,21 @@ free-room es s = omega (arith, leading-le isFree (drop s es), length-drop s es)
 pub fits-run : (es : List ℕ) (b s : ℕ) → 0 < b → fits es b s ≡ true → Run es b s
 unfolding fits
 fits-run es b s h f = le-run es b s (omega (arith, leb-true b (freeFrom es s) f, free-room es s)) (leb-true b (freeFrom es s) f)
+
+-- an object and a run of free blocks do not overlap
+pub run-apart : (es : List ℕ) (o c s b : ℕ) → Extent es o c → 0 < b → Run es b s → entryAt es o ≡ HEAD → (o + c ≤ s) ⊎ (s + b ≤ o)
+run-apart es o c s b x some-block r head = go (decLt o s) (decLt o (s + b))
+  where
+    go : Dec (o < s) → Dec (o < s + b) → (o + c ≤ s) ⊎ (s + b ≤ o)
+    go (yes l) _ = let e : s + 0 ≡ s = omega arith in inl (extent-before es o c s x l (λ t. omega (arith, rw e at (r .free 0 some-block))))
+    go (no l) (yes h) = let e : s + (o - s) ≡ o = omega arith in absurd (omega (arith, rw e at (r .free (o - s) (omega arith))))
+    go (no l) (no h) = inr (omega arith)
+
+-- no TAIL follows a run of free blocks
+pub run-next : (es : List ℕ) (b s : ℕ) → wellFormed es ≡ true → 0 < b → Run es b s → entryAt es (s + b) ≢ TAIL
+run-next es b s w h r t =
+    let e : s + b ≡ suc (s + (b - 1)) = omega arith in
+    well-says es w .after (s + (b - 1)) (rw (← e) (entry-inside es (s + b) (λ f. omega arith))) (rw e at t) (r .free (b - 1) (omega arith))
 
 -- ---- the lowest run
 
