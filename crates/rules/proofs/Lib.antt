@@ -1,4 +1,6 @@
 pub mod Lists
 pub mod Below
 pub mod Entries
+pub mod Tables
+pub mod Changes
 pub mod Refusals

@@ -1,15 +1,14 @@
 -- Laws of lists: a run of stores, a count, how many at the front pass a test, a table of values.
 -- Assumes nothing.
 use mathlib.Core.Path.{_≡_, refl, sym, ap, _∙_}
-use mathlib.Core.Logic.{_≢_}
 use mathlib.Core.Bool.{Bool, true, false}
 use mathlib.Core.List.{List, [], _∷_, _++_}
-use Prim.Native.Nat.{ℕ, zero, suc, _+_, _-_, _≤_, _<_}
+use Prim.Native.Nat.{ℕ, zero, suc, _+_, _≤_, _<_}
 use native.Mathlib.Numerals.{add-one}
-use native.Mathlib.Decide.{ℕ-discrete}
+use native.Mathlib.Decide.{ℕ-discrete, decLt}
 use native.Mathlib.Omega.{arith}
-use lib.ListN.{length, getD, set, take, drop, replicate, length-set, length-replicate, getD-replicate}
-use lib.Seq.{sets, length-sets, getD-set-same, getD-set-other, set-comm}
+use lib.ListN.{length, getD, set, replicate, length-set, length-replicate}
+use lib.Seq.{sets, getD-set-same, getD-set-other, set-out}
 use Rattle.rules.specs.Tests.{pick, count, leading, tabulate}
 
 -- ---- a run of stores
@@ -35,6 +34,30 @@ sets-in l at (v ∷ vs) zero d h r =
 sets-in l at (v ∷ vs) (suc j) d h r =
     let e : at + suc j ≡ suc at + j = omega arith in
     rw e (sets-in (set l at v) (suc at) vs j d (omega arith) (rw length-set (omega arith)))
+
+-- an element outside the run stays
+pub sets-out : (l : List ℕ) (at : ℕ) (vs : List ℕ) (i d : ℕ) → (at ≤ i → i < at + length vs → ⊥) → getD (sets l at vs) i d ≡ getD l i d
+sets-out l at vs i d out = go (decLt i at) (decLt i (at + length vs))
+  where
+    go : Dec (i < at) → Dec (i < at + length vs) → getD (sets l at vs) i d ≡ getD l i d
+    go (yes h) _ = sets-before l at vs i d h
+    go (no h) (no r) = sets-after l at vs i d (omega arith)
+    go (no h) (yes r) = absurd (out (omega arith) r)
+
+-- a run of stores below the first element
+pub sets-cons : (x : ℕ) (l : List ℕ) (at : ℕ) (vs : List ℕ) → sets (x ∷ l) (suc at) vs ≡ x ∷ sets l at vs
+sets-cons x l at [] = refl
+sets-cons x l at (v ∷ vs) = sets-cons x (set l at v) (suc at) vs
+
+-- a bound that every element and every stored value has
+pub sets-below : (l : List ℕ) (at : ℕ) (vs : List ℕ) (d m : ℕ) → ((i : ℕ) → getD l i d < m) → ((j : ℕ) → getD vs j d < m) → (i : ℕ) → getD (sets l at vs) i d < m
+sets-below l at [] d m small stored = small
+sets-below l at (v ∷ vs) d m small stored = sets-below (set l at v) (suc at) vs d m (λ i. go i (ℕ-discrete i at) (decLt at (length l))) (λ j. stored (suc j))
+  where
+    go : (i : ℕ) → Dec (i ≡ at) → Dec (at < length l) → getD (set l at v) i d < m
+    go i (yes e) (yes h) = rw (e, getD-set-same l at v d h) (stored 0)
+    go i (yes e) (no h) = rw (set-out l at v (omega arith)) (small i)
+    go i (no e) _ = rw (getD-set-other l at i v d e) (small i)
 
 -- one store more at the end of the run
 pub sets-snoc : (l : List ℕ) (at : ℕ) (vs : List ℕ) (v : ℕ) → sets l at (vs ++ (v ∷ [])) ≡ set (sets l at vs) (at + length vs) v

@@ -8,4 +8,5 @@ pub mod Refusals
 pub mod Marking
 pub mod Reach
 pub mod Calls
+pub mod Meaning
 pub mod Examples

@@ -1,0 +1,42 @@
+-- What the computed definitions of the table mean, in plain sentences. The laws of proofs/Tables.antt show that each definition matches its sentence.
+-- Assumes nothing.
+use mathlib.Core.Path.{_≡_}
+use mathlib.Core.Logic.{_≢_}
+use mathlib.Core.List.{List}
+use mathlib.Core.Option.{Option, some, none}
+use Prim.Native.Nat.{ℕ, suc, _+_, _≤_, _<_}
+use lib.ListN.{length}
+use Rattle.rules.specs.Entries.{FREE, TAIL, MARK}
+use Rattle.rules.specs.Tables.{entryAt}
+
+-- the table is well-formed
+pub record Well (es : List ℕ) : Type 0 where
+  -- no block is MARK
+  pub no-mark : (k : ℕ) → k < length es → entryAt es k ≢ MARK
+  -- block 0 is no TAIL
+  pub first : 0 < length es → entryAt es 0 ≢ TAIL
+  -- no TAIL follows a FREE
+  pub after : (k : ℕ) → suc k < length es → entryAt es (suc k) ≡ TAIL → entryAt es k ≢ FREE
+
+-- b blocks, from block k on, are the block k and all the TAILs directly after it
+pub record Extent (es : List ℕ) (k b : ℕ) : Type 0 where
+  -- block k is one of them
+  pub some-block : 0 < b
+  -- they are blocks of the table
+  pub room : k + b ≤ length es
+  -- each but block k is TAIL
+  pub tail : (j : ℕ) → 0 < j → j < b → entryAt es (k + j) ≡ TAIL
+  -- the next block, if there is one, is no TAIL
+  pub next : entryAt es (k + b) ≢ TAIL
+
+-- b blocks may start at block s
+pub record Run (es : List ℕ) (b s : ℕ) : Type 0 where
+  -- the b blocks from s on are blocks of the table
+  pub room : s + b ≤ length es
+  -- and FREE
+  pub free : (j : ℕ) → j < b → entryAt es (s + j) ≡ FREE
+
+-- what the answer of a search says: the lowest start at which b blocks may start, or that there is none
+unfoldable pub Lowest : List ℕ → ℕ → Option ℕ → Type 0
+Lowest es b (some s) = Run es b s × ((q : ℕ) → q < s → Run es b q → ⊥)
+Lowest es b none = (q : ℕ) → Run es b q → ⊥
