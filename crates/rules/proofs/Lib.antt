@@ -2,3 +2,4 @@ pub mod Lists
 pub mod Below
 pub mod Entries
 pub mod Refusals
+pub mod Marking
