@@ -13,11 +13,12 @@ use lib.Dec.{eqb, ltb}
 use lib.ListN.{length, getD, set, take, drop, length-set, drop-of-length-le}
 use lib.Seq.{drop-cons, take-all, take-suc-set, drop-set-lt}
 use borrow.Author.Tests.{lt-ltb, le-ltb, eq-eqb, ne-eqb, ltb-true, ltb-false, eqb-true, eqb-false}
-use Rattle.rules.specs.Tests.{pick, count}
+use Rattle.rules.specs.Tests.{pick}
 use Rattle.rules.specs.Words.{wordAt}
 use Rattle.rules.specs.Entries.{FREE, HEAD, MARK}
 use Rattle.rules.specs.Tables.{entryAt, isHead, objects, blockCount}
 use Rattle.rules.specs.Pointers.{leadsTo}
+use Rattle.rules.proofs.Lists.{one, count-le, count-set}
 use Rattle.rules.specs.Marking.{Scene, State, state, marked, pushed, visitTo, visit, walkWords, walk, drainFor, drain, trace, rootTo, markRoot, markRoots, passBlock, passFrom, pass, Marked, markedIn, rescanFor, rescan, markAll, sweptEntry, freeingAfter, sweepFrom, sweep}
 
 -- a block whose entry is not FREE is a block of the table
@@ -34,24 +35,14 @@ mark-inside es k h = used-inside es k (λ q. omega arith)
 
 -- a HEAD that becomes MARK is one HEAD fewer
 pub objects-mark : (es : List ℕ) (k : ℕ) → entryAt es k ≡ HEAD → suc (objects (set es k MARK)) ≡ objects es
-unfolding objects count
-objects-mark [] k h = absurd (omega arith)
-objects-mark (e ∷ es) zero h = rw h
-objects-mark (e ∷ es) (suc k) h = go (eqb e HEAD) (objects-mark es k h)
-  where
-    go : (t : Bool) → suc (count isHead (set es k MARK)) ≡ count isHead es
-        → suc (pick t (suc (count isHead (set es k MARK))) (count isHead (set es k MARK))) ≡ pick t (suc (count isHead es)) (count isHead es)
-    go true r = ap suc r
-    go false r = r
+unfolding objects
+objects-mark es k h =
+    let z : one (isHead (entryAt es k)) ≡ 1 = ap (λ (e : ℕ). one (isHead e)) h in
+    omega (arith, count-set isHead es k MARK FREE (head-inside es k h))
 
 pub objects-most : (es : List ℕ) → objects es ≤ length es
-unfolding objects count
-objects-most [] = omega arith
-objects-most (e ∷ es) = go (eqb e HEAD) (objects-most es)
-  where
-    go : (t : Bool) → count isHead es ≤ length es → pick t (suc (count isHead es)) (count isHead es) ≤ suc (length es)
-    go true r = omega arith
-    go false r = omega arith
+unfolding objects
+objects-most es = count-le isHead es
 
 -- What a word of a walked object does. Nothing, if it leads to no HEAD; else that becomes MARK, and is pushed or, with the stack full, lost.
 pub data Visits (c : Scene) (w : ℕ) (s : State) : State → Type 0 where
@@ -270,13 +261,9 @@ pub traced : (c : Scene) (k : ℕ) (s : State) → trace c k s .stack ≡ []
 unfolding trace
 traced c k s = drained c (walk c k s)
 
--- The flag as a number, and the potential of a state: HEADs and the flag. A flag that is newly set has cost a HEAD.
-abbrev pub flag : Bool → ℕ
-flag true = 1
-flag false = 0
-
+-- The potential of a state: HEADs and the flag. A flag that is newly set has cost a HEAD.
 unfoldable pub potential : State → ℕ
-potential s = objects (s .entries) + flag (s .overflow)
+potential s = objects (s .entries) + one (s .overflow)
 
 visits-potential : {c : Scene} {w : ℕ} {s z : State} → Visits c w s z → potential z ≤ potential s
 unfolding potential
@@ -314,7 +301,7 @@ rescan-potential : (s : State) → toRescan s ≤ potential s
 unfolding toRescan potential
 rescan-potential s = go (s .overflow)
   where
-    go : (o : Bool) → pick o (suc (objects (s .entries))) 0 ≤ objects (s .entries) + flag o
+    go : (o : Bool) → pick o (suc (objects (s .entries))) 0 ≤ objects (s .entries) + one o
     go true = omega arith
     go false = omega arith
 
@@ -353,7 +340,7 @@ rescan-done c s r h = go (s .overflow) h
   where
     go : (o : Bool) → o ≡ false → rescan c (state (s .entries) (s .stack) o) r ≡ markedIn (state (s .entries) (s .stack) o) r
     go false q = refl
-    go true q = let z : _≡_ {A = ℕ} 1 0 = ap flag q in absurd (omega arith)
+    go true q = let z : _≡_ {A = ℕ} 1 0 = ap one q in absurd (omega arith)
 
 pub rescan-more : (c : Scene) (s : State) (r : ℕ) → s .overflow ≡ true → rescan c s r ≡ rescan c (pass c s) (suc r)
 unfolding rescan rescanFor toRescan
@@ -361,7 +348,7 @@ rescan-more c s r h = go (s .overflow) h
   where
     go : (o : Bool) → o ≡ true
         → rescan c (state (s .entries) (s .stack) o) r ≡ rescan c (pass c (state (s .entries) (s .stack) o)) (suc r)
-    go false q = let z : _≡_ {A = ℕ} 0 1 = ap flag q in absurd (omega arith)
+    go false q = let z : _≡_ {A = ℕ} 0 1 = ap one q in absurd (omega arith)
     go true q =
         let z = pass c (state (s .entries) (s .stack) true) in
         let l = pass-measure c (state (s .entries) (s .stack) true) refl in
