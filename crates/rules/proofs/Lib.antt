@@ -3,3 +3,4 @@ pub mod Below
 pub mod Entries
 pub mod Refusals
 pub mod Marking
+pub mod Marks
