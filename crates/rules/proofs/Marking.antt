@@ -354,6 +354,20 @@ rescan-more c s r h = go (s .overflow) h
         let l = pass-measure c (state (s .entries) (s .stack) true) refl in
         rescan-enough c (objects (s .entries)) (toRescan z) (z .entries) (z .stack) (z .overflow) (suc r) (omega (arith, l)) (omega arith)
 
+-- the flag is clear after the rescans
+pub rescanned : (c : Scene) (s : State) (r : ℕ) → rescan c s r .last .overflow ≡ false
+unfolding rescan rescanFor toRescan
+rescanned c s r = go (pick (s .overflow) (suc (objects (s .entries))) 0) (s .entries) (s .stack) (s .overflow) r (omega arith)
+  where
+    go : (n : ℕ) (es st : List ℕ) (o : Bool) (r : ℕ) → toRescan (state es st o) ≤ n → rescanFor n c (state es st o) r .last .overflow ≡ false
+    go zero es st false r p = refl
+    go zero es st true r p = absurd (omega arith)
+    go (suc n) es st false r p = refl
+    go (suc n) es st true r p =
+        let z = pass c (state es st true) in
+        let l = pass-measure c (state es st true) refl in
+        go n (z .entries) (z .stack) (z .overflow) (suc r) (omega (arith, l))
+
 -- What the whole cycle keeps: the number of blocks; on the stack only blocks of the table, no more than there is room for.
 pub record Sane (c : Scene) (n : ℕ) (s : State) : Type 0 where
   pub long : length (s .entries) ≡ n

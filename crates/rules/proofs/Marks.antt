@@ -75,6 +75,7 @@ marks-count es₀ es k s =
   where
     to : (i : ℕ) → entryAt es i ≡ TAIL → entryAt es₀ i ≡ TAIL
     to i h = ⊎-elim (λ q. omega arith) (λ q. absurd (omega arith)) (s .at i)
+
     from : (i : ℕ) → entryAt es₀ i ≡ TAIL → entryAt es i ≡ TAIL
     from i h = ⊎-elim (λ q. omega arith) (λ q. absurd (omega arith)) (s .at i)
 
@@ -101,6 +102,7 @@ leads-head base es w k q = go (targetOf base (length es) w) q
     at j true p b r l = let e : j ≡ k = cc in inl (rw (← e) (eqb-true _ _ p))
     at j false p true r l = let e : j ≡ k = cc in inr (rw (← e) (eqb-true _ _ r))
     at j false p false r l = let z : _≡_ {A = ℕ} 0 1 = cc in absurd (omega arith)
+
     go : (o : Option ℕ) → headAt es o ≡ some k → (entryAt es k ≡ HEAD) ⊎ (entryAt es k ≡ MARK)
     go none l = let z : _≡_ {A = ℕ} 0 1 = cc in absurd (omega arith)
     go (some j) l = at j (eqb (entryAt es j) HEAD) refl (eqb (entryAt es j) MARK) refl l
