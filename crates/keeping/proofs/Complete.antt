@@ -3,21 +3,20 @@
 -- Assumes nothing.
 use mathlib.Core.Path.{_≡_, refl, ap, sym, _∙_}
 use mathlib.Core.Logic.{_⊎_, inl, inr, ⊎-elim}
-use mathlib.Core.Bool.{Bool, true, false}
+use mathlib.Core.Bool.{false}
 use mathlib.Core.List.{List, [], _∷_, List·Memᴰ, List·Memᴰ·head, List·Memᴰ·tail, List·Memᴰ·cases-cons, List·Memᴰ·not-nil}
 use mathlib.Core.Option.{some}
 use Prim.Native.Nat.{ℕ, zero, suc, _+_, _*_, _≤_, _<_}
 use native.Mathlib.Omega.{arith}
 use native.Mathlib.Decide.{ℕ-discrete}
 use lib.ListN.{length, set}
-use Rattle.rules.specs.Tests.{pick}
 use Rattle.rules.specs.Words.{wordAt}
 use Rattle.rules.specs.Entries.{HEAD, MARK}
-use Rattle.rules.specs.Tables.{entryAt, objects, blockCount}
+use Rattle.rules.specs.Tables.{entryAt, blockCount}
 use Rattle.rules.specs.Pointers.{leadsTo}
 use Rattle.rules.specs.Outcomes.{Heap}
 use Rattle.rules.specs.Reach.{Edge, Reachable, root, edge}
-use Rattle.rules.specs.Marking.{Scene, State, state, marked, visit, walkWords, walk, drain, trace, markRoot, markRoots, passBlock, passFrom, pass, rescanFor, rescan, markAll}
+use Rattle.rules.specs.Marking.{Scene, State, state, marked, visit, walkWords, walk, drain, trace, markRoot, markRoots, passFrom, pass, rescan, markAll}
 use Rattle.rules.proofs.Marking.{mark-inside, Visits, stays, pushes, loses, visits, Rooted, idle, takes, rooted, Passed, skips, walks, passed, words-keep, walk-keeps, drain-keeps, pass-keeps, rescan-keeps, traced, rescanned}
 use Rattle.rules.proofs.Marks.{Marks, marks-none, marks-more, mark-stays, mark-cases, mark-here, marks-count, marks-leads, leads-head}
 use Rattle.keeping.specs.Keeping.{sceneOf, marking}
