@@ -4,3 +4,5 @@ pub mod Entries
 pub mod Tables
 pub mod Changes
 pub mod Refusals
+pub mod Marking
+pub mod Marks
