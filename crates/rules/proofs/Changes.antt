@@ -232,11 +232,14 @@ count-apart es es' s m o l same before after h out = count-is es' o (blockCount 
   where
     b : ℕ
     b = blockCount es o
+
     x : Extent es o b
     x = extent-of es o h
+
     next : o + b ≤ s → Dec (o + b ≡ s) → entryAt es' (o + b) ≢ TAIL
     next r (yes e) = rw e after
     next r (no e) = rw (same (o + b) (λ p q. omega arith)) (x .next)
+
     go : Dec (o < s) → Extent es' o b
     go (yes lower) =
         let r : o + b ≤ s = extent-before es o b s x lower before in

@@ -135,7 +135,7 @@ shape-true base h t =
       pool = eqb-true _ _ (both-left (eqb (length (h .pool)) (16 * n)) _ t2);
       aligned = eqb-true _ _ (both-left (eqb (base % 16) 0) _ t3);
       above = leb-true 16 base (both-left (leb 16 base) _ t4);
-      below = leb-true _ _ (both-right (leb 16 base) _ t4)
+      below = leb-true _ _ (both-right (leb 16 base) _ t4);
     }
 
 pub shape-of : (base : ℕ) (h : Heap) → Shape base h → goodShape base h ≡ true

@@ -10,3 +10,4 @@ pub mod Reach
 pub mod Calls
 pub mod Meaning
 pub mod Examples
+pub mod Runs

@@ -23,11 +23,17 @@ last base pool table some few long aligned above = by-cases (leb base (429496729
   where
     e : length (heapOf pool table .entries) ≡ 4 * length table
     e = length-entriesOf table
+
     by-cases : (b : Bool) → leb base (4294967296 - 64 * length table) ≡ b → b ≡ goodShape base (heapOf pool table)
     by-cases true t =
         let l = leb-true base (4294967296 - 64 * length table) t in
         sym (shape-of base (heapOf pool table) (record {
-          some = omega (arith, e); few = omega (arith, e); pool = omega (arith, e); aligned = aligned; above = above; below = omega (arith, e, l)
+          some = omega (arith, e);
+          few = omega (arith, e);
+          pool = omega (arith, e);
+          aligned = aligned;
+          above = above;
+          below = omega (arith, e, l);
         }))
     by-cases false t =
         let l = leb-false base (4294967296 - 64 * length table) t in

@@ -18,12 +18,12 @@ well-formed-requires c κs = tt
 returns-2 : tie.Need-returns-2
 returns-2 c =
     sym (first-no _ _ (ap not (sym (c .before .before .before .good-shape .ensures)) ∙ c .before .before .if1 .left)
-        ∙ first-yes _ _ (ap not (sym (c .before .well-formed .ensures)) ∙ c .if2 .taken))
+    ∙ first-yes _ _ (ap not (sym (c .before .well-formed .ensures)) ∙ c .if2 .taken))
 
 returns-3 : tie.Need-returns-3
 returns-3 c =
     sym (first-no _ _ (ap not (sym (c .before .before .before .good-shape .ensures)) ∙ c .before .before .if1 .left)
-        ∙ first-last _ (ap not (sym (c .before .well-formed .ensures)) ∙ c .if2 .left))
+    ∙ first-last _ (ap not (sym (c .before .well-formed .ensures)) ∙ c .if2 .left))
 
 pub heap-spec : {M : Type 1} → statement M
 heap-spec = tie.close (tie.spec good-shape-requires returns well-formed-requires returns-2 returns-3)
