@@ -32,17 +32,25 @@ pub fn entry(table: &[u8], k: Block) -> u8
     (table[i / 4] >> (2 * (i % 4))) & 3
 }
 
+// e becomes entry j of byte i.
+fn put(table: &mut [u8], i: usize, j: usize, e: u8)
+    requires { ⌜ (i < length (now table)) × ((j < 4) × (e < 4)) ⌝ }
+    ensures { λ _. ⌜ entriesOf (now (table .exit)) ≡ set (entriesOf (now (table .entry))) (4 * i + j) e ⌝ }
+{
+    let s = 2 * j;
+    table[i] = (table[i] & !(3 << s)) | (e << s);
+}
+
 // e becomes the entry of block k.
 pub fn set_entry(table: &mut [u8], k: Block, e: u8)
     requires { ⌜ (k .0 < length (entriesOf (now table))) × (e < 4) ⌝ }
     ensures { λ _. ⌜ entriesOf (now (table .exit)) ≡ set (entriesOf (now (table .entry))) (k .0) e ⌝ }
 {
     let i = k.0;
-    let s = 2 * (i % 4);
-    table[i / 4] = (table[i / 4] & !(3 << s)) | (e << s);
+    put(table, i / 4, i % 4, e);
 }
 
-// e becomes the entry of each of the count blocks from `from` on.
+// e becomes the entry of each of the count blocks from `from` on. A block's number need not fit a usize; its byte's does.
 pub fn set_run(table: &mut [u8], from: Block, count: usize, e: u8)
     requires { ⌜ (from .0 + count ≤ length (entriesOf (now table))) × (e < 4) ⌝ }
     ensures { λ _. ⌜ entriesOf (now (table .exit)) ≡ sets (entriesOf (now (table .entry))) (from .0) (replicate count e) ⌝ }
@@ -50,7 +58,8 @@ pub fn set_run(table: &mut [u8], from: Block, count: usize, e: u8)
     let first = from.0;
     let mut i = 0;
     while i < count {
-        set_entry(&mut *table, Block(first + i), e);
+        let j = first % 4 + i % 4;
+        put(&mut *table, first / 4 + i / 4 + j / 4, j % 4, e);
         i += 1;
     }
 }

@@ -147,24 +147,22 @@ entriesOf-set (x ∷ t) (suc i) b =
     let e : 4 * suc i ≡ suc (suc (suc (suc (4 * i)))) = omega arith in
     rw (e, entriesOf-set t i b)
 
-with-at : (t : List ℕ) (k e i : ℕ) → k < 4 * length t → e < 4 → Dec (i / 4 ≡ k / 4) → Dec (i ≡ k)
-    → entryOf (getD (set t (k / 4) (byteWith (getD t (k / 4) 0) (k % 4) e)) (i / 4) 0) (i % 4) ≡ getD (set (entriesOf t) k e) i 0
-with-at t k e i hk he (yes same) (yes here) =
-    let h : k / 4 < length t = omega arith in
-    let g : k < length (entriesOf t) = rw length-entriesOf hk in
-    rw (here, getD-set-same t (k / 4) (byteWith (getD t (k / 4) 0) (k % 4) e) 0 h, getD-set-same (entriesOf t) k e 0 g)
-    (byteWith-same (getD t (k / 4) 0) (k % 4) e (omega arith) he)
-with-at t k e i hk he (yes same) (no other) =
-    let h : k / 4 < length t = omega arith in
-    rw (getD-set-other (entriesOf t) k i e 0 other, getD-entriesOf t i, same, getD-set-same t (k / 4) (byteWith (getD t (k / 4) 0) (k % 4) e) 0 h)
-    (byteWith-other (getD t (k / 4) 0) (k % 4) (i % 4) e (omega arith) (omega arith) he (omega arith))
-with-at t k e i hk he (no far) (yes here) = absurd (far (ap (λ (n : ℕ). n / 4) here))
-with-at t k e i hk he (no far) (no other) =
-    rw (getD-set-other (entriesOf t) k i e 0 other, getD-entriesOf t i, getD-set-other t (k / 4) (i / 4) (byteWith (getD t (k / 4) 0) (k % 4) e) 0 far)
+with-at : (t : List ℕ) (i j e k : ℕ) → i < length t → j < 4 → e < 4 → Dec (k / 4 ≡ i) → Dec (k ≡ 4 * i + j)
+    → entryOf (getD (set t i (byteWith (getD t i 0) j e)) (k / 4) 0) (k % 4) ≡ getD (set (entriesOf t) (4 * i + j) e) k 0
+with-at t i j e k hi hj he (yes same) (yes here) =
+    let m : k % 4 ≡ j = omega arith in
+    let l : 4 * i + j < length (entriesOf t) = rw length-entriesOf (omega arith) in
+    rw (m, same, here, getD-set-same t i (byteWith (getD t i 0) j e) 0 hi, getD-set-same (entriesOf t) (4 * i + j) e 0 l) (byteWith-same (getD t i 0) j e hj he)
+with-at t i j e k hi hj he (yes same) (no other) =
+    rw (getD-set-other (entriesOf t) (4 * i + j) k e 0 other, getD-entriesOf t k, same, getD-set-same t i (byteWith (getD t i 0) j e) 0 hi)
+    (byteWith-other (getD t i 0) j (k % 4) e hj (omega arith) he (omega arith))
+with-at t i j e k hi hj he (no far) (yes here) = absurd (far (omega arith))
+with-at t i j e k hi hj he (no far) (no other) =
+    rw (getD-set-other (entriesOf t) (4 * i + j) k e 0 other, getD-entriesOf t k, getD-set-other t i (k / 4) (byteWith (getD t i 0) j e) 0 far)
 
--- e becomes the entry of block k
-pub entriesOf-with : (t : List ℕ) (k e : ℕ) → k < 4 * length t → e < 4 → entriesOf (set t (k / 4) (byteWith (getD t (k / 4) 0) (k % 4) e)) ≡ set (entriesOf t) k e
-entriesOf-with t k e hk he =
-    ext-getD 0 (entriesOf (set t (k / 4) (byteWith (getD t (k / 4) 0) (k % 4) e))) (set (entriesOf t) k e)
+-- e becomes entry j of byte i
+pub entriesOf-with : (t : List ℕ) (i j e : ℕ) → i < length t → j < 4 → e < 4 → entriesOf (set t i (byteWith (getD t i 0) j e)) ≡ set (entriesOf t) (4 * i + j) e
+entriesOf-with t i j e hi hj he =
+    ext-getD 0 (entriesOf (set t i (byteWith (getD t i 0) j e))) (set (entriesOf t) (4 * i + j) e)
     (simp (length-entriesOf, length-set))
-    (λ i l. getD-entriesOf (set t (k / 4) (byteWith (getD t (k / 4) 0) (k % 4) e)) i ∙ with-at t k e i hk he (ℕ-discrete (i / 4) (k / 4)) (ℕ-discrete i k))
+    (λ k l. getD-entriesOf (set t i (byteWith (getD t i 0) j e)) k ∙ with-at t i j e k hi hj he (ℕ-discrete (k / 4) i) (ℕ-discrete k (4 * i + j)))
