@@ -8,6 +8,6 @@ pub mod Refusals
 pub mod Marking
 pub mod Reach
 pub mod Calls
+pub mod Runs
 pub mod Meaning
 pub mod Examples
-pub mod Runs
