@@ -7,13 +7,13 @@ use Prim.Native.Nat.{ℕ, zero, suc, _+_, _*_, _%_, _^_, _≤_, _<_}
 use native.Mathlib.Omega.{arith}
 use lib.Dec.{eqb, leb, ltb}
 use lib.ListN.{length}
-use borrow.Author.Tests.{eqb-true, leb-true, leb-false, ltb-true, eq-eqb, le-leb}
+use borrow.Author.Tests.{eqb-true, eqb-false, leb-true, leb-false, ltb-true, eq-eqb, le-leb}
 use Rattle.rules.specs.Tests.{pick, both}
 use Rattle.rules.specs.Pointers.{addressOf, goodBase}
 use Rattle.rules.specs.Entries.{HEAD}
 use Rattle.rules.specs.Tables.{entryAt, wellFormed}
 use Rattle.rules.specs.Outcomes.{Heap, Outcome, heapOf, onlyRefusal, unlessRefused}
-use Rattle.rules.specs.Refusals.{Test, firstOf, goodShape, badShape, illFormed, outside, noHead}
+use Rattle.rules.specs.Refusals.{Test, firstOf, goodShape, badShape, illFormed, noBytes, outside, noHead}
 use Rattle.rules.proofs.Entries.{length-entriesOf}
 
 -- ---- booleans
@@ -172,6 +172,18 @@ named h k ts e =
     let b = first-none (noHead h k) ts (omega arith) (a .1) in
     record { inside = leb-false _ _ (a .0); head = eqb-true _ _ (not-false _ (b .0)) }
 
--- the tests behind the first
-pub first-rest : (t : Test) (ts : List Test) → 0 < t .number → firstOf (t ∷ ts) ≡ 0 → firstOf ts ≡ 0
-first-rest t ts p e = first-none t ts p e .1
+-- the same of the call's whole list of tests
+pub named-object : (base : ℕ) (h : Heap) (k : ℕ) (ts : List Test) → firstOf (badShape base h ∷ illFormed h ∷ outside h k ∷ noHead h k ∷ ts) ≡ 0 → Named h k
+named-object base h k ts e =
+    named h k ts
+    (first-none (illFormed h) (outside h k ∷ noHead h k ∷ ts) (omega arith)
+    (first-none (badShape base h) (illFormed h ∷ outside h k ∷ noHead h k ∷ ts) (omega arith) e .1) .1)
+
+pub named-resize : (base : ℕ) (h : Heap) (k bytes : ℕ) (ts : List Test)
+    → firstOf (badShape base h ∷ illFormed h ∷ noBytes bytes ∷ outside h k ∷ noHead h k ∷ ts) ≡ 0 → (0 < bytes) × Named h k
+named-resize base h k bytes ts e =
+    let a = first-none (badShape base h) (illFormed h ∷ noBytes bytes ∷ outside h k ∷ noHead h k ∷ ts) (omega arith) e in
+    let b = first-none (illFormed h) (noBytes bytes ∷ outside h k ∷ noHead h k ∷ ts) (omega arith) (a .1) in
+    let d = first-none (noBytes bytes) (outside h k ∷ noHead h k ∷ ts) (omega arith) (b .1) in
+    let ne = eqb-false bytes 0 (d .0) in
+    (omega arith, named h k ts (d .1))

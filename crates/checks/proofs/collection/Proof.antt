@@ -10,7 +10,7 @@ use Rattle.rules.specs.Tests.{both}
 use Rattle.rules.specs.Tables.{wellFormed}
 use Rattle.rules.specs.Outcomes.{Heap, heapOf}
 use Rattle.rules.specs.Refusals.{firstOf, goodShape, wholeWords, badLists, illFormed, manyRoots, longStack}
-use Rattle.rules.proofs.Refusals.{first-yes, first-no, first-last, both-false}
+use Rattle.rules.proofs.Refusals.{first-yes, first-no, first-last, both-false, true-not-false}
 use Rattle.checks.specs.Checks.{collectionTests}
 use Rattle.checks.proofs.collection.Statement.{statement}
 use Rattle.checks.proofs.collection.Tie as tie
@@ -22,7 +22,7 @@ module _ (base : ℕ) (pool table roots stack : List ℕ) where
     where
       go : (g : Bool) → not g ≡ true → not (both g (both (wholeWords roots) (wholeWords stack))) ≡ true
       go false t = refl
-      go true t = t
+      go true t = absurd (true-not-false t refl)
 
   torn-roots : (length roots % 4 ≡ 0 → ⊥) → 1 ≡ firstOf (collectionTests base (heapOf pool table) roots stack)
   unfolding wholeWords
@@ -71,16 +71,24 @@ well-formed-requires : tie.Need-well-formed-requires
 well-formed-requires c κs = tt
 
 returns-4 : tie.Need-returns-4
-returns-4 c = ?
+returns-4 c =
+    ill _ _ _ _ _ (c .before .before .before .before .before .good-shape .ensures) (c .before .before .before .before .if1 .left) (c .before .before .before .if2 .left) (c .before .before .if3 .left)
+    (c .before .well-formed .ensures) (c .if4 .taken)
 
 returns-5 : tie.Need-returns-5
-returns-5 c = ?
+returns-5 c =
+    many _ _ _ _ _ (c .before .before .before .before .before .before .good-shape .ensures) (c .before .before .before .before .before .if1 .left) (c .before .before .before .before .if2 .left) (c .before .before .before .if3 .left)
+    (c .before .before .well-formed .ensures) (c .before .if4 .left) (c .if5 .taken)
 
 returns-6 : tie.Need-returns-6
-returns-6 c = ?
+returns-6 c =
+    long _ _ _ _ _ (c .before .before .before .before .before .before .before .good-shape .ensures) (c .before .before .before .before .before .before .if1 .left) (c .before .before .before .before .before .if2 .left) (c .before .before .before .before .if3 .left)
+    (c .before .before .before .well-formed .ensures) (c .before .before .if4 .left) (c .before .if5 .left) (c .if6 .taken)
 
 returns-7 : tie.Need-returns-7
-returns-7 c = ?
+returns-7 c =
+    fine _ _ _ _ _ (c .before .before .before .before .before .before .before .good-shape .ensures) (c .before .before .before .before .before .before .if1 .left) (c .before .before .before .before .before .if2 .left) (c .before .before .before .before .if3 .left)
+    (c .before .before .before .well-formed .ensures) (c .before .before .if4 .left) (c .before .if5 .left) (c .if6 .left)
 
 pub collection-spec : {M : Type 1} → statement M
 collection-spec =

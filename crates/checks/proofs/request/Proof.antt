@@ -14,11 +14,11 @@ returns c = refused-first _ _ (c .before .heap .ensures) (c .if1 .taken)
 
 returns-2 : tie.Need-returns-2
 returns-2 c =
-    refused-next _ _ refl (c .before .before .heap .ensures) (c .before .if1 .left) (sym (first-yes _ _ (eq-eqb _ _ (c .if2 .taken))))
+    refused-next _ _ refl (c .before .before .before .heap .ensures) (c .before .before .if1 .left) (sym (first-yes _ _ (eq-eqb _ _ (c .if2 .taken))))
 
 returns-3 : tie.Need-returns-3
 returns-3 c =
-    refused-next _ _ refl (c .before .before .heap .ensures) (c .before .if1 .left) (sym (first-last _ (ne-eqb _ _ (c .if2 .left))))
+    refused-next _ _ refl (c .before .before .before .heap .ensures) (c .before .before .if1 .left) (sym (first-last _ (ne-eqb _ _ (c .if2 .left))))
 
 pub request-spec : {M : Type 1} → statement M
 request-spec = tie.close (tie.spec heap-requires returns returns-2 returns-3)
