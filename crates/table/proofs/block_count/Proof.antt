@@ -10,7 +10,6 @@ use borrow.Author.Needs.{needs}
 use borrow.Author.Count.{below-more}
 use Rattle.rules.specs.Entries.{TAIL, entriesOf}
 use Rattle.rules.specs.Tables.{entryAt, blockCount}
-use Rattle.rules.specs.Meaning.{Extent}
 use Rattle.rules.proofs.Tables.{count-is, entry-outside}
 use Rattle.table.proofs.block_count.Statement.{statement}
 use Rattle.table.proofs.block_count.Tie as tie
