@@ -11,12 +11,12 @@ use native.Mathlib.Decide.{ℕ-discrete, decLt}
 use native.Mathlib.Omega.{arith}
 use lib.Dec.{eqb}
 use lib.ListN.{length, drop, length-drop, List·getD-eq-default}
-use lib.Seq.{getD-drop}
+use lib.Seq.{drop-nil, getD-drop}
 use borrow.Author.Tests.{eqb-true, eqb-false, eq-eqb, ne-eqb, leb-true, le-leb}
 use Rattle.rules.specs.Tests.{both, leading}
 use Rattle.rules.specs.Entries.{FREE, HEAD, TAIL, MARK}
-use Rattle.rules.specs.Tables.{entryAt, isFree, isHead, isTail, mayFollow, wellAfter, wellFormed, blockCount, freeFrom, fits, firstFrom, firstRun, used, objects}
-use Rattle.rules.specs.Meaning.{Well, Extent, Run, Lowest}
+use Rattle.rules.specs.Tables.{entryAt, isFree, isHead, isTail, mayFollow, wellAfter, wellFormed, blockCount, freeFrom, fits, firstFrom, firstRun, used, objects, longest}
+use Rattle.rules.specs.Meaning.{Well, Extent, Run, Lowest, Longest}
 use Rattle.rules.proofs.Lists.{count-le, leading-le, leading-pass, leading-stop, leading-more}
 
 -- ---- tests
@@ -266,6 +266,38 @@ run-skip es b s i lower h taken q l r = go (decLt q s)
     go : Dec (q < s) → ⊥
     go (yes below) = lower q below r
     go (no above) = let e : q + (s + i - q) ≡ s + i = omega arith in taken (rw e at (r .free (s + i - q) (omega arith)))
+
+-- ---- the longest run
+
+free-le : (es : List ℕ) (s : ℕ) → freeFrom es s ≤ longest es
+unfolding freeFrom longest leading
+free-le [] s = rw (drop-nil s) (omega arith)
+free-le (e ∷ es) zero = omega arith
+free-le (e ∷ es) (suc s) = omega (arith, free-le es s)
+
+record Attained (es : List ℕ) : Type 0 where
+  start : ℕ
+  inside : start ≤ length es
+  there : freeFrom es start ≡ longest es
+
+attained : (es : List ℕ) → Attained es
+unfolding freeFrom longest leading
+attained [] = record { start = 0; inside = omega arith; there = refl }
+attained (e ∷ es) = go (attained es) (decLt (longest es) (leading isFree (e ∷ es)))
+  where
+    go : Attained es → Dec (longest es < leading isFree (e ∷ es)) → Attained (e ∷ es)
+    go a (yes h) = record { start = 0; inside = omega arith; there = omega arith }
+    go a (no h) = record { start = suc (a .start); inside = omega (arith, a .inside); there = omega (arith, a .there) }
+
+pub longest-says : (es : List ℕ) → Longest es (longest es)
+longest-says es = record {
+  start = attained es .start;
+  run = rw (← attained es .there) (run-longest es (attained es .start) (attained es .inside));
+  most = λ b s r. omega (arith, run-le es b s r, free-le es s);
+}
+
+pub longest-one : (es : List ℕ) (l m : ℕ) → Longest es l → Longest es m → l ≡ m
+longest-one es l m x y = omega (arith, x .most m (y .start) (y .run), y .most l (x .start) (x .run))
 
 -- ---- counts
 

@@ -40,3 +40,11 @@ pub record Run (es : List ℕ) (b s : ℕ) : Type 0 where
 unfoldable pub Lowest : List ℕ → ℕ → Option ℕ → Type 0
 Lowest es b (some s) = Run es b s × ((q : ℕ) → q < s → Run es b q → ⊥)
 Lowest es b none = (q : ℕ) → Run es b q → ⊥
+
+-- l is the length of the longest run of FREE blocks
+pub record Longest (es : List ℕ) (l : ℕ) : Type 0 where
+  -- l blocks may start somewhere
+  pub start : ℕ
+  pub run : Run es l start
+  -- and more nowhere
+  pub most : (b s : ℕ) → Run es b s → b ≤ l
