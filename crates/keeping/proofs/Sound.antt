@@ -64,7 +64,7 @@ module _ (base : ℕ) (h : Heap) (roots : List ℕ) (room : ℕ) where
       (λ i l z p. sound-visits (visits c (wordAt (h .pool) (4 * k + i)) z)
       (λ j q. edge (g .reached k m) (record { word = i; inside = rw e at l; leads = q })) p) g
 
-  sound-popped : (es : List ℕ) (k : ℕ) (st : List ℕ) (o : Bool) → Sound (state es (k ∷ st) o) → Sound (walk c k (state es st o))
+  pub sound-popped : (es : List ℕ) (k : ℕ) (st : List ℕ) (o : Bool) → Sound (state es (k ∷ st) o) → Sound (walk c k (state es st o))
   sound-popped es k st o g =
       sound-walk k (state es st o) (g .stacked k (List·Memᴰ·head refl))
       (record { marks = g .marks; reached = g .reached; stacked = λ i m. g .stacked i (List·Memᴰ·tail m) })

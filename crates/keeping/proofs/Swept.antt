@@ -47,7 +47,7 @@ pub data Swept (f : Bool) (e : ℕ) : ℕ → Type 0 where
   tail : e ≡ TAIL → f ≡ false → Swept f e TAIL
   freed : e ≢ MARK → (e ≡ TAIL → f ≡ true) → Swept f e FREE
 
-swept-entry : (f : Bool) (e : ℕ) → Swept f e (sweptEntry f e)
+pub swept-entry : (f : Bool) (e : ℕ) → Swept f e (sweptEntry f e)
 unfolding sweptEntry
 swept-entry f e = go f (ℕ-discrete e HEAD) (ℕ-discrete e MARK) (ℕ-discrete e TAIL)
   where
