@@ -18,25 +18,21 @@ use Rattle.rules.specs.Pointers.{leadsTo}
 use Rattle.rules.specs.Outcomes.{Heap}
 use Rattle.rules.specs.Reach.{Edge, Reachable, root, edge}
 use Rattle.rules.specs.Marking.{Scene, State, state, marked, pushed, visitTo, visit, walkWords, walk, drainFor, drain, trace, rootTo, markRoot, markRoots, passBlock, passFrom, pass, rescanFor, rescan, markAll}
+use Rattle.rules.proofs.Words.{wordAt-same}
 use Rattle.rules.proofs.Marks.{marks-count, marks-leads, mark-here}
 use Rattle.keeping.specs.Keeping.{sceneOf, marking, collected, Proper, Agree, AgreeInWords}
 use Rattle.keeping.proofs.Sound.{Sound, sound-start, sound-mark, sound-walk, sound-popped, sound-root, sound-roots, sound-block, sound-pass}
-use Rattle.keeping.proofs.Kept.{well-fresh, collected-rest}
+use Rattle.keeping.proofs.Owners.{well-fresh}
+use Rattle.keeping.proofs.Kept.{collected-rest}
 use Rattle.keeping.proofs.Same.{collected-same}
 
 -- the same bytes are the same words
 pub agree-words : {base : ℕ} {roots : List ℕ} {h g : Heap} → Agree base roots h g → AgreeInWords base roots h g
-unfolding wordAt
-agree-words {h = h} {g = g} a = record { table = a .table; words = λ o r i l. word o i (λ j u. a .bytes o r (4 * i + j) (omega arith)) }
-  where
-    word : (o i : ℕ) → ((j : ℕ) → j < 4 → getD (h .pool) (16 * o + (4 * i + j)) 0 ≡ getD (g .pool) (16 * o + (4 * i + j)) 0)
-        → wordAt (h .pool) (4 * o + i) ≡ wordAt (g .pool) (4 * o + i)
-    word o i f =
-        let e₀ : 16 * o + (4 * i + 0) ≡ 4 * (4 * o + i) = omega arith in
-        let e₁ : 16 * o + (4 * i + 1) ≡ 4 * (4 * o + i) + 1 = omega arith in
-        let e₂ : 16 * o + (4 * i + 2) ≡ 4 * (4 * o + i) + 2 = omega arith in
-        let e₃ : 16 * o + (4 * i + 3) ≡ 4 * (4 * o + i) + 3 = omega arith in
-        rw (rw e₀ at (f 0 (omega arith)), rw e₁ at (f 1 (omega arith)), rw e₂ at (f 2 (omega arith)), rw e₃ at (f 3 (omega arith)))
+agree-words {h = h} {g = g} a =
+    record {
+      table = a .table;
+      words = λ o r i l. wordAt-same (h .pool) (g .pool) (4 * o + i) (4 * o + i) (λ j u. let e : 16 * o + (4 * i + j) ≡ 4 * (4 * o + i) + j = omega arith in rw e at (a .bytes o r (4 * i + j) (omega arith)));
+    }
 
 -- ---- the same objects are reachable
 

@@ -19,7 +19,8 @@ use Rattle.keeping.specs.Keeping.{sceneOf, marking, collected, FewRescan
 use Rattle.keeping.proofs.Sound.{sound}
 use Rattle.keeping.proofs.Rescans.{rescans-few, rescans-none}
 use Rattle.keeping.proofs.Swept.{Swept, kept, tail, freed, swept-entry}
-use Rattle.keeping.proofs.Kept.{well-fresh, collected-length, collected-used}
+use Rattle.keeping.proofs.Owners.{well-fresh}
+use Rattle.keeping.proofs.Kept.{collected-length, collected-used}
 
 -- a test that passes wherever another does counts as much or more
 count-mono : (f : ℕ → Bool) (xs ys : List ℕ) → length xs ≡ length ys → ((k : ℕ) → f (entryAt xs k) ≡ true → f (entryAt ys k) ≡ true) → count f xs ≤ count f ys

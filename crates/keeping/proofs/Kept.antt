@@ -1,12 +1,11 @@
 -- A collection keeps exactly the reachable objects, whole, and nothing else.
 -- Assumes nothing.
 use mathlib.Core.Path.{_≡_, refl, sym, _∙_}
-use mathlib.Core.Logic.{_≢_, _⊎_, inl, inr, ⊎-elim}
+use mathlib.Core.Logic.{_≢_, ⊎-elim}
 use mathlib.Core.Bool.{Bool, true, false}
 use mathlib.Core.List.{List}
 use Prim.Native.Nat.{ℕ, suc, _+_, _-_, _<_}
 use native.Mathlib.Omega.{arith}
-use native.Mathlib.Decide.{ℕ-discrete, decLt}
 use lib.ListN.{length}
 use Rattle.rules.specs.Entries.{FREE, HEAD, TAIL, MARK}
 use Rattle.rules.specs.Tables.{entryAt, wellFormed, blockCount}
@@ -14,57 +13,14 @@ use Rattle.rules.specs.Meaning.{Extent}
 use Rattle.rules.specs.Outcomes.{Heap}
 use Rattle.rules.specs.Reach.{Reachable}
 use Rattle.rules.specs.Marking.{sweep}
-use Rattle.rules.proofs.Tables.{entry-inside, well-says, well-of, extent-of, count-is}
+use Rattle.rules.proofs.Tables.{well-of, extent-of, count-is}
 use Rattle.rules.proofs.Marking.{head-inside, mark-inside, sweep-length}
 use Rattle.rules.proofs.Marks.{Marks, marks-count}
 use Rattle.keeping.specs.Keeping.{marking, collected, Proper, Owns, Held, Keeps}
 use Rattle.keeping.proofs.Sound.{Sound, sound}
+use Rattle.keeping.proofs.Owners.{well-fresh, well-first, owns-cases, owns-used, Owned, owner}
 use Rattle.keeping.proofs.Complete.{complete}
-use Rattle.keeping.proofs.Swept.{Swept, kept, tail, freed, swept, freeingAt, swept-mark, swept-head, swept-tail, tail-kept, tail-freed, Behind, behind}
-
--- a well-formed table has no MARK, no TAIL in block 0, and none after a FREE
-pub well-fresh : (es : List ℕ) → wellFormed es ≡ true → (k : ℕ) → entryAt es k ≢ MARK
-well-fresh es w k m = well-says es w .no-mark k (mark-inside es k m) m
-
-pub well-first : (es : List ℕ) → wellFormed es ≡ true → entryAt es 0 ≢ TAIL
-well-first es w t = well-says es w .first (entry-inside es 0 (λ f. omega arith)) t
-
-pub well-after : (es : List ℕ) → wellFormed es ≡ true → (k : ℕ) → entryAt es (suc k) ≡ TAIL → entryAt es k ≢ FREE
-well-after es w k t = well-says es w .after k (entry-inside es (suc k) (λ f. omega arith)) t
-
--- a block of an object is its head, or a TAIL behind it
-pub owns-cases : (es : List ℕ) (o k : ℕ) → Owns es o k → (k ≡ o) ⊎ ((o < k) × (entryAt es k ≡ TAIL))
-owns-cases es o k w = go (ℕ-discrete k o)
-  where
-    go : Dec (k ≡ o) → (k ≡ o) ⊎ ((o < k) × (entryAt es k ≡ TAIL))
-    go (yes q) = inl q
-    go (no q) =
-        let f = w .from in
-        let u = w .to in
-        let e : o + (k - o) ≡ k = omega arith in
-        inr (omega arith, rw e at (extent-of es o (head-inside es o (w .head)) .tail (k - o) (omega arith) (omega arith)))
-
-pub owns-used : (es : List ℕ) (o k : ℕ) → Owns es o k → entryAt es k ≢ FREE
-owns-used es o k w free =
-    ⊎-elim (λ q. let e = w .head in let z : entryAt es o ≡ FREE = rw q at free in omega arith) (λ q. let e = q .1 in omega arith) (owns-cases es o k w)
-
--- a block has one owner
-pub owns-one : (es : List ℕ) (o p k : ℕ) → Owns es o k → Owns es p k → o ≡ p
-owns-one es o p k v w = go (decLt o p) (decLt p o)
-  where
-    -- an object does not reach over a later head
-    over : (o p : ℕ) → Owns es o k → Owns es p k → o < p → ⊥
-    over o p v w l =
-        let f = w .from in
-        let u = v .to in
-        let e : o + (p - o) ≡ p = omega arith in
-        let t : entryAt es p ≡ TAIL = rw e at (extent-of es o (head-inside es o (v .head)) .tail (p - o) (omega arith) (omega arith)) in
-        omega (arith, w .head)
-
-    go : Dec (o < p) → Dec (p < o) → o ≡ p
-    go (yes l) d = absurd (over o p v w l)
-    go (no l) (yes r) = absurd (over p o w v r)
-    go (no l) (no r) = omega arith
+use Rattle.keeping.proofs.Swept.{Swept, kept, tail, freed, swept, freeingAt, swept-mark, swept-head, swept-tail, tail-kept, tail-freed}
 
 module _ (base : ℕ) (h : Heap) (roots : List ℕ) (room : ℕ) (well : wellFormed (h .entries) ≡ true) where
   -- the entries before, after the marking, and after the sweep
@@ -158,10 +114,10 @@ module _ (base : ℕ) (h : Heap) (roots : List ℕ) (room : ℕ) (well : wellFor
       go (tail t f) n = sym (was-tail k t)
       go (freed m t) n = absurd (n refl)
 
-  -- an object that is not reachable is freed, all its blocks
-  pub collected-freed : (o k : ℕ) → (Reachable base h roots o → ⊥) → Owns old o k → entryAt new k ≡ FREE
+  -- an object that is not marked is freed, all its blocks
+  unmarked-freed : (o k : ℕ) → entryAt mid o ≡ HEAD → Owns old o k → entryAt new k ≡ FREE
   unfolding collected
-  collected-freed o k dead w =
+  unmarked-freed o k still w =
       ⊎-elim
       (λ q. rw q (head-free (swept mid o)))
       (λ q.
@@ -172,49 +128,29 @@ module _ (base : ℕ) (h : Heap) (roots : List ℕ) (room : ℕ) (well : wellFor
       rw e at (tail-freed mid o (k - o) (λ i p j. x .tail i p (omega arith)) (omega arith) still))
       (owns-cases old o k w)
     where
-      still : entryAt mid o ≡ HEAD
-      still = ⊎-elim (λ q. q ∙ w .head) (λ q. absurd (dead (end .reached o (q .1)))) (marks .at o)
-
       head-free : {e : ℕ} → Swept (freeingAt false mid o) (entryAt mid o) e → e ≡ FREE
       head-free (kept m) = absurd (omega (arith, still))
       head-free (tail t f) = absurd (omega (arith, still))
       head-free (freed m t) = refl
 
-  -- ---- each entry is one of the four, so that there is nothing else
+  pub collected-freed : (o k : ℕ) → (Reachable base h roots o → ⊥) → Owns old o k → entryAt new k ≡ FREE
+  collected-freed o k dead w =
+      unmarked-freed o k (⊎-elim (λ q. q ∙ w .head) (λ q. absurd (dead (end .reached o (q .1)))) (marks .at o)) w
+
+  -- ---- with each entry one of the four there is nothing else
 
   module _ (small : (k : ℕ) → entryAt old k < 4) where
-    small-mid : (k : ℕ) → entryAt mid k < 4
-    small-mid k = ⊎-elim (λ q. rw q (small k)) (λ q. rw (q .1) (omega arith)) (marks .at k)
-
     -- every block that is not FREE is a block of a reachable object
     pub collected-rest : (k : ℕ) → entryAt new k ≢ FREE → Held base h roots k
-    unfolding collected
-    collected-rest k n = go (swept mid k) n
+    collected-rest k n = go (owner old (record { well = well; small = small }) k (λ f. n (collected-used k n ∙ f)))
       where
-        go : {e : ℕ} → Swept (freeingAt false mid k) (entryAt mid k) e → e ≢ FREE → Held base h roots k
-        go (kept m) n =
+        go : Owned old k → Held base h roots k
+        go w =
             record {
-              object = k;
-              reachable = end .reached k m;
-              owns = record { head = was-head k m; from = omega arith; to = omega (arith, extent k m .some-block) };
+              object = w .object;
+              reachable = ⊎-elim (λ q. absurd (n (unmarked-freed (w .object) k (q ∙ w .owns .head) (w .owns)))) (λ q. end .reached (w .object) (q .1)) (marks .at (w .object));
+              owns = w .owns;
             }
-        go (tail t f) n =
-            let b =
-            behind mid (λ z. well-first old well (was-tail 0 z))
-            (λ i z e. ⊎-elim (λ q. well-after old well i (was-tail (suc i) z) (sym q ∙ e)) (λ q. omega (arith, q .1)) (marks .at i)) small-mid k t f in
-            let l = b .before in
-            let x = extent (b .head) (b .mark) in
-            let u = x .some-block in
-            record {
-              object = b .head;
-              reachable = end .reached (b .head) (b .mark);
-              owns = record { head = was-head (b .head) (b .mark); from = omega arith; to = inside b x (decLt k (b .head + blockCount old (b .head))) };
-            }
-          where
-            inside : (b : Behind mid k) → Extent mid (b .head) (blockCount old (b .head)) → Dec (k < b .head + blockCount old (b .head)) → k < b .head + blockCount old (b .head)
-            inside b x (yes i) = i
-            inside b x (no i) = let u = x .some-block in absurd (x .next (b .tails (b .head + blockCount old (b .head)) (omega arith) (omega arith)))
-        go (freed m t) n = absurd (n refl)
 
     pub collected-proper : Proper new
     unfolding collected

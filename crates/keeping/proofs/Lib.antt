@@ -1,3 +1,4 @@
+pub mod Owners
 pub mod Sound
 pub mod Complete
 pub mod Rescans

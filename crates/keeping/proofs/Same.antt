@@ -16,7 +16,7 @@ use Rattle.rules.specs.Marking.{sweep}
 use Rattle.keeping.specs.Keeping.{marking, collected, Held, Keeps}
 use Rattle.keeping.proofs.Sound.{Sound, sound}
 use Rattle.keeping.proofs.Complete.{complete}
-use Rattle.keeping.proofs.Kept.{well-fresh}
+use Rattle.keeping.proofs.Owners.{well-fresh}
 
 -- ---- the statement determines the table
 

@@ -1,5 +1,5 @@
 -- What the sweep makes of each block, said block by block: whether TAILs are being freed at a block is told by the last head before it.
--- A MARK with its TAILs is kept, a HEAD with its TAILs is freed, what was FREE stays so, and no TAIL is kept without its head.
+-- A MARK with its TAILs is kept, and a HEAD with its TAILs is freed.
 -- Assumes nothing.
 use mathlib.Core.Path.{_≡_, refl, ap, sym, _∙_}
 use mathlib.Core.Logic.{_≢_}
@@ -106,43 +106,3 @@ module _ (es : List ℕ) (k j : ℕ) (tails : (i : ℕ) → 0 < i → i ≤ j �
   tail-freed m =
       let f = freeing-behind es k j (λ i l u. tails i l (omega arith)) some-tail in
       swept-at es (k + j) ∙ rw (f, m, tails j some-tail (omega arith))
-
--- ---- a TAIL that is kept has a MARK before it, with only TAILs between
-
-pub record Behind (es : List ℕ) (k : ℕ) : Type 0 where
-  pub head : ℕ
-  pub before : head < k
-  pub mark : entryAt es head ≡ MARK
-  pub tails : (i : ℕ) → head < i → i ≤ k → entryAt es i ≡ TAIL
-
-pub behind : (es : List ℕ) → entryAt es 0 ≢ TAIL → ((k : ℕ) → entryAt es (suc k) ≡ TAIL → entryAt es k ≢ FREE) → ((k : ℕ) → entryAt es k < 4)
-    → (k : ℕ) → entryAt es k ≡ TAIL → freeingAt false es k ≡ false → Behind es k
-unfolding freeingAt freeingAfter
-behind es first after small zero t f = absurd (first t)
-behind es first after small (suc k) t f =
-    go (ℕ-discrete (entryAt es k) HEAD) (ℕ-discrete (entryAt es k) TAIL) f (λ u g. behind es first after small k u g)
-  where
-    go : Dec (entryAt es k ≡ HEAD) → Dec (entryAt es k ≡ TAIL) → freeingAfter (freeingAt false es k) (entryAt es k) ≡ false
-        → (entryAt es k ≡ TAIL → freeingAt false es k ≡ false → Behind es k) → Behind es (suc k)
-    go (yes h) d f r = let g : true ≡ false = rw h at f in let z : _≡_ {A = ℕ} 0 1 = cc in absurd (omega arith)
-    go (no h) (yes u) f r =
-        let b = r u (rw u at f) in
-        let l = b .before in
-        record {
-          head = b .head;
-          before = omega arith;
-          mark = b .mark;
-          tails = λ i p q. more b i p q (ℕ-discrete i (suc k));
-        }
-      where
-        more : (b : Behind es k) (i : ℕ) → b .head < i → i ≤ suc k → Dec (i ≡ suc k) → entryAt es i ≡ TAIL
-        more b i p q (yes e) = rw e t
-        more b i p q (no e) = b .tails i p (omega arith)
-    go (no h) (no u) f r =
-        let n = after k t in
-        record {
-          head = k;
-          before = omega arith;
-          mark = omega (arith, small k, n);
-          tails = λ i p q. let e : i ≡ suc k = omega arith in rw e t;
-        }
