@@ -42,7 +42,7 @@ module _ (base : ℕ) (h : Heap) (roots : List ℕ) (room : ℕ) (well : wellFor
   marks : Marks old mid
   marks = end .marks
 
-  -- a reachable object is MARK after the marking, and was HEAD
+  -- a reachable object is MARK after the marking, and what is MARK was HEAD
   reached : (o : ℕ) → Reachable base h roots o → entryAt mid o ≡ MARK
   reached o r = complete base h room fresh roots o r
 
@@ -63,9 +63,6 @@ module _ (base : ℕ) (h : Heap) (roots : List ℕ) (room : ℕ) (well : wellFor
   pub collected-only : (o : ℕ) → entryAt new o ≡ HEAD → Reachable base h roots o
   unfolding collected
   collected-only o q = end .reached o (swept-head mid o q)
-
-  pub reachable-head : (o : ℕ) → Reachable base h roots o → entryAt old o ≡ HEAD
-  reachable-head o r = was-head o (reached o r)
 
   -- the object in the marked table
   extent : (o : ℕ) → entryAt mid o ≡ MARK → Extent mid o (blockCount old o)

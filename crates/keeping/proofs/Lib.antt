@@ -7,3 +7,4 @@ pub mod Kept
 pub mod Counts
 pub mod Same
 pub mod Alike
+pub mod Collections

@@ -1,14 +1,18 @@
--- Which object a block belongs to: in a proper table each used block has one owner.
+-- Which object a block belongs to: in a proper table each used block has one owner. What is reachable is an object.
 -- Assumes nothing.
 use mathlib.Core.Path.{_≡_}
 use mathlib.Core.Logic.{_≢_, _⊎_, inl, inr, ⊎-elim}
 use mathlib.Core.Bool.{true}
 use mathlib.Core.List.{List}
-use Prim.Native.Nat.{ℕ, zero, suc, _+_, _-_, _<_}
+use Prim.Native.Nat.{ℕ, zero, suc, _+_, _*_, _-_, _<_}
 use native.Mathlib.Omega.{arith}
 use native.Mathlib.Decide.{ℕ-discrete, decLt}
 use Rattle.rules.specs.Entries.{FREE, HEAD, TAIL, MARK}
 use Rattle.rules.specs.Tables.{entryAt, wellFormed, blockCount}
+use Rattle.rules.specs.Words.{wordAt}
+use Rattle.rules.specs.Outcomes.{Heap}
+use Rattle.rules.specs.Reach.{Reachable, root, edge}
+use Rattle.rules.proofs.Marks.{leads-head}
 use Rattle.rules.proofs.Tables.{entry-inside, well-says, extent-of}
 use Rattle.rules.proofs.Marking.{head-inside, mark-inside}
 use Rattle.keeping.specs.Keeping.{Proper, Owns}
@@ -91,3 +95,11 @@ owner es p k n = go k n
         at (suc k)
         (λ t. let w = go k (well-after es (p .well) k t) in record { object = w .object; owns = owns-next es (w .object) k (w .owns) t })
         n (ℕ-discrete (entryAt es (suc k)) HEAD)
+
+-- what is reachable is a HEAD
+pub reachable-head : (base : ℕ) (h : Heap) (roots : List ℕ) → wellFormed (h .entries) ≡ true → (o : ℕ) → Reachable base h roots o → entryAt (h .entries) o ≡ HEAD
+reachable-head base h roots well o r = ⊎-elim (λ q. q) (λ q. absurd (well-fresh (h .entries) well o q)) (led o r)
+  where
+    led : (o : ℕ) → Reachable base h roots o → (entryAt (h .entries) o ≡ HEAD) ⊎ (entryAt (h .entries) o ≡ MARK)
+    led o (root {w = w} m q) = leads-head base (h .entries) w o q
+    led o (edge {o = p} r x) = leads-head base (h .entries) (wordAt (h .pool) (4 * p + x .word)) o (x .leads)

@@ -4,12 +4,12 @@ use mathlib.Core.Path.{_≡_}
 use mathlib.Core.Logic.{_≢_}
 use mathlib.Core.Bool.{true}
 use mathlib.Core.List.{List}
-use Prim.Native.Nat.{ℕ, _+_, _*_, _-_, _/_, _≤_, _<_}
+use Prim.Native.Nat.{ℕ, _+_, _*_, _-_, _/_, _%_, _≤_, _<_}
 use lib.ListN.{length, getD, replicate}
 use Rattle.rules.specs.Words.{wordAt, wordsOf}
 use Rattle.rules.specs.Entries.{FREE, HEAD}
 use Rattle.rules.specs.Tables.{entryAt, wellFormed, blockCount, objects}
-use Rattle.rules.specs.Outcomes.{Heap, Outcome, changeFrom}
+use Rattle.rules.specs.Outcomes.{Heap, Answer, Outcome, changeFrom}
 use Rattle.rules.specs.Reach.{Reachable}
 use Rattle.rules.specs.Marking.{Scene, Marked, markAll, sweep}
 
@@ -90,3 +90,13 @@ pub record Agree (base : ℕ) (roots : List ℕ) (h g : Heap) : Type 0 where
 pub record AgreeInWords (base : ℕ) (roots : List ℕ) (h g : Heap) : Type 0 where
   pub table : h .entries ≡ g .entries
   pub words : (o : ℕ) → Reachable base h roots o → (i : ℕ) → i < 4 * blockCount (h .entries) o → wordAt (h .pool) (4 * o + i) ≡ wordAt (g .pool) (4 * o + i)
+
+-- an answer but for the number of rescans
+abbrev pub butRescans : Answer → Answer
+butRescans a =
+    record { refusal = a .refusal; block = a .block; change = a .change; kept = a .kept; rescans = 0; used = a .used; objects = a .objects; longest = a .longest; value = a .value }
+
+-- a mark stack of 0 to 64 whole entries
+pub record GoodStack (stack : List ℕ) : Type 0 where
+  pub whole : length stack % 4 ≡ 0
+  pub short : length stack / 4 ≤ 64
