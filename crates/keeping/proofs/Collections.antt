@@ -83,7 +83,8 @@ module _ (base : ℕ) (h : Heap) (roots stack : List ℕ) (accepted : collect ba
         pool = refl;
         table = keeps base h ws room (record { well = collect-well; small = small });
         kept = refl;
-        rescans = few-rescans base h ws room collect-well;
+        passes = refl;
+        few = few-rescans base h ws room collect-well;
         change = refl;
         stack = refl;
       })

@@ -25,7 +25,7 @@ marking base h roots room = markAll (sceneOf base h room) roots (h .entries)
 unfoldable pub collected : ℕ → Heap → List ℕ → ℕ → List ℕ
 collected base h roots room = sweep (marking base h roots room .last .entries)
 
--- a table that bytes give and the rules accept: well-formed, and each entry one of the four
+-- a table that bytes give and the rules accept: well-formed, and each entry one of the four (a list may hold other numbers, a table cannot)
 pub record Proper (es : List ℕ) : Type 0 where
   pub well : wellFormed es ≡ true
   pub small : (k : ℕ) → entryAt es k < 4
@@ -74,8 +74,10 @@ pub record Collected (base : ℕ) (h : Heap) (roots lent : List ℕ) (o : Outcom
   pub table : Keeps base h (wordsOf roots) (o .heap .entries)
   -- the kept objects are counted
   pub kept : o .answer .kept ≡ objects (o .heap .entries)
-  -- and the rescans, which are few
-  pub rescans : FewRescans (o .answer .kept) (length lent / 4) (o .answer .rescans)
+  -- and the rescans of the cycle
+  pub passes : o .answer .rescans ≡ marking base h (wordsOf roots) (length lent / 4) .rescans
+  -- which are few
+  pub few : FewRescans (o .answer .kept) (length lent / 4) (o .answer .rescans)
   -- the change in used blocks is answered
   pub change : o .answer .change ≡ changeFrom (h .entries) (o .heap .entries)
   -- every mark stack entry is zero
