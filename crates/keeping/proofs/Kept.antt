@@ -44,7 +44,7 @@ module _ (base : ℕ) (h : Heap) (roots : List ℕ) (room : ℕ) (well : wellFor
 
   -- a reachable object is MARK after the marking, and what is MARK was HEAD
   reached : (o : ℕ) → Reachable base h roots o → entryAt mid o ≡ MARK
-  reached o r = complete base h room fresh roots o r
+  reached o r = complete base h roots room fresh o r
 
   was-head : (o : ℕ) → entryAt mid o ≡ MARK → entryAt old o ≡ HEAD
   was-head o m = ⊎-elim (λ q. absurd (fresh o (sym q ∙ m))) (λ q. q .0) (marks .at o)

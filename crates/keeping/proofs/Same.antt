@@ -80,8 +80,8 @@ module _ (base : ℕ) (h g : Heap) (roots roots′ : List ℕ) (room room′ : �
       go : (k : ℕ) → (entryAt a k ≡ entryAt (h .entries) k) ⊎ ((entryAt (h .entries) k ≡ HEAD) × (entryAt a k ≡ MARK))
           → (entryAt b k ≡ entryAt (g .entries) k) ⊎ ((entryAt (g .entries) k ≡ HEAD) × (entryAt b k ≡ MARK)) → entryAt a k ≡ entryAt b k
       go k (inl p) (inl q) = p ∙ ap (λ (es : List ℕ). entryAt es k) table ∙ sym q
-      go k (inr p) x = p .1 ∙ sym (complete base g room′ fresh′ roots′ k (there k (s .reached k (p .1))))
-      go k (inl p) (inr q) = complete base h room fresh roots k (back k (t .reached k (q .1))) ∙ sym (q .1)
+      go k (inr p) x = p .1 ∙ sym (complete base g roots′ room′ fresh′ k (there k (s .reached k (p .1))))
+      go k (inl p) (inr q) = complete base h roots room fresh k (back k (t .reached k (q .1))) ∙ sym (q .1)
 
   -- and after the sweep
   pub collected-same : collected base h roots room ≡ collected base g roots′ room′
