@@ -2,7 +2,7 @@
 -- At the end the flag is clear and the stack empty, so the MARKs are closed under the words, and each root's target is among them.
 -- Assumes nothing.
 use mathlib.Core.Path.{_≡_, refl, ap, sym, _∙_}
-use mathlib.Core.Logic.{_⊎_, inl, inr, ⊎-elim}
+use mathlib.Core.Logic.{_≢_, _⊎_, inl, inr, ⊎-elim}
 use mathlib.Core.Bool.{false}
 use mathlib.Core.List.{List, [], _∷_, List·Memᴰ, List·Memᴰ·head, List·Memᴰ·tail, List·Memᴰ·cases-cons, List·Memᴰ·not-nil}
 use mathlib.Core.Option.{some}
@@ -21,7 +21,7 @@ use Rattle.rules.proofs.Marking.{mark-inside, Visits, stays, pushes, loses, vis
 use Rattle.rules.proofs.Marks.{Marks, marks-none, marks-more, mark-stays, mark-cases, mark-here, marks-count, marks-leads, leads-head}
 use Rattle.keeping.specs.Keeping.{sceneOf, marking}
 
-module _ (base : ℕ) (h : Heap) (room : ℕ) (fresh : (k : ℕ) → entryAt (h .entries) k ≡ MARK → ⊥) where
+module _ (base : ℕ) (h : Heap) (room : ℕ) where
   abbrev c : Scene
   c = sceneOf base h room
 
@@ -35,7 +35,7 @@ module _ (base : ℕ) (h : Heap) (room : ℕ) (fresh : (k : ℕ) → entryAt (h 
   visits-stay {s = s} i (pushes k q e r) m = mark-stays (s .entries) k i e m
   visits-stay {s = s} i (loses k q e r) m = mark-stays (s .entries) k i e m
 
-  -- what a word leads to was HEAD at the start, and is HEAD or MARK now
+  -- what a word leads to is HEAD or MARK
   led : (w k : ℕ) (es : List ℕ) → Marks (h .entries) es → leadsTo base (h .entries) w ≡ some k → (entryAt es k ≡ HEAD) ⊎ (entryAt es k ≡ MARK)
   led w k es g q = leads-head base es w k (marks-leads base (h .entries) es w g ∙ q)
 
@@ -73,7 +73,7 @@ module _ (base : ℕ) (h : Heap) (room : ℕ) (fresh : (k : ℕ) → entryAt (h 
       go (no p) r = r (omega arith)
 
   -- each word of the object at o leads to a MARK
-  pub Black : List ℕ → ℕ → Type 0
+  Black : List ℕ → ℕ → Type 0
   Black es o = (k : ℕ) → Edge base h o k → entryAt es k ≡ MARK
 
   black-stays : (es : List ℕ) (k o : ℕ) → entryAt es k ≡ HEAD → Black es o → Black (set es k MARK) o
@@ -81,10 +81,10 @@ module _ (base : ℕ) (h : Heap) (room : ℕ) (fresh : (k : ℕ) → entryAt (h 
   black-stays es k o e b i g = mark-stays es k i e (b i g)
 
   -- The invariant. M must be marked, and X need not be black yet.
-  pub record Grey (M X : ℕ → Type 0) (s : State) : Type 0 where
-    pub marks : Marks (h .entries) (s .entries)
-    pub has : (k : ℕ) → M k → entryAt (s .entries) k ≡ MARK
-    pub grey : s .overflow ≡ false → (o : ℕ) → entryAt (s .entries) o ≡ MARK → X o ⊎ (List·Memᴰ o (s .stack) ⊎ Black (s .entries) o)
+  record Grey (M X : ℕ → Type 0) (s : State) : Type 0 where
+    marks : Marks (h .entries) (s .entries)
+    has : (k : ℕ) → M k → entryAt (s .entries) k ≡ MARK
+    grey : s .overflow ≡ false → (o : ℕ) → entryAt (s .entries) o ≡ MARK → X o ⊎ (List·Memᴰ o (s .stack) ⊎ Black (s .entries) o)
 
   module _ (M : ℕ → Type 0) where
     grey-visits : (X : ℕ → Type 0) {w : ℕ} {s z : State} → Visits c w s z → Grey M X s → Grey M X z
@@ -169,9 +169,9 @@ module _ (base : ℕ) (h : Heap) (room : ℕ) (fresh : (k : ℕ) → entryAt (h 
         more o x (no q) = inl (omega arith)
 
     -- between the passes: the stack is empty, and while the flag is clear each MARK is black
-    pub record Rest (s : State) : Type 0 where
-      pub empty : s .stack ≡ []
-      pub so : Grey M (λ o. ⊥) s
+    record Rest (s : State) : Type 0 where
+      empty : s .stack ≡ []
+      so : Grey M (λ o. ⊥) s
 
     rest-pass : (s : State) → Rest s → Rest (pass c s)
     unfolding pass
@@ -217,10 +217,10 @@ module _ (base : ℕ) (h : Heap) (room : ℕ) (fresh : (k : ℕ) → entryAt (h 
       }
 
   -- what some word of a list leads to
-  pub record Led (ws : List ℕ) (k : ℕ) : Type 0 where
-    pub word : ℕ
-    pub among : List·Memᴰ word ws
-    pub leads : leadsTo base (h .entries) word ≡ some k
+  record Led (ws : List ℕ) (k : ℕ) : Type 0 where
+    word : ℕ
+    among : List·Memᴰ word ws
+    leads : leadsTo base (h .entries) word ≡ some k
 
   rest-roots : (ws : List ℕ) (M : ℕ → Type 0) (s : State) → Rest M s → Rest (λ k. M k ⊎ Led ws k) (markRoots c ws s)
   unfolding markRoots
@@ -233,28 +233,32 @@ module _ (base : ℕ) (h : Heap) (room : ℕ) (fresh : (k : ℕ) → entryAt (h 
       (λ p. ⊎-elim (λ q. z .so .has k (inl (inr (rw q at (p .leads))))) (λ q. z .so .has k (inr (record { word = p .word; among = q; leads = p .leads })))
       (List·Memᴰ·cases-cons (p .among))))
 
-  -- what is reachable is MARK at the end
-  pub complete : (roots : List ℕ) (k : ℕ) → Reachable base h roots k → entryAt (marking base h roots room .last .entries) k ≡ MARK
-  unfolding marking markAll Black
-  complete roots k r = go k r
-    where
-      s₀ : State
-      s₀ = state (h .entries) [] false
+-- what is reachable is MARK at the end, if nothing is MARK at the start
+pub complete : (base : ℕ) (h : Heap) (roots : List ℕ) (room : ℕ) → ((k : ℕ) → entryAt (h .entries) k ≢ MARK)
+    → (k : ℕ) → Reachable base h roots k → entryAt (marking base h roots room .last .entries) k ≡ MARK
+unfolding marking markAll Black
+complete base h roots room fresh k r = go k r
+  where
+    s₀ : State
+    s₀ = state (h .entries) [] false
 
-      s₁ : State
-      s₁ = markRoots c roots s₀
+    s₁ : State
+    s₁ = markRoots (sceneOf base h room) roots s₀
 
-      z : State
-      z = rescan c s₁ 0 .last
+    z : State
+    z = rescan (sceneOf base h room) s₁ 0 .last
 
-      start : Rest (λ k. ⊥) s₀
-      start = record { empty = refl; so = record { marks = marks-none (h .entries); has = λ i. absurd; grey = λ u o m. absurd (fresh o m) } }
+    M : ℕ → Type 0
+    M k = ⊥ ⊎ Led base h room roots k
 
-      end : Rest (λ k. ⊥ ⊎ Led roots k) z
-      end = rescan-keeps c (Rest (λ k. ⊥ ⊎ Led roots k)) (rest-pass (λ k. ⊥ ⊎ Led roots k)) s₁ 0 (rest-roots roots (λ k. ⊥) s₀ start)
+    start : Rest base h room (λ k. ⊥) s₀
+    start = record { empty = refl; so = record { marks = marks-none (h .entries); has = λ i. absurd; grey = λ u o m. absurd (fresh o m) } }
 
-      go : (k : ℕ) → Reachable base h roots k → entryAt (z .entries) k ≡ MARK
-      go k (root m q) = end .so .has k (inr (record { word = _; among = m; leads = q }))
-      go k (edge {o = o} r x) =
-          ⊎-elim (λ e. absurd e) (λ y. ⊎-elim (λ l. absurd (List·Memᴰ·not-nil (rw (end .empty) at l))) (λ l. l k x) y)
-          (end .so .grey (rescanned c s₁ 0) o (go o r))
+    end : Rest base h room M z
+    end = rescan-keeps (sceneOf base h room) (Rest base h room M) (rest-pass base h room M) s₁ 0 (rest-roots base h room roots (λ k. ⊥) s₀ start)
+
+    go : (k : ℕ) → Reachable base h roots k → entryAt (z .entries) k ≡ MARK
+    go k (root m q) = end .so .has k (inr (record { word = _; among = m; leads = q }))
+    go k (edge {o = o} r x) =
+        ⊎-elim (λ e. absurd e) (λ y. ⊎-elim (λ l. absurd (List·Memᴰ·not-nil (rw (end .empty) at l))) (λ l. l k x) y)
+        (end .so .grey (rescanned (sceneOf base h room) s₁ 0) o (go o r))

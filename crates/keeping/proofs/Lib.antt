@@ -1,3 +1,10 @@
+pub mod Owners
 pub mod Sound
 pub mod Complete
 pub mod Rescans
+pub mod Swept
+pub mod Kept
+pub mod Counts
+pub mod Same
+pub mod Alike
+pub mod Collections

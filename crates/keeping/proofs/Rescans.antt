@@ -18,10 +18,10 @@ use Rattle.rules.proofs.Marking.{objects-mark, Visits, stays, pushes, loses, vi
 -- m HEADs at the start, and something was marked since: fewer HEADs with the stack, fewer with the flag,
 -- and if the flag is set, then more objects than the stack has room for were marked after the first
 module _ (c : Scene) (m : ℕ) where
-  pub record Spent (s : State) : Type 0 where
-    pub stacked : objects (s .entries) + length (s .stack) < m
-    pub flagged : objects (s .entries) + one (s .overflow) < m
-    pub lost : s .overflow ≡ true → objects (s .entries) + c .room + 2 ≤ m
+  record Spent (s : State) : Type 0 where
+    stacked : objects (s .entries) + length (s .stack) < m
+    flagged : objects (s .entries) + one (s .overflow) < m
+    lost : s .overflow ≡ true → objects (s .entries) + c .room + 2 ≤ m
 
   spent-visits : {w : ℕ} {s z : State} → Visits c w s z → Spent s → Spent z
   spent-visits (stays _) g = g
@@ -44,7 +44,7 @@ module _ (c : Scene) (m : ℕ) where
       (λ es k st o p. let a = p .stacked in spent-walk k (state es st o) (record { stacked = omega arith; flagged = p .flagged; lost = p .lost })) s g
 
   -- after some roots: nothing was marked, or something was
-  pub Begun : State → Type 0
+  Begun : State → Type 0
   Begun s = (s .stack ≡ []) × (((s .overflow ≡ false) × (objects (s .entries) ≤ m)) ⊎ Spent s)
 
   spent-mark : (k : ℕ) (s : State) → entryAt (s .entries) k ≡ HEAD → s .stack ≡ [] → ((s .overflow ≡ false) × (objects (s .entries) ≤ m)) ⊎ Spent s

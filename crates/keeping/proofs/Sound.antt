@@ -1,7 +1,7 @@
 -- What the marking marks is reachable: each state of the cycle has marks on reachable objects alone, and only marked objects on its stack.
 -- Assumes nothing.
 use mathlib.Core.Path.{_≡_, refl, sym, _∙_}
-use mathlib.Core.Logic.{⊎-elim}
+use mathlib.Core.Logic.{_≢_, ⊎-elim}
 use mathlib.Core.Bool.{Bool, false}
 use mathlib.Core.List.{List, [], _∷_, List·Memᴰ, List·Memᴰ·head, List·Memᴰ·tail, List·Memᴰ·cases-cons, List·Memᴰ·not-nil}
 use mathlib.Core.Option.{some}
@@ -27,7 +27,7 @@ module _ (base : ℕ) (h : Heap) (roots : List ℕ) (room : ℕ) where
     pub reached : (k : ℕ) → entryAt (s .entries) k ≡ MARK → Reachable base h roots k
     pub stacked : (k : ℕ) → List·Memᴰ k (s .stack) → entryAt (s .entries) k ≡ MARK
 
-  pub sound-start : ((k : ℕ) → entryAt (h .entries) k ≡ MARK → ⊥) → Sound (state (h .entries) [] false)
+  pub sound-start : ((k : ℕ) → entryAt (h .entries) k ≢ MARK) → Sound (state (h .entries) [] false)
   sound-start fresh =
       record {
         marks = marks-none (h .entries);
@@ -64,7 +64,7 @@ module _ (base : ℕ) (h : Heap) (roots : List ℕ) (room : ℕ) where
       (λ i l z p. sound-visits (visits c (wordAt (h .pool) (4 * k + i)) z)
       (λ j q. edge (g .reached k m) (record { word = i; inside = rw e at l; leads = q })) p) g
 
-  sound-popped : (es : List ℕ) (k : ℕ) (st : List ℕ) (o : Bool) → Sound (state es (k ∷ st) o) → Sound (walk c k (state es st o))
+  pub sound-popped : (es : List ℕ) (k : ℕ) (st : List ℕ) (o : Bool) → Sound (state es (k ∷ st) o) → Sound (walk c k (state es st o))
   sound-popped es k st o g =
       sound-walk k (state es st o) (g .stacked k (List·Memᴰ·head refl))
       (record { marks = g .marks; reached = g .reached; stacked = λ i m. g .stacked i (List·Memᴰ·tail m) })
@@ -104,7 +104,7 @@ module _ (base : ℕ) (h : Heap) (roots : List ℕ) (room : ℕ) where
       (record { marks = g .marks; reached = g .reached; stacked = g .stacked })
 
   -- the whole marking, from a table without MARKs
-  pub sound : ((k : ℕ) → entryAt (h .entries) k ≡ MARK → ⊥) → Sound (marking base h roots room .last)
+  pub sound : ((k : ℕ) → entryAt (h .entries) k ≢ MARK) → Sound (marking base h roots room .last)
   unfolding marking markAll
   sound fresh =
       let s = state (h .entries) [] false in

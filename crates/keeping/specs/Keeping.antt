@@ -1,15 +1,15 @@
 -- What a collection does, without saying how: the statements that the theorems of this crate show of the collection cycle.
 -- Assumes nothing.
 use mathlib.Core.Path.{_≡_}
-use mathlib.Core.Logic.{_⊎_}
+use mathlib.Core.Logic.{_≢_}
 use mathlib.Core.Bool.{true}
 use mathlib.Core.List.{List}
-use Prim.Native.Nat.{ℕ, _+_, _*_, _-_, _/_, _≤_, _<_}
+use Prim.Native.Nat.{ℕ, _+_, _*_, _-_, _/_, _%_, _≤_, _<_}
 use lib.ListN.{length, getD, replicate}
 use Rattle.rules.specs.Words.{wordAt, wordsOf}
 use Rattle.rules.specs.Entries.{FREE, HEAD}
-use Rattle.rules.specs.Tables.{entryAt, wellFormed, blockCount, used, objects}
-use Rattle.rules.specs.Outcomes.{Heap, Outcome, changeFrom}
+use Rattle.rules.specs.Tables.{entryAt, wellFormed, blockCount, objects}
+use Rattle.rules.specs.Outcomes.{Heap, Answer, Outcome, changeFrom}
 use Rattle.rules.specs.Reach.{Reachable}
 use Rattle.rules.specs.Marking.{Scene, Marked, markAll, sweep}
 
@@ -25,7 +25,7 @@ marking base h roots room = markAll (sceneOf base h room) roots (h .entries)
 unfoldable pub collected : ℕ → Heap → List ℕ → ℕ → List ℕ
 collected base h roots room = sweep (marking base h roots room .last .entries)
 
--- a table that its bytes give and the rules accept: well-formed, each entry one of the four
+-- a table that bytes give and the rules accept: well-formed, and each entry one of the four (a list may hold other numbers, a table cannot)
 pub record Proper (es : List ℕ) : Type 0 where
   pub well : wellFormed es ≡ true
   pub small : (k : ℕ) → entryAt es k < 4
@@ -36,7 +36,13 @@ pub record Owns (es : List ℕ) (o k : ℕ) : Type 0 where
   pub from : o ≤ k
   pub to : k < o + blockCount es o
 
--- The entries `after` are what a collection of the heap from the roots has to leave. This says every entry of them.
+-- block k is a block of a reachable object
+pub record Held (base : ℕ) (h : Heap) (roots : List ℕ) (k : ℕ) : Type 0 where
+  pub object : ℕ
+  pub reachable : Reachable base h roots object
+  pub owns : Owns (h .entries) object k
+
+-- The entries `after` are what a collection of the heap from the roots has to leave. This says each of them.
 pub record Keeps (base : ℕ) (h : Heap) (roots after : List ℕ) : Type 0 where
   -- there are as many blocks as before
   pub long : length after ≡ length (h .entries)
@@ -44,9 +50,55 @@ pub record Keeps (base : ℕ) (h : Heap) (roots after : List ℕ) : Type 0 where
   pub kept : (o : ℕ) → Reachable base h roots o → entryAt after o ≡ HEAD
   -- and no other
   pub only : (o : ℕ) → entryAt after o ≡ HEAD → Reachable base h roots o
-  -- a kept object has all its blocks, as they were
-  pub whole : (o k : ℕ) → Reachable base h roots o → Owns (h .entries) o k → entryAt after k ≡ entryAt (h .entries) k
-  -- and no more of them
+  -- a kept object has as many blocks as it had
   pub count : (o : ℕ) → Reachable base h roots o → blockCount after o ≡ blockCount (h .entries) o
-  -- every other block is FREE
-  pub rest : (k : ℕ) → ((o : ℕ) → Reachable base h roots o → Owns (h .entries) o k → ⊥) → entryAt after k ≡ FREE
+  -- and they are as they were
+  pub whole : (k : ℕ) → Held base h roots k → entryAt after k ≡ entryAt (h .entries) k
+  -- every block of no kept object is FREE
+  pub rest : (k : ℕ) → entryAt after k ≢ FREE → Held base h roots k
+  -- no MARK is left, and the table is well-formed
+  pub proper : Proper after
+
+-- The number of rescans of a collection that keeps so many objects, with a mark stack that has room for so many entries.
+pub record FewRescans (kept room rescans : ℕ) : Type 0 where
+  -- it is at most the kept objects less one, and 0 if none are kept
+  pub few : rescans ≤ kept - 1
+  -- it is 0 whenever the stack has at least that many entries
+  pub none : kept - 1 ≤ room → rescans ≡ 0
+
+-- What an accepted collection answers and leaves. The roots and the lent mark stack are bytes.
+pub record Collected (base : ℕ) (h : Heap) (roots lent : List ℕ) (o : Outcome) : Type 0 where
+  -- the pool is not written
+  pub pool : o .heap .pool ≡ h .pool
+  -- the table is left as it has to be
+  pub table : Keeps base h (wordsOf roots) (o .heap .entries)
+  -- the kept objects are counted
+  pub kept : o .answer .kept ≡ objects (o .heap .entries)
+  -- and the rescans of the cycle
+  pub passes : o .answer .rescans ≡ marking base h (wordsOf roots) (length lent / 4) .rescans
+  -- which are few
+  pub few : FewRescans (o .answer .kept) (length lent / 4) (o .answer .rescans)
+  -- the change in used blocks is answered
+  pub change : o .answer .change ≡ changeFrom (h .entries) (o .heap .entries)
+  -- every mark stack entry is zero
+  pub stack : o .stack ≡ replicate (length lent) 0
+
+-- Two heaps that differ in dead bytes alone: the same table, and the same bytes in each object that is reachable in the first.
+pub record Agree (base : ℕ) (roots : List ℕ) (h g : Heap) : Type 0 where
+  pub table : h .entries ≡ g .entries
+  pub bytes : (o : ℕ) → Reachable base h roots o → (i : ℕ) → i < 16 * blockCount (h .entries) o → getD (h .pool) (16 * o + i) 0 ≡ getD (g .pool) (16 * o + i) 0
+
+-- the same, in words
+pub record AgreeInWords (base : ℕ) (roots : List ℕ) (h g : Heap) : Type 0 where
+  pub table : h .entries ≡ g .entries
+  pub words : (o : ℕ) → Reachable base h roots o → (i : ℕ) → i < 4 * blockCount (h .entries) o → wordAt (h .pool) (4 * o + i) ≡ wordAt (g .pool) (4 * o + i)
+
+-- an answer but for the number of rescans
+abbrev pub butRescans : Answer → Answer
+butRescans a =
+    record { refusal = a .refusal; block = a .block; change = a .change; kept = a .kept; rescans = 0; used = a .used; objects = a .objects; longest = a .longest; value = a .value }
+
+-- a mark stack of 0 to 64 whole entries
+pub record GoodStack (stack : List ℕ) : Type 0 where
+  pub whole : length stack % 4 ≡ 0
+  pub short : length stack / 4 ≤ 64

@@ -18,20 +18,16 @@ use Rattle.rules.specs.Words.{wordAt}
 use Rattle.rules.specs.Entries.{FREE, HEAD, MARK}
 use Rattle.rules.specs.Tables.{entryAt, isHead, objects, blockCount}
 use Rattle.rules.specs.Pointers.{leadsTo}
-use Rattle.rules.proofs.Lists.{one, count-le, count-set}
+use Rattle.rules.proofs.Lists.{one, count-set}
+use Rattle.rules.proofs.Tables.{entry-inside, objects-le}
 use Rattle.rules.specs.Marking.{Scene, State, state, marked, pushed, visitTo, visit, walkWords, walk, drainFor, drain, trace, rootTo, markRoot, markRoots, passBlock, passFrom, pass, Marked, markedIn, rescanFor, rescan, markAll, sweptEntry, freeingAfter, sweepFrom, sweep}
 
--- a block whose entry is not FREE is a block of the table
-pub used-inside : (es : List ℕ) (k : ℕ) → (entryAt es k ≡ FREE → ⊥) → k < length es
-used-inside [] k h = absurd (h refl)
-used-inside (e ∷ es) zero h = omega arith
-used-inside (e ∷ es) (suc k) h = omega (arith, used-inside es k h)
-
+-- a HEAD or a MARK is a block of the table
 pub head-inside : (es : List ℕ) (k : ℕ) → entryAt es k ≡ HEAD → k < length es
-head-inside es k h = used-inside es k (λ q. omega arith)
+head-inside es k h = entry-inside es k (λ q. omega arith)
 
 pub mark-inside : (es : List ℕ) (k : ℕ) → entryAt es k ≡ MARK → k < length es
-mark-inside es k h = used-inside es k (λ q. omega arith)
+mark-inside es k h = entry-inside es k (λ q. omega arith)
 
 -- a HEAD that becomes MARK is one HEAD fewer
 pub objects-mark : (es : List ℕ) (k : ℕ) → entryAt es k ≡ HEAD → suc (objects (set es k MARK)) ≡ objects es
@@ -39,10 +35,6 @@ unfolding objects
 objects-mark es k h =
     let z : one (isHead (entryAt es k)) ≡ 1 = ap (λ (e : ℕ). one (isHead e)) h in
     omega (arith, count-set isHead es k MARK FREE (head-inside es k h))
-
-pub objects-most : (es : List ℕ) → objects es ≤ length es
-unfolding objects
-objects-most es = count-le isHead es
 
 -- What a word of a walked object does. Nothing, if it leads to no HEAD; else that becomes MARK, and is pushed or, with the stack full, lost.
 pub data Visits (c : Scene) (w : ℕ) (s : State) : State → Type 0 where
@@ -316,7 +308,7 @@ unfolding toRescan
 rescan-most s = go (s .overflow)
   where
     go : (o : Bool) → pick o (suc (objects (s .entries))) 0 ≤ suc (length (s .entries))
-    go true = omega (arith, objects-most (s .entries))
+    go true = omega (arith, objects-le (s .entries))
     go false = omega arith
 
 rescan-enough : (c : Scene) (m n : ℕ) (es st : List ℕ) (o : Bool) (r : ℕ) → toRescan (state es st o) ≤ m → toRescan (state es st o) ≤ n

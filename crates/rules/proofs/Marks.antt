@@ -16,7 +16,8 @@ use Rattle.rules.specs.Tests.{pick, either, leading}
 use Rattle.rules.specs.Entries.{FREE, HEAD, TAIL, MARK}
 use Rattle.rules.specs.Tables.{entryAt, isTail, blockCount}
 use Rattle.rules.specs.Pointers.{targetOf, headsObject, headAt, leadsTo}
-use Rattle.rules.proofs.Marking.{used-inside, head-inside}
+use Rattle.rules.proofs.Tables.{entry-inside}
+use Rattle.rules.proofs.Marking.{head-inside}
 
 -- the entries es are es₀ with some HEADs made MARK
 pub record Marks (es₀ es : List ℕ) : Type 0 where
@@ -108,4 +109,4 @@ leads-head base es w k q = go (targetOf base (length es) w) q
     go (some j) l = at j (eqb (entryAt es j) HEAD) refl (eqb (entryAt es j) MARK) refl l
 
 pub leads-inside : (base : ℕ) (es : List ℕ) (w k : ℕ) → leadsTo base es w ≡ some k → k < length es
-leads-inside base es w k q = used-inside es k (λ h. ⊎-elim (λ p. omega arith) (λ p. omega arith) (leads-head base es w k q))
+leads-inside base es w k q = entry-inside es k (λ h. ⊎-elim (λ p. omega arith) (λ p. omega arith) (leads-head base es w k q))
