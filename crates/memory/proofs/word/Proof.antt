@@ -25,17 +25,18 @@ shared-slice-read-wide-2 c = search needs
 wide-requires-2 : tie.Need-wide-requires-2
 wide-requires-2 c κs = search needs
 
+-- the bytes that were read
 small-1 : (c : tie.After-wide) → c .wide .result < 256
-small-1 c = omega (arith, c .before .shared-slice-known2 .given (4 * c .before .before .before .args .i))
+small-1 c = rw (c .wide .ensures) (c .before .shared-slice-known2 .given _ .fits)
 
 small-2 : (c : tie.After-wide2) → c .wide2 .result < 256
-small-2 c = omega (arith, c .before .shared-slice-known3 .given (4 * c .before .before .before .before .before .args .i + 1))
+small-2 c = rw (c .wide2 .ensures) (c .before .shared-slice-known3 .given _ .fits)
 
 small-3 : (c : tie.After-wide3) → c .wide3 .result < 256
-small-3 c = omega (arith, c .before .shared-slice-known4 .given (4 * c .before .before .before .before .before .before .before .args .i + 2))
+small-3 c = rw (c .wide3 .ensures) (c .before .shared-slice-known4 .given _ .fits)
 
 small-4 : (c : tie.After-wide4) → c .wide4 .result < 256
-small-4 c = omega (arith, c .before .shared-slice-known5 .given (4 * c .before .before .before .before .before .before .before .before .before .args .i + 3))
+small-4 c = rw (c .wide4 .ensures) (c .before .shared-slice-known5 .given _ .fits)
 
 mul-result : tie.Need-mul-result
 mul-result c = omega (arith, small-2 c)
