@@ -5,7 +5,7 @@ ghost use Prim.Native.Nat.{_+_, _*_, _/_, _≤_, _<_, _^_};
 ghost use lib.IntN.{pos, negℤ, subℕ};
 ghost use lib.ListN.{length, take, drop, replicate};
 ghost use lib.Seq.{sets};
-ghost use Rattle.rules.specs.Words.{wordAt, withWord};
+ghost use Rattle.rules.specs.Words.{number, wordAt, withWord};
 ghost use Rattle.rules.specs.Pointers.{addressOf, targetOf};
 ghost use Rattle.rules.specs.Calls.{blocksFor};
 ghost use Rattle.memory.specs.Places.{found};
@@ -122,16 +122,20 @@ fn wide(b: u8) -> u32
     b as u32
 }
 
+// The number in four bytes, the first the lowest.
+fn from_le_bytes(a: u8, b: u8, c: u8, d: u8) -> u32
+    ensures { λ r. ⌜ r ≡ number a b c d ⌝ }
+{
+    wide(a) + 256 * wide(b) + 65536 * wide(c) + 16777216 * wide(d)
+}
+
 // Word i of the bytes.
 pub fn word(bytes: &[u8], i: usize) -> u32
     requires { ⌜ 4 * i + 4 ≤ length (now bytes) ⌝ }
     ensures { λ r. ⌜ r ≡ wordAt (now (bytes .entry)) i ⌝ }
 {
     let at = 4 * i;
-    wide(bytes[at])
-        + 256 * wide(bytes[at + 1])
-        + 65536 * wide(bytes[at + 2])
-        + 16777216 * wide(bytes[at + 3])
+    from_le_bytes(bytes[at], bytes[at + 1], bytes[at + 2], bytes[at + 3])
 }
 
 // w becomes word i.
