@@ -1,22 +1,22 @@
 -- What placing, releasing and extending do to a table: its entries, well-formed, counts, and the blocks of each object.
 -- The last part speaks of whole objects, as the calls use them.
 -- Assumes nothing.
-use mathlib.Core.Path.{_≡_, refl, sym, ap, _∙_}
+use mathlib.Core.Path.{_≡_, refl, _∙_}
 use mathlib.Core.Logic.{_≢_, ⊎-elim}
 use mathlib.Core.Bool.{Bool, true, false, not}
 use mathlib.Core.List.{List, [], _∷_}
 use Prim.Native.Nat.{ℕ, zero, suc, _+_, _-_, _≤_, _<_}
 use native.Mathlib.Decide.{ℕ-discrete, decLt}
 use native.Mathlib.Omega.{arith}
-use lib.ListN.{length, getD, set, replicate, length-set, length-replicate, getD-replicate}
-use lib.Seq.{sets, length-sets, getD-set-same, getD-set-other}
-use borrow.Author.Tests.{eq-eqb, ne-eqb}
-use Rattle.rules.specs.Tests.{both, count}
-use Rattle.rules.specs.Entries.{FREE, HEAD, TAIL, MARK}
-use Rattle.rules.specs.Tables.{entryAt, isFree, isHead, mayFollow, wellAfter, wellFormed, blockCount, placed, released, extended, used, objects}
-use Rattle.rules.specs.Meaning.{Well, Extent, Run}
-use Rattle.rules.proofs.Lists.{sets-out, sets-in, sets-cons, sets-below, count-set, count-all, count-none, count-cons, count-sets-fresh, count-sets-gone}
-use Rattle.rules.proofs.Tables.{both-left, both-right, both-of, may-not-mark, may-not-tail, may-of, well-says, extent-of, extent-used, extent-before, run-apart, run-next, count-is, entry-inside}
+use lib.ListN.{length, getD, set, drop, replicate, length-set, length-replicate, getD-replicate}
+use lib.Seq.{sets, length-sets, getD-set-other}
+use borrow.Author.Tests.{ne-eqb}
+use Rattle.rules.specs.Tests.{leading}
+use Rattle.rules.specs.Entries.{FREE, HEAD, TAIL}
+use Rattle.rules.specs.Tables.{entryAt, isFree, isHead, isTail, mayFollow, wellAfter, wellFormed, blockCount, placed, released, extended, used, objects}
+use Rattle.rules.specs.Meaning.{Extent, Run}
+use Rattle.rules.proofs.Lists.{sets-out, sets-in, sets-cons, sets-below, one, count-set, count-all, count-none, count-cons, count-sets-fresh, count-sets-gone}
+use Rattle.rules.proofs.Tables.{both-left, both-right, both-of, may-not-mark, may-of, extent-of, extent-used, extent-before, objects-apart, run-apart, run-next, count-is, entry-inside}
 
 -- ---- entries
 
@@ -286,7 +286,7 @@ module _ (es : List ℕ) (s b : ℕ) (some-block : 0 < b) (run : Run es b s) whe
       (entry-inside es o (λ f. omega arith))
       (placed-apart o head)
 
--- ---- free, and reallocate to fewer blocks: an object's blocks from the cth on are released
+-- ---- free: an object is released
 
 module _ (es : List ℕ) (k : ℕ) (head : entryAt es k ≡ HEAD) where
   -- the object
@@ -298,3 +298,159 @@ module _ (es : List ℕ) (k : ℕ) (head : entryAt es k ≡ HEAD) where
 
   pub freed-used : used (released es k (blockCount es k)) + blockCount es k ≡ used es
   freed-used = released-used es k (blockCount es k) (whole .room) (extent-used es k (blockCount es k) whole (λ e. omega arith))
+
+  pub freed-objects : objects (released es k (blockCount es k)) + 1 ≡ objects es
+  unfolding objects released blockCount
+  freed-objects =
+      let n : ℕ = leading isTail (drop (suc k) es) in
+      let r : k < length es = entry-inside es k (λ e. omega arith) in
+      let h : one (isHead (entryAt es k)) ≡ 1 = rw head in
+      let rest = released-objects (set es k FREE) (suc k) n (omega (arith, length-set es k FREE, whole .room))
+      (λ j l. let i : suc k + j ≡ k + suc j = omega arith in
+      rw (i, getD-set-other es k (k + suc j) FREE FREE (λ q. omega arith)) (λ e. omega (arith, e, whole .tail (suc j) (omega arith) (omega arith)))) in
+      omega (arith, h, rest, count-set isHead es k FREE FREE r)
+
+  -- another object is outside this one
+  pub freed-apart : (o : ℕ) → entryAt es o ≡ HEAD → o ≢ k → k ≤ o → o < k + blockCount es k → ⊥
+  freed-apart o other ne l r =
+      let x = extent-of es o (entry-inside es o (λ e. omega arith)) in
+      ⊎-elim (λ h. omega (arith, x .some-block)) (λ h. omega arith) (objects-apart es o (blockCount es o) k (blockCount es k) x whole other head ne)
+
+  pub freed-other : (o : ℕ) → entryAt es o ≡ HEAD → o ≢ k → blockCount (released es k (blockCount es k)) o ≡ blockCount es o
+  freed-other o other ne =
+      let e : k + 0 ≡ k = omega arith in
+      count-apart es (released es k (blockCount es k)) k (blockCount es k) o (released-length es k (blockCount es k)) (released-out es k (blockCount es k))
+      (λ t. omega arith)
+      (λ t. omega (arith, rw e at (released-in es k (blockCount es k) 0 (whole .room) (whole .some-block))))
+      (entry-inside es o (λ f. omega arith))
+      (freed-apart o other ne)
+
+  -- ---- reallocate to c blocks, fewer than the object has: the others are released
+
+  module _ (c : ℕ) (some-block : 0 < c) (fewer : c ≤ blockCount es k) where
+    shrunk-end : k + c + (blockCount es k - c) ≡ k + blockCount es k
+    shrunk-end = omega arith
+
+    shrunk-at : (j : ℕ) → k + c + j ≡ k + (c + j)
+    shrunk-at j = omega arith
+
+    pub shrunk-well : wellFormed es ≡ true → wellFormed (released es (k + c) (blockCount es k - c)) ≡ true
+    shrunk-well w = released-well es (k + c) (blockCount es k - c) w (omega (arith, whole .room)) (rw shrunk-end (whole .next))
+
+    pub shrunk-used : used (released es (k + c) (blockCount es k - c)) + (blockCount es k - c) ≡ used es
+    shrunk-used =
+        released-used es (k + c) (blockCount es k - c) (omega (arith, whole .room))
+        (λ j h. rw (shrunk-at j) (extent-used es k (blockCount es k) whole (λ e. omega arith) (c + j) (omega arith)))
+
+    pub shrunk-objects : objects (released es (k + c) (blockCount es k - c)) ≡ objects es
+    shrunk-objects =
+        released-objects es (k + c) (blockCount es k - c) (omega (arith, whole .room))
+        (λ j h. rw (shrunk-at j) (λ e. omega (arith, e, whole .tail (c + j) (omega arith) (omega arith))))
+
+    pub shrunk-count : blockCount (released es (k + c) (blockCount es k - c)) k ≡ c
+    shrunk-count =
+        count-is es' k c
+        (record {
+          some-block = some-block;
+          room = omega (arith, whole .room, released-length es (k + c) (blockCount es k - c));
+          tail = λ j h l. released-out es (k + c) (blockCount es k - c) (k + j) (λ p q. omega arith) ∙ whole .tail j h (omega arith);
+          next = next (decLt c (blockCount es k));
+        })
+      where
+        es' : List ℕ
+        es' = released es (k + c) (blockCount es k - c)
+
+        next : Dec (c < blockCount es k) → entryAt es' (k + c) ≢ TAIL
+        next (yes l) =
+            let e : k + c + 0 ≡ k + c = omega arith in
+            λ t. omega (arith, t, rw e at (released-in es (k + c) (blockCount es k - c) 0 (omega (arith, whole .room)) (omega arith)))
+        next (no l) =
+            let e : k + c ≡ k + blockCount es k = omega arith in
+            rw (released-out es (k + c) (blockCount es k - c) (k + c) (λ p q. omega arith), e) (whole .next)
+
+    pub shrunk-other : (o : ℕ) → entryAt es o ≡ HEAD → o ≢ k → blockCount (released es (k + c) (blockCount es k - c)) o ≡ blockCount es o
+    shrunk-other o other ne =
+        count-apart es (released es (k + c) (blockCount es k - c)) k (blockCount es k) o (released-length es (k + c) (blockCount es k - c))
+        (λ i out. released-out es (k + c) (blockCount es k - c) i (λ p q. out (omega arith) (omega arith)))
+        (λ t. omega arith)
+        (λ t. omega (arith, t, released-out es (k + c) (blockCount es k - c) k (λ p q. omega arith)))
+        (entry-inside es o (λ f. omega arith))
+        (freed-apart o other ne)
+
+  -- ---- reallocate to n blocks more, where those directly after the object are free: they are taken
+
+  module _ (n : ℕ) (some-more : 0 < n) (run : Run es n (k + blockCount es k)) where
+    pub grown-well : wellFormed es ≡ true → wellFormed (extended es (k + blockCount es k) n) ≡ true
+    grown-well w =
+        let e : k + blockCount es k ≡ suc (k + (blockCount es k - 1)) = omega (arith, whole .some-block) in
+        let last = extent-used es k (blockCount es k) whole (λ e. omega arith) (blockCount es k - 1) (omega (arith, whole .some-block)) in
+        rw e (extended-well es (k + (blockCount es k - 1)) n w last (omega (arith, run .room)))
+
+    pub grown-count : wellFormed es ≡ true → blockCount (extended es (k + blockCount es k) n) k ≡ blockCount es k + n
+    grown-count w =
+        let e : k + (blockCount es k + n) ≡ k + blockCount es k + n = omega arith in
+        count-is (extended es (k + blockCount es k) n) k (blockCount es k + n)
+        (record {
+          some-block = omega arith;
+          room = omega (arith, run .room, extended-length es (k + blockCount es k) n);
+          tail = λ j h l. tail j h l (decLt j (blockCount es k));
+          next = rw (e, extended-out es (k + blockCount es k) n (k + blockCount es k + n) (λ p q. omega arith)) (run-next es n (k + blockCount es k) w some-more run);
+        })
+      where
+        tail : (j : ℕ) → 0 < j → j < blockCount es k + n → Dec (j < blockCount es k) → entryAt (extended es (k + blockCount es k) n) (k + j) ≡ TAIL
+        tail j h l (yes old) = extended-out es (k + blockCount es k) n (k + j) (λ p q. omega arith) ∙ whole .tail j h old
+        tail j h l (no new) =
+            let e : k + blockCount es k + (j - blockCount es k) ≡ k + j = omega arith in
+            rw e at (extended-in es (k + blockCount es k) n (j - blockCount es k) (run .room) (omega arith))
+
+    -- another object is outside the grown one
+    pub grown-apart : (o : ℕ) → entryAt es o ≡ HEAD → o ≢ k → k ≤ o → o < k + (blockCount es k + n) → ⊥
+    grown-apart o other ne l r = placed-apart es (k + blockCount es k) n some-more run o other (omega (arith, freed-apart o other ne l)) (omega arith)
+
+    pub grown-other : (o : ℕ) → entryAt es o ≡ HEAD → o ≢ k → blockCount (extended es (k + blockCount es k) n) o ≡ blockCount es o
+    grown-other o other ne =
+        count-apart es (extended es (k + blockCount es k) n) k (blockCount es k + n) o (extended-length es (k + blockCount es k) n)
+        (λ i out. extended-out es (k + blockCount es k) n i (λ p q. out (omega arith) (omega arith)))
+        (λ t. omega arith)
+        (λ t. omega (arith, t, whole .some-block, extended-out es (k + blockCount es k) n k (λ p q. omega (arith, whole .some-block))))
+        (entry-inside es o (λ f. omega arith))
+        (grown-apart o other ne)
+
+-- ---- reallocate to c blocks elsewhere: they are placed with the old object still held, and then it is released
+
+module _ (es : List ℕ) (k : ℕ) (head : entryAt es k ≡ HEAD) (c s : ℕ) (some-block : 0 < c) (run : Run es c s) where
+  -- the old object while both are held
+  held-head : entryAt (placed es s c) k ≡ HEAD
+  held-head = placed-out es s c k some-block (placed-apart es s c some-block run k head) ∙ head
+
+  held-count : blockCount (placed es s c) k ≡ blockCount es k
+  held-count = placed-other es s c some-block run k head
+
+  new-other : s ≢ k
+  new-other e = placed-apart es s c some-block run k head (omega arith) (omega arith)
+
+  pub moved-well : wellFormed es ≡ true → wellFormed (released (placed es s c) k (blockCount es k)) ≡ true
+  moved-well w = rw held-count at (freed-well (placed es s c) k held-head (placed-well es s c w some-block (run .room)))
+
+  pub moved-used : used (released (placed es s c) k (blockCount es k)) + blockCount es k ≡ used es + c
+  moved-used = rw held-count at (freed-used (placed es s c) k held-head) ∙ placed-used es s c some-block run
+
+  pub moved-objects : objects (released (placed es s c) k (blockCount es k)) ≡ objects es
+  moved-objects = omega (arith, rw held-count at (freed-objects (placed es s c) k held-head), placed-objects es s c some-block run)
+
+  -- the new object
+  pub moved-head : entryAt (released (placed es s c) k (blockCount es k)) s ≡ HEAD
+  moved-head =
+      released-out (placed es s c) k (blockCount es k) s
+      (rw held-count at (freed-apart (placed es s c) k held-head s (placed-head es s c some-block (run .room)) new-other))
+      ∙ placed-head es s c some-block (run .room)
+
+  pub moved-count : wellFormed es ≡ true → blockCount (released (placed es s c) k (blockCount es k)) s ≡ c
+  moved-count w =
+      rw held-count at (freed-other (placed es s c) k held-head s (placed-head es s c some-block (run .room)) new-other)
+      ∙ placed-count es s c some-block run w
+
+  pub moved-other : (o : ℕ) → entryAt es o ≡ HEAD → o ≢ k → blockCount (released (placed es s c) k (blockCount es k)) o ≡ blockCount es o
+  moved-other o other ne =
+      rw held-count at (freed-other (placed es s c) k held-head o (placed-out es s c o some-block (placed-apart es s c some-block run o other) ∙ other) ne)
+      ∙ placed-other es s c some-block run o other

@@ -53,7 +53,7 @@ pub may-not-mark : (p e : ℕ) → mayFollow p e ≡ true → e ≢ MARK
 unfolding mayFollow
 may-not-mark p e m mark = true-not-false m (rw mark)
 
-pub may-not-tail : (p e : ℕ) → mayFollow p e ≡ true → e ≡ TAIL → p ≢ FREE
+may-not-tail : (p e : ℕ) → mayFollow p e ≡ true → e ≡ TAIL → p ≢ FREE
 unfolding mayFollow
 may-not-tail p e m tail free = true-not-false m (rw (tail, free))
 
