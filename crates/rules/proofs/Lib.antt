@@ -6,3 +6,4 @@ pub mod Changes
 pub mod Refusals
 pub mod Marking
 pub mod Marks
+pub mod Calls
