@@ -1,5 +1,6 @@
 pub mod Lists
 pub mod Below
+pub mod Words
 pub mod Entries
 pub mod Tables
 pub mod Changes

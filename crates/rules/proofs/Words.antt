@@ -1,0 +1,125 @@
+-- Laws of words in bytes: a number and its four bytes say the same, and a stored word is read back and changes nothing else.
+-- Assumes nothing.
+use mathlib.Core.Path.{_≡_, refl}
+use mathlib.Core.Logic.{_≢_}
+use mathlib.Core.List.{List, [], _∷_}
+use Prim.Native.Nat.{ℕ, zero, suc, _+_, _*_, _/_, _%_, _^_, _≤_, _<_}
+use native.Mathlib.Nat.{div-div-eq-div-mul}
+use native.Mathlib.Decide.{decLt}
+use native.Mathlib.Omega.{arith}
+use lib.ListN.{length, getD}
+use lib.Seq.{length-sets}
+use Rattle.rules.specs.Words.{number, bytesOf, wordAt, withWord, wordsOf}
+use Rattle.rules.proofs.Lists.{sets-before, sets-after, sets-in, sets-below, length-tabulate, getD-tabulate}
+
+-- ---- a number and its bytes
+
+sum-up : (w q r t a b c : ℕ) → w ≡ 256 * q + a → q ≡ 256 * r + b → r ≡ 256 * t + c → a + 256 * b + 65536 * c + 16777216 * t ≡ w
+sum-up w q r t a b c e f g = omega arith
+
+split-off : (q : ℕ) → q ≡ 256 * (q / 256) + q % 256
+split-off q = omega arith
+
+-- the number in the bytes of w is w
+pub number-bytesOf : (w : ℕ) → w < 2 ^ 32 → number (w % 256) (w / 256 % 256) (w / 65536 % 256) (w / 16777216 % 256) ≡ w
+unfolding number
+number-bytesOf w h =
+    let f : w / 256 ≡ 256 * (w / 65536) + w / 256 % 256 = rw (div-div-eq-div-mul w 256 256) at (split-off (w / 256)) in
+    let g : w / 65536 ≡ 256 * (w / 16777216) + w / 65536 % 256 = rw (div-div-eq-div-mul w 65536 256) at (split-off (w / 65536)) in
+    let top : w / 16777216 % 256 ≡ w / 16777216 = omega arith in
+    rw top (sum-up w (w / 256) (w / 65536) (w / 16777216) (w % 256) (w / 256 % 256) (w / 65536 % 256) (split-off w) f g)
+
+-- the bytes of the number in four bytes are those
+pub bytesOf-number : (a b c d : ℕ) → a < 256 → b < 256 → c < 256 → d < 256 → bytesOf (number a b c d) ≡ a ∷ b ∷ c ∷ d ∷ []
+unfolding number bytesOf
+bytesOf-number a b c d ha hb hc hd =
+    let w : ℕ = a + 256 * b + 65536 * c + 16777216 * d in
+    let q : w / 256 ≡ b + 256 * c + 65536 * d = omega arith in
+    let r : w / 65536 ≡ c + 256 * d = omega arith in
+    let t : w / 16777216 ≡ d = omega arith in
+    let e0 : w % 256 ≡ a = omega arith in
+    let e1 : (b + 256 * c + 65536 * d) % 256 ≡ b = omega arith in
+    let e2 : (c + 256 * d) % 256 ≡ c = omega arith in
+    let e3 : d % 256 ≡ d = omega arith in
+    rw (e0, q, e1, r, e2, t, e3)
+
+pub length-bytesOf : (w : ℕ) → length (bytesOf w) ≡ 4
+unfolding bytesOf
+length-bytesOf w = refl
+
+pub bytesOf-lt : (w i : ℕ) → getD (bytesOf w) i 0 < 256
+unfolding bytesOf
+bytesOf-lt w zero = omega arith
+bytesOf-lt w (suc zero) = omega arith
+bytesOf-lt w (suc (suc zero)) = omega arith
+bytesOf-lt w (suc (suc (suc zero))) = omega arith
+bytesOf-lt w (suc (suc (suc (suc i)))) = omega arith
+
+pub number-lt : (a b c d : ℕ) → a < 256 → b < 256 → c < 256 → d < 256 → number a b c d < 2 ^ 32
+unfolding number
+number-lt a b c d ha hb hc hd = omega arith
+
+-- ---- a word of a list of bytes
+
+pub wordAt-lt : (bs : List ℕ) (i : ℕ) → ((k : ℕ) → getD bs k 0 < 256) → wordAt bs i < 2 ^ 32
+unfolding wordAt
+wordAt-lt bs i small =
+    number-lt (getD bs (4 * i) 0) (getD bs (4 * i + 1) 0) (getD bs (4 * i + 2) 0) (getD bs (4 * i + 3) 0)
+    (small (4 * i)) (small (4 * i + 1)) (small (4 * i + 2)) (small (4 * i + 3))
+
+-- a word depends on its four bytes alone
+pub wordAt-same : (bs cs : List ℕ) (i j : ℕ) → ((k : ℕ) → k < 4 → getD bs (4 * i + k) 0 ≡ getD cs (4 * j + k) 0) → wordAt bs i ≡ wordAt cs j
+unfolding wordAt
+wordAt-same bs cs i j same =
+    let ei : 4 * i + 0 ≡ 4 * i = omega arith in
+    let ej : 4 * j + 0 ≡ 4 * j = omega arith in
+    let e0 : getD bs (4 * i) 0 ≡ getD cs (4 * j) 0 = rw (ei, ej) at (same 0 (omega arith)) in
+    rw (e0, same 1 (omega arith), same 2 (omega arith), same 3 (omega arith))
+
+pub length-wordsOf : (bs : List ℕ) → length (wordsOf bs) ≡ length bs / 4
+unfolding wordsOf
+length-wordsOf bs = length-tabulate (length bs / 4) (wordAt bs)
+
+pub getD-wordsOf : (bs : List ℕ) (i : ℕ) → 4 * i + 4 ≤ length bs → getD (wordsOf bs) i 0 ≡ wordAt bs i
+unfolding wordsOf
+getD-wordsOf bs i h = getD-tabulate (length bs / 4) (wordAt bs) i 0 (omega arith)
+
+-- ---- a stored word
+
+pub length-withWord : (bs : List ℕ) (i w : ℕ) → length (withWord bs i w) ≡ length bs
+unfolding withWord
+length-withWord bs i w = length-sets bs (4 * i) (bytesOf w)
+
+-- bytes stay bytes
+pub withWord-lt : (bs : List ℕ) (i w : ℕ) → ((k : ℕ) → getD bs k 0 < 256) → (k : ℕ) → getD (withWord bs i w) k 0 < 256
+unfolding withWord
+withWord-lt bs i w small = sets-below bs (4 * i) (bytesOf w) 0 256 small (λ j. bytesOf-lt w j)
+
+-- a byte of the word
+pub withWord-in : (bs : List ℕ) (i w k : ℕ) → 4 * i + 4 ≤ length bs → k < 4 → getD (withWord bs i w) (4 * i + k) 0 ≡ getD (bytesOf w) k 0
+unfolding withWord
+withWord-in bs i w k h hk = sets-in bs (4 * i) (bytesOf w) k 0 (rw length-bytesOf hk) (rw length-bytesOf h)
+
+out-by : (bs : List ℕ) (i w k : ℕ) → k / 4 ≢ i → Dec (k < 4 * i) → getD (withWord bs i w) k 0 ≡ getD bs k 0
+unfolding withWord
+out-by bs i w k far (yes l) = sets-before bs (4 * i) (bytesOf w) k 0 l
+out-by bs i w k far (no g) = sets-after bs (4 * i) (bytesOf w) k 0 (rw length-bytesOf (omega arith))
+
+-- a byte outside the word stays
+pub withWord-out : (bs : List ℕ) (i w k : ℕ) → k / 4 ≢ i → getD (withWord bs i w) k 0 ≡ getD bs k 0
+withWord-out bs i w k far = out-by bs i w k far (decLt k (4 * i))
+
+-- the word is read back
+pub wordAt-withWord : (bs : List ℕ) (i w : ℕ) → 4 * i + 4 ≤ length bs → w < 2 ^ 32 → wordAt (withWord bs i w) i ≡ w
+unfolding wordAt bytesOf
+wordAt-withWord bs i w h hw =
+    let e : 4 * i + 0 ≡ 4 * i = omega arith in
+    let b0 : getD (withWord bs i w) (4 * i) 0 ≡ w % 256 = rw e at (withWord-in bs i w 0 h (omega arith)) in
+    let b1 : getD (withWord bs i w) (4 * i + 1) 0 ≡ w / 256 % 256 = withWord-in bs i w 1 h (omega arith) in
+    let b2 : getD (withWord bs i w) (4 * i + 2) 0 ≡ w / 65536 % 256 = withWord-in bs i w 2 h (omega arith) in
+    let b3 : getD (withWord bs i w) (4 * i + 3) 0 ≡ w / 16777216 % 256 = withWord-in bs i w 3 h (omega arith) in
+    rw (b0, b1, b2, b3) (number-bytesOf w hw)
+
+-- the other words stay
+pub wordAt-other : (bs : List ℕ) (i j w : ℕ) → j ≢ i → wordAt (withWord bs i w) j ≡ wordAt bs j
+wordAt-other bs i j w ne = wordAt-same (withWord bs i w) bs j j (λ k h. withWord-out bs i w (4 * j + k) (λ e. ne (omega arith)))
