@@ -21,6 +21,10 @@ placed r pool table =
     leaves (record { refusal = r .refusal; block = r .block .0; change = r .change; kept = 0; rescans = 0; used = 0; objects = 0; longest = 0; value = 0 })
     (heapOf pool table)
 
+-- a refusal: every other part of the answer is zero
+abbrev pub unplacedBy : ℕ → Placed
+unplacedBy r = record { refusal = r; block = record { 0 = 0 }; change = pos 0 }
+
 -- the change
 abbrev pub freed : Freed → List ℕ → List ℕ → Outcome
 freed r pool table =

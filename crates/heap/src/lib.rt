@@ -2,13 +2,14 @@
 // a refused call has written nothing.
 ghost use mathlib.Core.Path.{_≡_};
 ghost use mathlib.Core.Logic.{_⊎_};
-ghost use Prim.Native.Nat.{_+_, _*_, _≤_, _<_};
+ghost use Prim.Native.Nat.{_+_, _-_, _*_, _≤_, _<_};
 ghost use lib.ListN.{length};
-ghost use Rattle.rules.specs.Entries.{entriesOf};
-ghost use Rattle.rules.specs.Tables.{firstRun};
+ghost use Rattle.rules.specs.Entries.{entriesOf, HEAD};
+ghost use Rattle.rules.specs.Tables.{blockCount, entryAt, wellFormed, firstRun, freeFrom};
 ghost use Rattle.rules.specs.Outcomes.{heapOf, clearedBlocks};
-ghost use Rattle.rules.specs.Calls.{init as initOf, allocate as allocateOf, free as freeOf, reallocate as reallocateOf, survey as surveyOf, load as loadOf, store as storeOf, taken, grown, moved};
-ghost use Rattle.heap.specs.Answers.{status, placed, freed, surveyed, loaded};
+ghost use Rattle.rules.specs.Calls.{init as initOf, allocate as allocateOf, free as freeOf, reallocate as reallocateOf, survey as surveyOf, load as loadOf, store as storeOf, taken, placing, shrunk, grown, movesTo, along};
+ghost use Rattle.heap.specs.Held.{Held};
+ghost use Rattle.heap.specs.Answers.{status, placed, unplacedBy, freed, surveyed, loaded};
 use memory::Address;
 use memory::Block;
 use memory::Bytes;
@@ -79,7 +80,7 @@ pub fn allocate(base: Address, pool: &mut [u8], table: &mut [u8], bytes: Bytes) 
 
 // A refusal: every other part of the answer is zero.
 fn unplaced(refusal: u32) -> Placed
-    ensures { λ r. ⌜ r ≡ record { refusal = refusal; block = record { 0 = 0 }; change = lib.IntN.pos 0 } ⌝ }
+    ensures { λ r. ⌜ r ≡ unplacedBy refusal ⌝ }
 {
     Placed {
         refusal,
@@ -124,6 +125,80 @@ pub fn free(base: Address, pool: &[u8], table: &mut [u8], k: Block) -> Freed
     Freed {
         refusal: 0,
         change: -(count as i32),
+    }
+}
+
+// The object at k gets so many bytes: it stays, gives blocks back, grows in place, or moves.
+pub fn reallocate(base: Address, pool: &mut [u8], table: &mut [u8], k: Block, bytes: Bytes) -> Placed
+    ensures { λ r. ⌜ placed r (now (pool .exit)) (now (table .exit)) ≡ reallocateOf (base .0) (heapOf (now (pool .entry)) (now (table .entry))) (k .0) (bytes .0) ⌝ }
+{
+    let r = checks::resize(base, &*pool, &*table, k, bytes);
+    if r != 0 {
+        return unplaced(r);
+    }
+    if pool.len() < bytes.0 {
+        return unplaced(9);
+    }
+    let old = table::block_count(&*table, k);
+    let new = bytes.blocks();
+    if new <= old {
+        return shrink(&*pool, &mut *table, k, old, new);
+    }
+    if table::is_free(&*table, k.plus(old), new - old) {
+        return grow(&mut *pool, &mut *table, k, old, new);
+    }
+    relocate(&mut *pool, &mut *table, k, old, new)
+}
+
+// The object's last blocks become FREE. Their bytes stay.
+fn shrink(pool: &[u8], table: &mut [u8], k: Block, old: usize, new: usize) -> Placed
+    requires { ⌜ Held (now pool) (now table) (k .0) old ⌝ }
+    requires { ⌜ (0 < new) × (new ≤ old) ⌝ }
+    ensures { λ r. ⌜ placed r (now (pool .entry)) (now (table .exit)) ≡ (let h = heapOf (now (pool .entry)) (now (table .entry)) in placing h (k .0) (shrunk h (k .0) old new)) ⌝ }
+{
+    table::release(table, k.plus(new), old - new);
+    Placed {
+        refusal: 0,
+        block: k,
+        change: (new as i32) - (old as i32),
+    }
+}
+
+// The blocks directly after the object join it, all their bytes zero.
+fn grow(pool: &mut [u8], table: &mut [u8], k: Block, old: usize, new: usize) -> Placed
+    requires { ⌜ Held (now pool) (now table) (k .0) old ⌝ }
+    requires { ⌜ (old < new) × (new - old ≤ freeFrom (entriesOf (now table)) (k .0 + old)) ⌝ }
+    ensures { λ r. ⌜ placed r (now (pool .exit)) (now (table .exit)) ≡ (let h = heapOf (now (pool .entry)) (now (table .entry)) in placing h (k .0) (grown h (k .0) old new)) ⌝ }
+{
+    let end = k.plus(old);
+    table::extend(table, end, new - old);
+    clear_blocks(pool, end, new - old);
+    Placed {
+        refusal: 0,
+        block: k,
+        change: (new as i32) - (old as i32),
+    }
+}
+
+// The object moves to the lowest start where its new blocks fit, sought while its old blocks are still held.
+fn relocate(pool: &mut [u8], table: &mut [u8], k: Block, old: usize, new: usize) -> Placed
+    requires { ⌜ Held (now pool) (now table) (k .0) old ⌝ }
+    requires { ⌜ (old < new) × (new ≤ 4096) ⌝ }
+    ensures { λ r. ⌜ placed r (now (pool .exit)) (now (table .exit)) ≡ (let h = heapOf (now (pool .entry)) (now (table .entry)) in along (movesTo (firstRun (h .entries) new)) h (k .0) old new) ⌝ }
+{
+    match table::first_run(&*table, new) {
+        Found::At(s) => {
+            table::place(&mut *table, s, new);
+            memory::copy(&mut *pool, k.offset(), s.offset(), Bytes::of_blocks(old));
+            clear_blocks(&mut *pool, s.plus(old), new - old);
+            table::release(&mut *table, k, old);
+            Placed {
+                refusal: 0,
+                block: s,
+                change: (new as i32) - (old as i32),
+            }
+        }
+        Found::Nowhere => unplaced(9),
     }
 }
 

@@ -58,6 +58,14 @@ impl Bytes {
     {
         (self.0 + 15) / 16
     }
+
+    // The bytes of so many blocks.
+    pub fn of_blocks(count: usize) -> Bytes
+        requires { ⌜ count < 2 ^ 32 ⌝ }
+        ensures { λ r. ⌜ r .0 ≡ 16 * count ⌝ }
+    {
+        Bytes(16 * count)
+    }
 }
 
 impl Address {
