@@ -71,7 +71,7 @@ pub fn allocate(base: Address, pool: &mut [u8], table: &mut [u8], bytes: Bytes) 
             Placed {
                 refusal: 0,
                 block: k,
-                change: count as i32,
+                change: memory::difference(count, 0),
             }
         }
         Found::Nowhere => unplaced(9),
@@ -124,12 +124,18 @@ pub fn free(base: Address, pool: &[u8], table: &mut [u8], k: Block) -> Freed
     table::release(table, k, count);
     Freed {
         refusal: 0,
-        change: -(count as i32),
+        change: memory::negated(count),
     }
 }
 
 // The object at k gets so many bytes: it stays, gives blocks back, grows in place, or moves.
-pub fn reallocate(base: Address, pool: &mut [u8], table: &mut [u8], k: Block, bytes: Bytes) -> Placed
+pub fn reallocate(
+    base: Address,
+    pool: &mut [u8],
+    table: &mut [u8],
+    k: Block,
+    bytes: Bytes,
+) -> Placed
     ensures { λ r. ⌜ placed r (now (pool .exit)) (now (table .exit)) ≡ reallocateOf (base .0) (heapOf (now (pool .entry)) (now (table .entry))) (k .0) (bytes .0) ⌝ }
 {
     let r = checks::resize(base, &*pool, &*table, k, bytes);
@@ -160,7 +166,7 @@ fn shrink(pool: &[u8], table: &mut [u8], k: Block, old: usize, new: usize) -> Pl
     Placed {
         refusal: 0,
         block: k,
-        change: (new as i32) - (old as i32),
+        change: memory::difference(new, old),
     }
 }
 
@@ -176,7 +182,7 @@ fn grow(pool: &mut [u8], table: &mut [u8], k: Block, old: usize, new: usize) -> 
     Placed {
         refusal: 0,
         block: k,
-        change: (new as i32) - (old as i32),
+        change: memory::difference(new, old),
     }
 }
 
@@ -195,7 +201,7 @@ fn relocate(pool: &mut [u8], table: &mut [u8], k: Block, old: usize, new: usize)
             Placed {
                 refusal: 0,
                 block: s,
-                change: (new as i32) - (old as i32),
+                change: memory::difference(new, old),
             }
         }
         Found::Nowhere => unplaced(9),

@@ -2,6 +2,7 @@
 ghost use mathlib.Core.Path.{_≡_};
 ghost use mathlib.Core.Logic.{_⊎_};
 ghost use Prim.Native.Nat.{_+_, _*_, _/_, _≤_, _<_, _^_};
+ghost use lib.IntN.{pos, negℤ, subℕ};
 ghost use lib.ListN.{length, take, drop, replicate};
 ghost use lib.Seq.{sets};
 ghost use Rattle.rules.specs.Words.{wordAt, withWord};
@@ -97,6 +98,22 @@ impl Address {
             Found::Nowhere
         }
     }
+}
+
+// The change in used blocks, where there were so many before and are so many after.
+pub fn difference(after: usize, before: usize) -> i32
+    requires { ⌜ (after ≤ 4096) × (before ≤ 4096) ⌝ }
+    ensures { λ r. ⌜ r ≡ subℕ after before ⌝ }
+{
+    (after as i32) - (before as i32)
+}
+
+// The change where so many blocks are freed.
+pub fn negated(freed: usize) -> i32
+    requires { ⌜ freed ≤ 4096 ⌝ }
+    ensures { λ r. ⌜ r ≡ negℤ (pos freed) ⌝ }
+{
+    -(freed as i32)
 }
 
 fn wide(b: u8) -> u32

@@ -167,6 +167,10 @@ run-le es b s r =
     leading-more isFree (drop s es) b FREE (omega (arith, r .room, length-drop s es))
     (λ j l. rw getD-drop (eq-eqb (entryAt es (s + j)) FREE (r .free j l)))
 
+pub free-room : (es : List ℕ) (s : ℕ) → freeFrom es s ≤ length es - s
+unfolding freeFrom
+free-room es s = omega (arith, leading-le isFree (drop s es), length-drop s es)
+
 -- a shorter run at the same start
 pub run-shorter : (es : List ℕ) (b c s : ℕ) → c ≤ b → Run es b s → Run es c s
 run-shorter es b c s h r = record { room = omega (arith, r .room); free = λ j l. r .free j (omega arith) }
@@ -174,13 +178,16 @@ run-shorter es b c s h r = record { room = omega (arith, r .room); free = λ j l
 pub le-run : (es : List ℕ) (b s : ℕ) → s ≤ length es → b ≤ freeFrom es s → Run es b s
 le-run es b s h l = run-shorter es (freeFrom es s) b s l (run-longest es s h)
 
+pub no-run-lt : (es : List ℕ) (b s : ℕ) → s ≤ length es → (Run es b s → ⊥) → freeFrom es s < b
+no-run-lt es b s h nowhere = go (decLt (freeFrom es s) b)
+  where
+    go : Dec (freeFrom es s < b) → freeFrom es s < b
+    go (yes l) = l
+    go (no l) = absurd (nowhere (le-run es b s h (omega arith)))
+
 pub run-fits : (es : List ℕ) (b s : ℕ) → Run es b s → fits es b s ≡ true
 unfolding fits
 run-fits es b s r = le-leb b (freeFrom es s) (run-le es b s r)
-
-free-room : (es : List ℕ) (s : ℕ) → freeFrom es s ≤ length es - s
-unfolding freeFrom
-free-room es s = omega (arith, leading-le isFree (drop s es), length-drop s es)
 
 pub fits-run : (es : List ℕ) (b s : ℕ) → 0 < b → fits es b s ≡ true → Run es b s
 unfolding fits
