@@ -8,3 +8,4 @@ pub mod Refusals
 pub mod Marking
 pub mod Marks
 pub mod Calls
+pub mod Pools
