@@ -5,7 +5,7 @@ use mathlib.Core.List.{List, _++_}
 use Prim.Native.Nat.{ℕ, _+_, _-_, _*_, _≤_, _<_}
 use native.Mathlib.Omega.{arith}
 use lib.ListN.{length, getD, take, drop, replicate, length-append, length-drop, length-replicate, getD-replicate, List·getD-append}
-use lib.Seq.{sets, length-sets, length-take-le, getD-take, getD-drop, getD-append-add}
+use lib.Seq.{length-sets, length-take-le, getD-take, getD-drop, getD-append-add}
 use Rattle.rules.specs.Outcomes.{Heap, clearedBlocks}
 use Rattle.rules.specs.Calls.{moved}
 use Rattle.rules.proofs.Lists.{sets-in, sets-out}

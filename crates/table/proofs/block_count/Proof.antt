@@ -25,8 +25,7 @@ abbrev μ-loop : tie.MeasureT-loop
 counted : (es : List ℕ) (k i : ℕ) → k < i → i ≤ length es → ((j : ℕ) → j < i → k < j → entryAt es j ≡ TAIL) → entryAt es i ≢ TAIL
     → (i - k ≡ blockCount es k) × (k + (i - k) ≤ length es)
 counted es k i h r tails next =
-    let e : k + (i - k) ≡ i = omega arith in
-    (
+    let e : k + (i - k) ≡ i = omega arith in (
       sym (count-is es k (i - k) (record {
         some-block = omega arith;
         room = omega arith;
