@@ -6,4 +6,6 @@ pub mod Tables
 pub mod Changes
 pub mod Refusals
 pub mod Marking
+pub mod Calls
 pub mod Marks
+pub mod Pools

@@ -7,7 +7,7 @@ use Prim.Native.Nat.{ℕ, zero, suc, _+_, _*_, _%_, _^_, _≤_, _<_}
 use native.Mathlib.Omega.{arith}
 use lib.Dec.{eqb, leb, ltb}
 use lib.ListN.{length}
-use borrow.Author.Tests.{eqb-true, eqb-false, leb-true, leb-false, ltb-true, eq-eqb, le-leb}
+use borrow.Author.Tests.{eqb-true, eqb-false, leb-true, leb-false, ltb-true, eq-eqb, ne-eqb, le-leb, lt-leb}
 use Rattle.rules.specs.Tests.{pick, both}
 use Rattle.rules.specs.Pointers.{addressOf, goodBase}
 use Rattle.rules.specs.Entries.{HEAD}
@@ -187,3 +187,22 @@ named-resize base h k bytes ts e =
     let d = first-none (noBytes bytes) (outside h k ∷ noHead h k ∷ ts) (omega arith) (b .1) in
     let ne = eqb-false bytes 0 (d .0) in
     (omega arith, named h k ts (d .1))
+
+-- the tests behind the first
+pub first-rest : (t : Test) (ts : List Test) → 0 < t .number → firstOf (t ∷ ts) ≡ 0 → firstOf ts ≡ 0
+first-rest t ts p e = first-none t ts p e .1
+
+-- ---- what does not hold is not refused
+
+pub passes : (base : ℕ) (h : Heap) (ts : List Test) → Passed base h → firstOf (badShape base h ∷ illFormed h ∷ ts) ≡ firstOf ts
+passes base h ts p =
+    first-no (badShape base h) (illFormed h ∷ ts) (ap not (shape-of base h (p .shape)))
+    ∙ first-no (illFormed h) ts (ap not (p .well))
+
+pub asks : (bytes : ℕ) (ts : List Test) → 0 < bytes → firstOf (noBytes bytes ∷ ts) ≡ firstOf ts
+asks bytes ts more = first-no (noBytes bytes) ts (ne-eqb bytes 0 (λ e. omega arith))
+
+pub names : (h : Heap) (k : ℕ) (ts : List Test) → Named h k → firstOf (outside h k ∷ noHead h k ∷ ts) ≡ firstOf ts
+names h k ts n =
+    first-no (outside h k) (noHead h k ∷ ts) (lt-leb (length (h .entries)) k (n .inside))
+    ∙ first-no (noHead h k) ts (ap not (eq-eqb (entryAt (h .entries) k) HEAD (n .head)))

@@ -1,0 +1,139 @@
+-- Each call as a list of tests and an act: its number is that of the tests, a refused call does nothing, an accepted one acts.
+-- Assumes nothing.
+use mathlib.Core.Path.{_≡_, refl, ap, _∙_}
+use mathlib.Core.Bool.{false}
+use mathlib.Core.List.{List, [], _∷_}
+use Prim.Native.Nat.{ℕ, zero, suc, _+_, _*_, _/_}
+use native.Mathlib.Omega.{arith}
+use lib.ListN.{length, replicate}
+use Rattle.rules.specs.Tests.{isNone, orElse}
+use Rattle.rules.specs.Words.{wordAt, withWord, wordsOf}
+use Rattle.rules.specs.Entries.{FREE}
+use Rattle.rules.specs.Tables.{blockCount, firstRun, used, objects, longest}
+use Rattle.rules.specs.Outcomes.{Heap, Outcome, onlyRefusal, surveyed, loaded, leaves, unlessRefused}
+use Rattle.rules.specs.Refusals.{Test, firstOf, badShape, badLists, illFormed, manyRoots, longStack, noBytes, outside, noHead, noWord, noRoom}
+use Rattle.rules.specs.Marking.{markAll}
+use Rattle.rules.specs.Calls.{Way, stay, shrink, grow, move, noWay, isNoWay, wayTo, along, placing, taken, freed, blocksFor, init, allocate, free, reallocate, collecting, collect, survey, load, store}
+use Rattle.rules.proofs.Refusals.{true-not-false, first-none, first-rest}
+use Rattle.promises.specs.Promises.{Accepted, Refused}
+
+-- the outcome r is refused by the first of the tests that holds, and else is what the act leaves
+pub record Checked (h : Heap) (stack : List ℕ) (ts : List Test) (act r : Outcome) : Type 0 where
+  pub is : r ≡ unlessRefused (firstOf ts) h stack act
+  pub fine : firstOf ts ≡ 0 → Accepted act
+
+number-of : (n : ℕ) (h : Heap) (stack : List ℕ) (act : Outcome) → (n ≡ 0 → Accepted act) → unlessRefused n h stack act .answer .refusal ≡ n
+unfolding unlessRefused
+number-of zero h stack act fine = fine refl
+number-of (suc n) h stack act fine = refl
+
+refused-by : (n : ℕ) (h : Heap) (stack : List ℕ) (act : Outcome) → (n ≡ 0 → Accepted act) → ¬ Accepted (unlessRefused n h stack act)
+    → Refused h (unlessRefused n h stack act) × (unlessRefused n h stack act .stack ≡ stack)
+unfolding unlessRefused
+refused-by zero h stack act fine no-number = absurd (no-number (fine refl))
+refused-by (suc n) h stack act fine no-number = (record { answer = refl; heap = refl }, refl)
+
+accepted-by : (n : ℕ) (h : Heap) (stack : List ℕ) (act : Outcome) → Accepted (unlessRefused n h stack act) → (n ≡ 0) × (unlessRefused n h stack act ≡ act)
+unfolding unlessRefused
+accepted-by zero h stack act e = (refl, refl)
+accepted-by (suc n) h stack act e = absurd (omega arith)
+
+module _ {h : Heap} {stack : List ℕ} {ts : List Test} {act r : Outcome} (c : Checked h stack ts act r) where
+  -- its number is that of the tests
+  pub number : r .answer .refusal ≡ firstOf ts
+  number = ap (λ (o : Outcome). o .answer .refusal) (c .is) ∙ number-of (firstOf ts) h stack act (c .fine)
+
+  pub no-refusal : Accepted r → firstOf ts ≡ 0
+  no-refusal e = omega (arith, number)
+
+  -- on a refusal nothing is done
+  pub refuses : ¬ Accepted r → Refused h r × (r .stack ≡ stack)
+  refuses = rw (c .is) (refused-by (firstOf ts) h stack act (c .fine))
+
+  -- else the call acts
+  pub acts : Accepted r → r ≡ act
+  acts = rw (c .is) (λ e. accepted-by (firstOf ts) h stack act e .1)
+
+-- ---- the tests and the act of each call
+
+module _ (base : ℕ) (h : Heap) where
+  abbrev pub testsOfInit : List Test
+  testsOfInit = badShape base h ∷ []
+
+  pub init-checked : Checked h [] testsOfInit (leaves (onlyRefusal 0) (record { pool = h .pool; entries = replicate (length (h .entries)) FREE })) (init base h)
+  unfolding init
+  init-checked = record { is = refl; fine = λ _. refl }
+
+  abbrev pub testsOfAllocate : ℕ → List Test
+  testsOfAllocate bytes = badShape base h ∷ illFormed h ∷ noBytes bytes ∷ noRoom (isNone (firstRun (h .entries) (blocksFor bytes))) ∷ []
+
+  abbrev pub startOf : ℕ → ℕ
+  startOf bytes = orElse (firstRun (h .entries) (blocksFor bytes)) 0
+
+  pub allocate-checked : (bytes : ℕ) → Checked h [] (testsOfAllocate bytes) (placing h (startOf bytes) (taken h (startOf bytes) (blocksFor bytes))) (allocate base h bytes)
+  unfolding allocate placing
+  allocate-checked bytes = record { is = refl; fine = λ _. refl }
+
+  abbrev pub testsOfFree : ℕ → List Test
+  testsOfFree k = badShape base h ∷ illFormed h ∷ outside h k ∷ noHead h k ∷ []
+
+  pub free-checked : (k : ℕ) → Checked h [] (testsOfFree k) (placing h 0 (freed h k)) (free base h k)
+  unfolding free placing
+  free-checked k = record { is = refl; fine = λ _. refl }
+
+  abbrev pub wayOf : ℕ → ℕ → Way
+  wayOf k bytes = wayTo (h .entries) k (blockCount (h .entries) k) (blocksFor bytes)
+
+  abbrev pub testsOfReallocate : ℕ → ℕ → List Test
+  testsOfReallocate k bytes = badShape base h ∷ illFormed h ∷ noBytes bytes ∷ outside h k ∷ noHead h k ∷ noRoom (isNoWay (wayOf k bytes)) ∷ []
+
+  along-fine : (w : Way) (k b c : ℕ) → isNoWay w ≡ false → Accepted (along w h k b c)
+  unfolding along placing
+  along-fine stay k b c e = refl
+  along-fine shrink k b c e = refl
+  along-fine grow k b c e = refl
+  along-fine (move s) k b c e = refl
+  along-fine noWay k b c e = absurd (true-not-false refl e)
+
+  pub reallocate-checked : (k bytes : ℕ)
+      → Checked h [] (testsOfReallocate k bytes) (along (wayOf k bytes) h k (blockCount (h .entries) k) (blocksFor bytes)) (reallocate base h k bytes)
+  unfolding reallocate
+  reallocate-checked k bytes = record {
+    is = refl;
+    fine = λ e.
+        let e1 = first-rest (badShape base h) _ (omega arith) e in
+        let e2 = first-rest (illFormed h) _ (omega arith) e1 in
+        let e3 = first-rest (noBytes bytes) _ (omega arith) e2 in
+        let e4 = first-rest (outside h k) _ (omega arith) e3 in
+        let e5 = first-rest (noHead h k) _ (omega arith) e4 in
+        along-fine (wayOf k bytes) k (blockCount (h .entries) k) (blocksFor bytes) (first-none (noRoom (isNoWay (wayOf k bytes))) [] (omega arith) e5 .0);
+  }
+
+  abbrev pub testsOfCollect : List ℕ → List ℕ → List Test
+  testsOfCollect roots stack = badLists base h roots stack ∷ illFormed h ∷ manyRoots roots ∷ longStack stack ∷ []
+
+  pub collect-checked : (roots stack : List ℕ)
+      → Checked h stack (testsOfCollect roots stack)
+      (collecting h stack (markAll (record { base = base; pool = h .pool; room = length stack / 4 }) (wordsOf roots) (h .entries)))
+      (collect base h roots stack)
+  unfolding collect collecting
+  collect-checked roots stack = record { is = refl; fine = λ _. refl }
+
+  abbrev pub testsOfSurvey : List Test
+  testsOfSurvey = badShape base h ∷ illFormed h ∷ []
+
+  pub survey-checked : Checked h [] testsOfSurvey (leaves (surveyed (used (h .entries)) (objects (h .entries)) (longest (h .entries))) h) (survey base h)
+  unfolding survey
+  survey-checked = record { is = refl; fine = λ _. refl }
+
+  abbrev pub testsOfWord : ℕ → ℕ → List Test
+  testsOfWord k i = badShape base h ∷ illFormed h ∷ outside h k ∷ noHead h k ∷ noWord h k i ∷ []
+
+  pub load-checked : (k i : ℕ) → Checked h [] (testsOfWord k i) (leaves (loaded (wordAt (h .pool) (4 * k + i))) h) (load base h k i)
+  unfolding load
+  load-checked k i = record { is = refl; fine = λ _. refl }
+
+  pub store-checked : (k i w : ℕ)
+      → Checked h [] (testsOfWord k i) (leaves (onlyRefusal 0) (record { pool = withWord (h .pool) (4 * k + i) w; entries = h .entries })) (store base h k i w)
+  unfolding store
+  store-checked k i w = record { is = refl; fine = λ _. refl }

@@ -1,0 +1,290 @@
+-- The refusal numbers: each call answers the number of its first condition that holds, and on a refusal does nothing.
+-- Assumes nothing.
+use mathlib.Core.Path.{_≡_, refl, ap, _∙_}
+use mathlib.Core.Logic.{_≢_, _↔_, inl, inr}
+use mathlib.Core.Bool.{Bool, true, false}
+use mathlib.Core.List.{List, [], _∷_}
+use mathlib.Core.Option.{Option, some, none}
+use Prim.Native.Nat.{ℕ, _*_, _/_, _%_, _≤_, _<_}
+use native.Mathlib.Omega.{arith}
+use lib.ListN.{length}
+use borrow.Author.Tests.{eqb-true, eqb-false, leb-true, leb-false, ltb-true, ltb-false, eq-eqb}
+use Rattle.rules.specs.Tests.{pick, both, isNone}
+use Rattle.rules.specs.Entries.{HEAD}
+use Rattle.rules.specs.Tables.{entryAt, isHead, wellFormed, blockCount, firstRun}
+use Rattle.rules.specs.Meaning.{Well, Lowest}
+use Rattle.rules.specs.Outcomes.{Heap}
+use Rattle.rules.specs.Refusals.{Test, firstOf, goodShape, wholeWords, badShape, badLists, illFormed, manyRoots, longStack, noBytes, outside, noHead, noWord, noRoom}
+use Rattle.rules.specs.Calls.{Way, stay, shrink, grow, move, noWay, isNoWay, wayTo, blocksFor, init, allocate, free, reallocate, collect, survey, load, store}
+use Rattle.rules.specs.Runs.{Call, Init, Allocate, Free, Reallocate, Collect, Survey, Load, Store, step}
+use Rattle.rules.proofs.Refusals.{Shape, Passed, true-not-false, both-left, both-right, not-true, not-false, first-yes, first-no, passes, asks, names, shape-true, shape-of}
+use Rattle.rules.proofs.Tables.{entry-inside, extent-of, well-says, well-of, first-lowest, none-first}
+use Rattle.rules.proofs.Calls.{Ways, stays, shrinks, grows, moves, stuck, way-says, way-is, blocks-some}
+use Rattle.promises.specs.Conditions.{Condition, when, First, NoRun, NoWay, ofInit, ofAllocate, ofFree, ofReallocate, ofCollect, ofSurvey, ofWord}
+use Rattle.promises.specs.Promises.{Object, Accepted, Refused}
+use Rattle.promises.proofs.Checked.{number, refuses, wayOf, testsOfWord, init-checked, allocate-checked, free-checked, reallocate-checked, collect-checked, survey-checked, load-checked, store-checked}
+
+-- ---- the first test that holds
+
+-- a test that says what a condition says, before further tests
+first-step : (t : Test) (ts : List Test) (c : Condition) (cs : List Condition) → t .number ≡ c .number
+    → (t .holds ≡ true → c .holds) → (t .holds ≡ false → ¬ (c .holds)) → (t .holds ≡ false → First cs (firstOf ts)) → First (c ∷ cs) (firstOf (t ∷ ts))
+unfolding First
+first-step t ts c cs same says fails rest = go (t .holds) refl
+  where
+    go : (b : Bool) → t .holds ≡ b → First (c ∷ cs) (firstOf (t ∷ ts))
+    go true e = inl (says e, first-yes t ts e ∙ same)
+    go false e = inr (fails e, rw (first-no t ts e) (rest e))
+
+first-end : First [] (firstOf [])
+unfolding First firstOf
+first-end = refl
+
+-- a number that is not the first test's is that of a later one
+first-later : (t : Test) (ts : List Test) (r : ℕ) → t .number ≢ r → firstOf (t ∷ ts) ≡ r → (t .holds ≡ false) × (firstOf ts ≡ r)
+unfolding firstOf
+first-later t ts r other e = go (t .holds) refl e
+  where
+    go : (b : Bool) → t .holds ≡ b → pick b (t .number) (firstOf ts) ≡ r → (t .holds ≡ false) × (firstOf ts ≡ r)
+    go true h e = absurd (other e)
+    go false h e = (h, e)
+
+-- the last test holds if its number is given
+first-last : (t : Test) (r : ℕ) → 0 < r → firstOf (t ∷ []) ≡ r → t .holds ≡ true
+unfolding firstOf
+first-last t r p e = go (t .holds) refl e
+  where
+    go : (b : Bool) → t .holds ≡ b → pick b (t .number) 0 ≡ r → t .holds ≡ true
+    go true h e = h
+    go false h e = absurd (omega arith)
+
+module _ (base : ℕ) (h : Heap) where
+  -- ---- the tests that every call has
+
+  shape-step : (ts : List Test) (cs : List Condition) → (Shape base h → First cs (firstOf ts)) → First (when 1 (¬ Shape base h) ∷ cs) (firstOf (badShape base h ∷ ts))
+  shape-step ts cs rest =
+      first-step (badShape base h) ts (when 1 (¬ Shape base h)) cs refl
+      (λ e s. true-not-false (shape-of base h s) (not-true (goodShape base h) e))
+      (λ e f. f (shape-true base h (not-false (goodShape base h) e)))
+      (λ e. rest (shape-true base h (not-false (goodShape base h) e)))
+
+  well-step : (ts : List Test) (cs : List Condition) → First cs (firstOf ts) → First (when 2 (¬ Well (h .entries)) ∷ cs) (firstOf (illFormed h ∷ ts))
+  well-step ts cs rest =
+      first-step (illFormed h) ts (when 2 (¬ Well (h .entries))) cs refl
+      (λ e s. true-not-false (well-of (h .entries) s) (not-true (wellFormed (h .entries)) e))
+      (λ e f. f (well-says (h .entries) (not-false (wellFormed (h .entries)) e)))
+      (λ e. rest)
+
+  bytes-step : (bytes : ℕ) (ts : List Test) (cs : List Condition) → (0 < bytes → First cs (firstOf ts)) → First (when 5 (bytes ≡ 0) ∷ cs) (firstOf (noBytes bytes ∷ ts))
+  bytes-step bytes ts cs rest =
+      first-step (noBytes bytes) ts (when 5 (bytes ≡ 0)) cs refl
+      (λ e. eqb-true bytes 0 e)
+      (λ e. eqb-false bytes 0 e)
+      (λ e. rest (omega (arith, eqb-false bytes 0 e)))
+
+  -- the two tests of a call that names an object
+  object-step : (k : ℕ) (ts : List Test) (cs : List Condition) → (Object h k → First cs (firstOf ts))
+      → First (when 6 (length (h .entries) ≤ k) ∷ when 7 (entryAt (h .entries) k ≢ HEAD) ∷ cs) (firstOf (outside h k ∷ noHead h k ∷ ts))
+  object-step k ts cs rest =
+      first-step (outside h k) (noHead h k ∷ ts) (when 6 (length (h .entries) ≤ k)) (when 7 (entryAt (h .entries) k ≢ HEAD) ∷ cs) refl
+      (λ e. leb-true (length (h .entries)) k e)
+      (λ e l. omega (arith, leb-false (length (h .entries)) k e))
+      (λ _. first-step (noHead h k) ts (when 7 (entryAt (h .entries) k ≢ HEAD)) cs refl
+      (λ e. eqb-false (entryAt (h .entries) k) HEAD (not-true (isHead (entryAt (h .entries) k)) e))
+      (λ e f. f (eqb-true (entryAt (h .entries) k) HEAD (not-false (isHead (entryAt (h .entries) k)) e)))
+      (λ e. rest (eqb-true (entryAt (h .entries) k) HEAD (not-false (isHead (entryAt (h .entries) k)) e))))
+
+  word-step : (k i : ℕ) → First (when 8 (4 * blockCount (h .entries) k ≤ i) ∷ []) (firstOf (noWord h k i ∷ []))
+  word-step k i =
+      first-step (noWord h k i) [] (when 8 (4 * blockCount (h .entries) k ≤ i)) [] refl
+      (λ e. leb-true (4 * blockCount (h .entries) k) i e)
+      (λ e l. omega (arith, leb-false (4 * blockCount (h .entries) k) i e))
+      (λ _. first-end)
+
+  -- ---- no room
+
+  run-says : (b : ℕ) (o : Option ℕ) → Lowest (h .entries) b o → isNone o ≡ true → NoRun h b
+  unfolding Lowest
+  run-says b none low e = low
+  run-says b (some s) low e = absurd (true-not-false e refl)
+
+  run-found : (b : ℕ) (o : Option ℕ) → Lowest (h .entries) b o → isNone o ≡ false → ¬ NoRun h b
+  unfolding Lowest
+  run-found b none low e nowhere = true-not-false refl e
+  run-found b (some s) low e nowhere = nowhere s (low .0)
+
+  way-none : (k c : ℕ) (w : Way) → Ways (h .entries) k (blockCount (h .entries) k) c w → isNoWay w ≡ true → NoWay h k c
+  unfolding Lowest
+  way-none k c stay v e = absurd (true-not-false e refl)
+  way-none k c shrink v e = absurd (true-not-false e refl)
+  way-none k c grow v e = absurd (true-not-false e refl)
+  way-none k c (move s) v e = absurd (true-not-false e refl)
+  way-none k c noWay (stuck l full low) e = (l, full, low)
+
+  way-some : (k c : ℕ) (w : Way) → Ways (h .entries) k (blockCount (h .entries) k) c w → isNoWay w ≡ false → ¬ NoWay h k c
+  unfolding Lowest
+  way-some k c stay (stays q) e n = omega (arith, n .0)
+  way-some k c shrink (shrinks l) e n = omega (arith, n .0)
+  way-some k c grow (grows l run) e n = n .1 run
+  way-some k c (move s) (moves l full low) e n = n .2 s (low .0)
+  way-some k c noWay (stuck l full low) e n = true-not-false refl e
+
+  way-of : (k bytes : ℕ) → 0 < bytes → Object h k
+      → Ways (h .entries) k (blockCount (h .entries) k) (blocksFor bytes) (wayTo (h .entries) k (blockCount (h .entries) k) (blocksFor bytes))
+  way-of k bytes some-bytes head =
+      way-says (h .entries) k (blockCount (h .entries) k) (blocksFor bytes)
+      (extent-of (h .entries) k (entry-inside (h .entries) k (λ f. omega arith)) .room)
+      (blocks-some bytes some-bytes)
+
+  -- ---- each call
+
+  pub init-refusal : First (ofInit base h) (init base h .answer .refusal)
+  unfolding ofInit
+  init-refusal = rw (number (init-checked base h)) (shape-step [] [] (λ _. first-end))
+
+  pub allocate-refusal : (bytes : ℕ) → First (ofAllocate base h bytes) (allocate base h bytes .answer .refusal)
+  unfolding ofAllocate
+  allocate-refusal bytes =
+      rw (number (allocate-checked base h bytes))
+      (shape-step _ _ (λ _. well-step _ _ (bytes-step bytes _ _ (λ more.
+      let low = first-lowest (h .entries) (blocksFor bytes) (blocks-some bytes more) in
+      first-step (noRoom (isNone (firstRun (h .entries) (blocksFor bytes)))) [] (when 9 (NoRun h (blocksFor bytes))) [] refl
+      (run-says (blocksFor bytes) (firstRun (h .entries) (blocksFor bytes)) low)
+      (run-found (blocksFor bytes) (firstRun (h .entries) (blocksFor bytes)) low)
+      (λ _. first-end)))))
+
+  pub free-refusal : (k : ℕ) → First (ofFree base h k) (free base h k .answer .refusal)
+  unfolding ofFree
+  free-refusal k = rw (number (free-checked base h k)) (shape-step _ _ (λ _. well-step _ _ (object-step k [] [] (λ _. first-end))))
+
+  pub reallocate-refusal : (k bytes : ℕ) → First (ofReallocate base h k bytes) (reallocate base h k bytes .answer .refusal)
+  unfolding ofReallocate
+  reallocate-refusal k bytes =
+      rw (number (reallocate-checked base h k bytes))
+      (shape-step _ _ (λ _. well-step _ _ (bytes-step bytes _ _ (λ more. object-step k _ _ (λ head.
+      let way = way-of k bytes more head in
+      first-step (noRoom (isNoWay (wayOf base h k bytes))) [] (when 9 (NoWay h k (blocksFor bytes))) [] refl
+      (way-none k (blocksFor bytes) (wayOf base h k bytes) way)
+      (way-some k (blocksFor bytes) (wayOf base h k bytes) way)
+      (λ _. first-end))))))
+
+  -- a collection's first test: the shape, and whole words
+  lists-of : (roots stack : List ℕ) → Shape base h × (length roots % 4 ≡ 0) × (length stack % 4 ≡ 0)
+      → both (goodShape base h) (both (wholeWords roots) (wholeWords stack)) ≡ true
+  unfolding wholeWords
+  lists-of roots stack s = rw (shape-of base h (s .0), eq-eqb (length roots % 4) 0 (s .1), eq-eqb (length stack % 4) 0 (s .2))
+
+  lists-say : (roots stack : List ℕ) → both (goodShape base h) (both (wholeWords roots) (wholeWords stack)) ≡ true
+      → Shape base h × (length roots % 4 ≡ 0) × (length stack % 4 ≡ 0)
+  unfolding wholeWords
+  lists-say roots stack e =
+      let lists = both-right (goodShape base h) _ e in
+      (shape-true base h (both-left (goodShape base h) _ e), eqb-true _ _ (both-left (wholeWords roots) _ lists), eqb-true _ _ (both-right (wholeWords roots) _ lists))
+
+  pub collect-refusal : (roots stack : List ℕ) → First (ofCollect base h roots stack) (collect base h roots stack .answer .refusal)
+  unfolding ofCollect
+  collect-refusal roots stack =
+      rw (number (collect-checked base h roots stack))
+      (first-step (badLists base h roots stack) _ (when 1 (¬ (Shape base h × (length roots % 4 ≡ 0) × (length stack % 4 ≡ 0)))) _ refl
+      (λ e f. true-not-false (lists-of roots stack f) (not-true _ e))
+      (λ e f. f (lists-say roots stack (not-false _ e)))
+      (λ _. well-step _ _
+      (first-step (manyRoots roots) _ (when 3 (4096 < length roots / 4)) _ refl
+      (λ e. ltb-true 4096 (length roots / 4) e)
+      (λ e l. omega (arith, ltb-false 4096 (length roots / 4) e))
+      (λ _. first-step (longStack stack) [] (when 4 (64 < length stack / 4)) [] refl
+      (λ e. ltb-true 64 (length stack / 4) e)
+      (λ e l. omega (arith, ltb-false 64 (length stack / 4) e))
+      (λ _. first-end)))))
+
+  pub survey-refusal : First (ofSurvey base h) (survey base h .answer .refusal)
+  unfolding ofSurvey
+  survey-refusal = rw (number (survey-checked base h)) (shape-step _ _ (λ _. well-step [] [] first-end))
+
+  -- the tests of load and store
+  word-refusal : (k i : ℕ) → First (ofWord base h k i) (firstOf (testsOfWord base h k i))
+  unfolding ofWord
+  word-refusal k i = shape-step _ _ (λ _. well-step _ _ (object-step k _ _ (λ _. word-step k i)))
+
+  pub load-refusal : (k i : ℕ) → First (ofWord base h k i) (load base h k i .answer .refusal)
+  load-refusal k i = rw (number (load-checked base h k i)) (word-refusal k i)
+
+  pub store-refusal : (k i w : ℕ) → First (ofWord base h k i) (store base h k i w .answer .refusal)
+  store-refusal k i w = rw (number (store-checked base h k i w)) (word-refusal k i)
+
+  -- ---- exactly when there is no room
+
+  good-of : Shape base h → wellFormed (h .entries) ≡ true → Passed base h
+  good-of s w = record { shape = s; well = w }
+
+  pub allocate-no-room : (bytes : ℕ) → (allocate base h bytes .answer .refusal ≡ 9) ↔ (Passed base h × (0 < bytes) × NoRun h (blocksFor bytes))
+  allocate-no-room bytes = (only, if)
+    where
+      low : 0 < bytes → Lowest (h .entries) (blocksFor bytes) (firstRun (h .entries) (blocksFor bytes))
+      low more = first-lowest (h .entries) (blocksFor bytes) (blocks-some bytes more)
+
+      only : allocate base h bytes .answer .refusal ≡ 9 → Passed base h × (0 < bytes) × NoRun h (blocksFor bytes)
+      only e =
+          let a = first-later (badShape base h) _ 9 (λ q. omega arith) (rw (number (allocate-checked base h bytes)) at e) in
+          let b = first-later (illFormed h) _ 9 (λ q. omega arith) (a .1) in
+          let c = first-later (noBytes bytes) _ 9 (λ q. omega arith) (b .1) in
+          let more : 0 < bytes = omega (arith, eqb-false bytes 0 (c .0)) in (
+            good-of (shape-true base h (not-false _ (a .0))) (not-false _ (b .0)),
+            more,
+            run-says (blocksFor bytes) (firstRun (h .entries) (blocksFor bytes)) (low more) (first-last (noRoom _) 9 (omega arith) (c .1)),
+          )
+
+      if : Passed base h × (0 < bytes) × NoRun h (blocksFor bytes) → allocate base h bytes .answer .refusal ≡ 9
+      if (good, more, nowhere) =
+          number (allocate-checked base h bytes)
+          ∙ passes base h _ good
+          ∙ asks bytes _ more
+          ∙ first-yes (noRoom _) [] (ap isNone (none-first (h .entries) (blocksFor bytes) (blocks-some bytes more) nowhere))
+
+  pub reallocate-no-room : (k bytes : ℕ)
+      → (reallocate base h k bytes .answer .refusal ≡ 9) ↔ (Passed base h × (0 < bytes) × Object h k × NoWay h k (blocksFor bytes))
+  unfolding Lowest
+  reallocate-no-room k bytes = (only, if)
+    where
+      only : reallocate base h k bytes .answer .refusal ≡ 9 → Passed base h × (0 < bytes) × Object h k × NoWay h k (blocksFor bytes)
+      only e =
+          let a = first-later (badShape base h) _ 9 (λ q. omega arith) (rw (number (reallocate-checked base h k bytes)) at e) in
+          let b = first-later (illFormed h) _ 9 (λ q. omega arith) (a .1) in
+          let c = first-later (noBytes bytes) _ 9 (λ q. omega arith) (b .1) in
+          let d = first-later (outside h k) _ 9 (λ q. omega arith) (c .1) in
+          let f = first-later (noHead h k) _ 9 (λ q. omega arith) (d .1) in
+          let more : 0 < bytes = omega (arith, eqb-false bytes 0 (c .0)) in
+          let head : Object h k = eqb-true _ _ (not-false _ (f .0)) in (
+            good-of (shape-true base h (not-false _ (a .0))) (not-false _ (b .0)),
+            more,
+            head,
+            way-none k (blocksFor bytes) (wayOf base h k bytes) (way-of k bytes more head) (first-last (noRoom _) 9 (omega arith) (f .1)),
+          )
+
+      if : Passed base h × (0 < bytes) × Object h k × NoWay h k (blocksFor bytes) → reallocate base h k bytes .answer .refusal ≡ 9
+      if (good, more, head, (less, full, nowhere)) =
+          let inside = entry-inside (h .entries) k (λ f. omega arith) in
+          number (reallocate-checked base h k bytes)
+          ∙ passes base h _ good
+          ∙ asks bytes _ more
+          ∙ names h k _ (record { inside = inside; head = head })
+          ∙ first-yes (noRoom _) []
+          (ap isNoWay
+          (way-is (h .entries) k (blockCount (h .entries) k) (blocksFor bytes) (extent-of (h .entries) k inside .room) (blocks-some bytes more) noWay
+          (stuck less full nowhere)))
+
+-- ---- a refused call does nothing
+
+pub refused : (c : Call) (stack : List ℕ) (h : Heap) → ¬ Accepted (step c stack h) → Refused h (step c stack h)
+unfolding step
+refused (Init base) stack h no-number = refuses (init-checked base h) no-number .0
+refused (Allocate base bytes) stack h no-number = refuses (allocate-checked base h bytes) no-number .0
+refused (Free base k) stack h no-number = refuses (free-checked base h k) no-number .0
+refused (Reallocate base k bytes) stack h no-number = refuses (reallocate-checked base h k bytes) no-number .0
+refused (Collect base roots) stack h no-number = refuses (collect-checked base h roots stack) no-number .0
+refused (Survey base) stack h no-number = refuses (survey-checked base h) no-number .0
+refused (Load base k i) stack h no-number = refuses (load-checked base h k i) no-number .0
+refused (Store base k i w) stack h no-number = refuses (store-checked base h k i w) no-number .0
+
+pub refused-stack : (base : ℕ) (h : Heap) (roots stack : List ℕ) → ¬ Accepted (collect base h roots stack) → collect base h roots stack .stack ≡ stack
+refused-stack base h roots stack no-number = refuses (collect-checked base h roots stack) no-number .1

@@ -1,0 +1,68 @@
+-- The refusals as conditions in sentences, those of each call in rising order. The first that holds gives the number.
+-- Assumes nothing.
+use mathlib.Core.Path.{_≡_}
+use mathlib.Core.Logic.{_≢_, _⊎_}
+use mathlib.Core.List.{List, [], _∷_}
+use Prim.Native.Nat.{ℕ, _+_, _*_, _-_, _/_, _%_, _≤_, _<_}
+use lib.ListN.{length}
+use Rattle.rules.specs.Entries.{HEAD}
+use Rattle.rules.specs.Tables.{entryAt, blockCount}
+use Rattle.rules.specs.Meaning.{Well, Run}
+use Rattle.rules.specs.Outcomes.{Heap}
+use Rattle.rules.specs.Calls.{blocksFor}
+use Rattle.rules.proofs.Refusals.{Shape}
+
+-- a refusal number and its condition
+pub record Condition : Type 1 where
+  pub number : ℕ
+  pub holds : Type 0
+
+abbrev pub when : ℕ → Type 0 → Condition
+when r holds = record { number = r; holds = holds }
+
+-- r is the number of the first condition that holds, and 0 if none does
+unfoldable pub First : List Condition → ℕ → Type 0
+First [] r = r ≡ 0
+First (c ∷ cs) r = (c .holds × (r ≡ c .number)) ⊎ (¬ (c .holds) × First cs r)
+
+-- the b' - b blocks directly after an object of b blocks at k, which is to have b' blocks, are FREE
+abbrev pub RoomAfter : Heap → ℕ → ℕ → Type 0
+RoomAfter h k b' = Run (h .entries) (b' - blockCount (h .entries) k) (k + blockCount (h .entries) k)
+
+-- nowhere are b consecutive blocks FREE
+abbrev pub NoRun : Heap → ℕ → Type 0
+NoRun h b = (s : ℕ) → ¬ Run (h .entries) b s
+
+-- an object of b blocks at k that is to have more, b', has room neither where it is nor elsewhere
+abbrev pub NoWay : Heap → ℕ → ℕ → Type 0
+NoWay h k b' = (blockCount (h .entries) k < b') × ¬ RoomAfter h k b' × NoRun h b'
+
+unfoldable pub ofInit : ℕ → Heap → List Condition
+ofInit base h = when 1 (¬ Shape base h) ∷ []
+
+unfoldable pub ofAllocate : ℕ → Heap → ℕ → List Condition
+ofAllocate base h bytes = when 1 (¬ Shape base h) ∷ when 2 (¬ Well (h .entries)) ∷ when 5 (bytes ≡ 0) ∷ when 9 (NoRun h (blocksFor bytes)) ∷ []
+
+unfoldable pub ofFree : ℕ → Heap → ℕ → List Condition
+ofFree base h k =
+    when 1 (¬ Shape base h) ∷ when 2 (¬ Well (h .entries)) ∷ when 6 (length (h .entries) ≤ k) ∷ when 7 (entryAt (h .entries) k ≢ HEAD) ∷ []
+
+unfoldable pub ofReallocate : ℕ → Heap → ℕ → ℕ → List Condition
+ofReallocate base h k bytes =
+    when 1 (¬ Shape base h) ∷ when 2 (¬ Well (h .entries)) ∷ when 5 (bytes ≡ 0) ∷ when 6 (length (h .entries) ≤ k) ∷ when 7 (entryAt (h .entries) k ≢ HEAD)
+    ∷ when 9 (NoWay h k (blocksFor bytes)) ∷ []
+
+-- of a collection, 1 is also for roots or a mark stack that are not whole words
+unfoldable pub ofCollect : ℕ → Heap → List ℕ → List ℕ → List Condition
+ofCollect base h roots stack =
+    when 1 (¬ (Shape base h × (length roots % 4 ≡ 0) × (length stack % 4 ≡ 0))) ∷ when 2 (¬ Well (h .entries)) ∷ when 3 (4096 < length roots / 4)
+    ∷ when 4 (64 < length stack / 4) ∷ []
+
+unfoldable pub ofSurvey : ℕ → Heap → List Condition
+ofSurvey base h = when 1 (¬ Shape base h) ∷ when 2 (¬ Well (h .entries)) ∷ []
+
+-- of load and of store
+unfoldable pub ofWord : ℕ → Heap → ℕ → ℕ → List Condition
+ofWord base h k i =
+    when 1 (¬ Shape base h) ∷ when 2 (¬ Well (h .entries)) ∷ when 6 (length (h .entries) ≤ k) ∷ when 7 (entryAt (h .entries) k ≢ HEAD)
+    ∷ when 8 (4 * blockCount (h .entries) k ≤ i) ∷ []

@@ -1,0 +1,187 @@
+-- What follows from the definitions of the calls, in plain sentences: for every heap and every argument.
+-- Assumes nothing.
+use mathlib.Core.Path.{_≡_}
+use mathlib.Core.Logic.{_≢_, _↔_, _⊎_}
+use mathlib.Core.List.{List}
+use mathlib.Core.Option.{some}
+use Prim.Native.Nat.{ℕ, _+_, _*_, _^_, _≤_, _<_}
+use lib.IntN.{pos, negℤ, subℕ, _+ℤ_, natAbs}
+use lib.ListN.{getD}
+use Rattle.rules.specs.Words.{bytesOf}
+use Rattle.rules.specs.Entries.{FREE, HEAD, TAIL}
+use Rattle.rules.specs.Tables.{entryAt, blockCount, used}
+use Rattle.rules.specs.Meaning.{Lowest}
+use Rattle.rules.specs.Outcomes.{Heap, Outcome, onlyRefusal, loaded}
+use Rattle.rules.specs.Calls.{blocksFor, init, allocate, free, reallocate, collect, survey, load, store}
+use Rattle.rules.specs.Runs.{Call, step}
+use Rattle.rules.proofs.Refusals.{Passed}
+use Rattle.promises.specs.Conditions.{First, RoomAfter, NoRun, NoWay, ofInit, ofAllocate, ofFree, ofReallocate, ofCollect, ofSurvey, ofWord}
+
+-- ---- parts of a heap and of an outcome
+
+-- block o is the head of an object
+abbrev pub Object : Heap → ℕ → Type 0
+Object h o = entryAt (h .entries) o ≡ HEAD
+
+-- how many blocks the object has
+abbrev pub blocksOf : Heap → ℕ → ℕ
+blocksOf h o = blockCount (h .entries) o
+
+-- byte i of the pool
+abbrev pub byteAt : Heap → ℕ → ℕ
+byteAt h i = getD (h .pool) i 0
+
+-- block i is one of the b blocks from s on
+abbrev pub Among : ℕ → ℕ → ℕ → Type 0
+Among s b i = (s ≤ i) × (i < s + b)
+
+-- byte i is one of their bytes
+abbrev pub Within : ℕ → ℕ → ℕ → Type 0
+Within s b i = (16 * s ≤ i) × (i < 16 * (s + b))
+
+-- the object o is in both heaps, with the same blocks and the same bytes
+pub record Same (before after : Heap) (o : ℕ) : Type 0 where
+  pub head : Object after o
+  pub blocks : blocksOf after o ≡ blocksOf before o
+  pub bytes : (i : ℕ) → i < 16 * blocksOf before o → byteAt after (16 * o + i) ≡ byteAt before (16 * o + i)
+
+abbrev pub Accepted : Outcome → Type 0
+Accepted r = r .answer .refusal ≡ 0
+
+-- ---- what each call does
+
+-- a refused call: only the number is answered, and the heap is as before
+pub record Refused (before : Heap) (r : Outcome) : Type 0 where
+  pub answer : r .answer ≡ onlyRefusal (r .answer .refusal)
+  pub heap : r .heap ≡ before
+
+-- the answered change is that of the used blocks, and lies from -4,096 to 4,096
+pub record Counts (before : Heap) (r : Outcome) : Type 0 where
+  pub sum : pos (used (r .heap .entries)) ≡ pos (used (before .entries)) +ℤ r .answer .change
+  pub range : natAbs (r .answer .change) ≤ 4096
+
+-- an accepted init
+pub record Initialised (base : ℕ) (before : Heap) (r : Outcome) : Type 0 where
+  -- every block is FREE
+  pub free : (i : ℕ) → entryAt (r .heap .entries) i ≡ FREE
+  pub none-used : used (r .heap .entries) ≡ 0
+  -- no byte is changed
+  pub bytes : r .heap .pool ≡ before .pool
+  -- the shape is good and the table well-formed
+  pub good : Passed base (r .heap)
+
+-- an accepted allocate of b blocks
+pub record Allocated (base : ℕ) (before : Heap) (b : ℕ) (r : Outcome) : Type 0 where
+  -- it answers the lowest start at which b consecutive blocks were FREE
+  pub start : Lowest (before .entries) b (some (r .answer .block))
+  -- there stand a HEAD and b - 1 TAILs
+  pub head : Object (r .heap) (r .answer .block)
+  pub tail : (j : ℕ) → 0 < j → j < b → entryAt (r .heap .entries) (r .answer .block + j) ≡ TAIL
+  -- and no more: an object of b blocks
+  pub blocks : blocksOf (r .heap) (r .answer .block) ≡ b
+  -- all its bytes are zero
+  pub zero : (i : ℕ) → i < 16 * b → byteAt (r .heap) (16 * r .answer .block + i) ≡ 0
+  -- every other entry and every other byte is as before
+  pub entries : (i : ℕ) → ¬ Among (r .answer .block) b i → entryAt (r .heap .entries) i ≡ entryAt (before .entries) i
+  pub bytes : (i : ℕ) → ¬ Within (r .answer .block) b i → byteAt (r .heap) i ≡ byteAt before i
+  -- and so is every other object
+  pub others : (o : ℕ) → Object before o → Same before (r .heap) o
+  -- b more blocks are used
+  pub change : r .answer .change ≡ pos b
+  pub counts : Counts before r
+  -- the shape is good and the table well-formed
+  pub good : Passed base (r .heap)
+
+-- an accepted free of the object k
+pub record Freed (base : ℕ) (before : Heap) (k : ℕ) (r : Outcome) : Type 0 where
+  -- its blocks are FREE
+  pub free : (i : ℕ) → Among k (blocksOf before k) i → entryAt (r .heap .entries) i ≡ FREE
+  -- every other entry and every byte is as before
+  pub entries : (i : ℕ) → ¬ Among k (blocksOf before k) i → entryAt (r .heap .entries) i ≡ entryAt (before .entries) i
+  pub bytes : r .heap .pool ≡ before .pool
+  -- and so is every other object
+  pub others : (o : ℕ) → Object before o → o ≢ k → Same before (r .heap) o
+  -- as many blocks as it had are no longer used
+  pub change : r .answer .change ≡ negℤ (pos (blocksOf before k))
+  pub counts : Counts before r
+  -- the shape is good and the table well-formed
+  pub good : Passed base (r .heap)
+  -- an allocate of as many blocks, or of fewer, then finds room
+  pub room : (bytes : ℕ) → 0 < bytes → blocksFor bytes ≤ blocksOf before k → Accepted (allocate base (r .heap) bytes)
+
+-- an accepted reallocate of the object k to b' blocks
+pub record Reallocated (base : ℕ) (before : Heap) (k b' : ℕ) (r : Outcome) : Type 0 where
+  -- to as many blocks as it has: nothing changes
+  pub equal : b' ≡ blocksOf before k → r .heap ≡ before
+  -- to no more, or where those directly after it are FREE, it stays where it is
+  pub in-place : (b' ≤ blocksOf before k) ⊎ RoomAfter before k b' → r .answer .block ≡ k
+  -- else it moves to the lowest start at which b' consecutive blocks were FREE, with the old object still held
+  pub elsewhere : blocksOf before k < b' → ¬ RoomAfter before k b' → Lowest (before .entries) b' (some (r .answer .block))
+  -- there it has b' blocks
+  pub head : Object (r .heap) (r .answer .block)
+  pub blocks : blocksOf (r .heap) (r .answer .block) ≡ b'
+  -- with the old bytes, as far as both reach
+  pub kept : (i : ℕ) → i < 16 * blocksOf before k → i < 16 * b' → byteAt (r .heap) (16 * r .answer .block + i) ≡ byteAt before (16 * k + i)
+  -- and zeros after them
+  pub zero : (i : ℕ) → 16 * blocksOf before k ≤ i → i < 16 * b' → byteAt (r .heap) (16 * r .answer .block + i) ≡ 0
+  -- the blocks that it had and no longer has are FREE
+  pub free : (i : ℕ) → Among k (blocksOf before k) i → ¬ Among (r .answer .block) b' i → entryAt (r .heap .entries) i ≡ FREE
+  -- every other entry and every other byte is as before
+  pub entries : (i : ℕ) → ¬ Among k (blocksOf before k) i → ¬ Among (r .answer .block) b' i → entryAt (r .heap .entries) i ≡ entryAt (before .entries) i
+  pub bytes : (i : ℕ) → ¬ Within (r .answer .block) b' i → byteAt (r .heap) i ≡ byteAt before i
+  -- and so is every other object
+  pub others : (o : ℕ) → Object before o → o ≢ k → Same before (r .heap) o
+  -- the used blocks change by the difference of its blocks after and before
+  pub change : r .answer .change ≡ subℕ b' (blocksOf before k)
+  pub counts : Counts before r
+  -- the shape is good and the table well-formed
+  pub good : Passed base (r .heap)
+
+-- an accepted store of w to word i of the object k
+pub record Stored (base : ℕ) (before : Heap) (k i w : ℕ) (r : Outcome) : Type 0 where
+  -- the table is as before
+  pub table : r .heap .entries ≡ before .entries
+  -- the four bytes are those of w, the lowest first
+  pub four : (j : ℕ) → j < 4 → byteAt (r .heap) (16 * k + 4 * i + j) ≡ getD (bytesOf w) j 0
+  -- every other byte is as before
+  pub bytes : (j : ℕ) → ¬ ((16 * k + 4 * i ≤ j) × (j < 16 * k + 4 * i + 4)) → byteAt (r .heap) j ≡ byteAt before j
+  -- and so is every other object
+  pub others : (o : ℕ) → Object before o → o ≢ k → Same before (r .heap) o
+  -- a load of that word gives what was stored
+  pub back : w < 2 ^ 32 → load base (r .heap) k i .answer ≡ loaded w
+  -- a load of any other word, of this object or of another, answers as before
+  pub other : (o j : ℕ) → (o ≢ k) ⊎ (j ≢ i) → load base (r .heap) o j .answer ≡ load base before o j .answer
+  -- the shape is good and the table well-formed
+  pub good : Passed base (r .heap)
+
+-- ---- the promises, for every heap and every argument
+
+pub record Promises : Type 0 where
+  -- the refusal number of each call is that of the first of its conditions that holds
+  pub init-refusal : (base : ℕ) (h : Heap) → First (ofInit base h) (init base h .answer .refusal)
+  pub allocate-refusal : (base : ℕ) (h : Heap) (bytes : ℕ) → First (ofAllocate base h bytes) (allocate base h bytes .answer .refusal)
+  pub free-refusal : (base : ℕ) (h : Heap) (k : ℕ) → First (ofFree base h k) (free base h k .answer .refusal)
+  pub reallocate-refusal : (base : ℕ) (h : Heap) (k bytes : ℕ) → First (ofReallocate base h k bytes) (reallocate base h k bytes .answer .refusal)
+  pub collect-refusal : (base : ℕ) (h : Heap) (roots stack : List ℕ) → First (ofCollect base h roots stack) (collect base h roots stack .answer .refusal)
+  pub survey-refusal : (base : ℕ) (h : Heap) → First (ofSurvey base h) (survey base h .answer .refusal)
+  pub load-refusal : (base : ℕ) (h : Heap) (k i : ℕ) → First (ofWord base h k i) (load base h k i .answer .refusal)
+  pub store-refusal : (base : ℕ) (h : Heap) (k i w : ℕ) → First (ofWord base h k i) (store base h k i w .answer .refusal)
+  -- allocate answers 9 exactly if nothing else is refused and nowhere are enough consecutive blocks FREE
+  pub allocate-no-room : (base : ℕ) (h : Heap) (bytes : ℕ)
+      → (allocate base h bytes .answer .refusal ≡ 9) ↔ (Passed base h × (0 < bytes) × NoRun h (blocksFor bytes))
+  -- reallocate answers 9 exactly if nothing else is refused and the object has room neither where it is nor elsewhere
+  pub reallocate-no-room : (base : ℕ) (h : Heap) (k bytes : ℕ)
+      → (reallocate base h k bytes .answer .refusal ≡ 9) ↔ (Passed base h × (0 < bytes) × Object h k × NoWay h k (blocksFor bytes))
+  -- a call that is refused does nothing
+  pub refused : (c : Call) (stack : List ℕ) (h : Heap) → ¬ Accepted (step c stack h) → Refused h (step c stack h)
+  pub refused-stack : (base : ℕ) (h : Heap) (roots stack : List ℕ) → ¬ Accepted (collect base h roots stack) → collect base h roots stack .stack ≡ stack
+  -- a call that is accepted does what its record says
+  pub initialised : (base : ℕ) (h : Heap) → Accepted (init base h) → Initialised base h (init base h)
+  pub allocated : (base : ℕ) (h : Heap) (bytes : ℕ) → Accepted (allocate base h bytes) → Allocated base h (blocksFor bytes) (allocate base h bytes)
+  pub freed : (base : ℕ) (h : Heap) (k : ℕ) → Accepted (free base h k) → Freed base h k (free base h k)
+  pub reallocated : (base : ℕ) (h : Heap) (k bytes : ℕ) → Accepted (reallocate base h k bytes)
+      → Reallocated base h k (blocksFor bytes) (reallocate base h k bytes)
+  pub stored : (base : ℕ) (h : Heap) (k i w : ℕ) → Accepted (store base h k i w) → Stored base h k i w (store base h k i w)
+  -- survey and load leave the heap as it is
+  pub survey-leaves : (base : ℕ) (h : Heap) → survey base h .heap ≡ h
+  pub load-leaves : (base : ℕ) (h : Heap) (k i : ℕ) → load base h k i .heap ≡ h

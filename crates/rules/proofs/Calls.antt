@@ -1,0 +1,175 @@
+-- Laws of the calls' acts: the change in used blocks of each, how many blocks a request takes, and the ways to reallocate.
+-- Assumes nothing.
+use mathlib.Core.Path.{_≡_, refl, ap, _∙_}
+use mathlib.Core.Logic.{_⊎_, inl, inr, ⊎-elim}
+use mathlib.Core.Bool.{Bool, true, false}
+use mathlib.Core.List.{List}
+use mathlib.Core.Option.{Option, some, none}
+use Prim.Native.Nat.{ℕ, zero, suc, _+_, _-_, _*_, _≤_, _<_}
+use native.Mathlib.Decide.{ℕ-discrete, decLt}
+use native.Mathlib.Omega.{arith}
+use lib.Dec.{leb}
+use lib.IntN.{pos, negℤ, subℕ}
+use lib.ListN.{length}
+use borrow.Author.Tests.{lt-ltb, le-ltb, eq-eqb, ne-eqb, le-leb, leb-true}
+use Rattle.rules.specs.Tests.{pick}
+use Rattle.rules.specs.Entries.{HEAD}
+use Rattle.rules.specs.Tables.{entryAt, blockCount, freeFrom, firstRun, placed, released, extended, used}
+use Rattle.rules.specs.Outcomes.{changeFrom}
+use Rattle.rules.specs.Meaning.{Run, Lowest}
+use Rattle.rules.specs.Calls.{Way, stay, shrink, grow, move, noWay, movesTo, wayToGrow, wayTo, blocksFor}
+use Rattle.rules.proofs.Tables.{entry-inside, extent-of, run-apart, run-le, le-run, first-lowest, first-is, none-first}
+use Rattle.rules.proofs.Changes.{placed-used, extended-used, freed-used, shrunk-used, moved-used}
+
+-- ---- differences
+
+-- two differences are the same if the sums crosswise are
+pub sub-same : (a b c d : ℕ) → a + d ≡ c + b → subℕ a b ≡ subℕ c d
+sub-same a b c d e = go (decLt a b)
+  where
+    go : Dec (a < b) → subℕ a b ≡ subℕ c d
+    go (yes l) = let n : b - suc a ≡ d - suc c = omega arith in rw (lt-ltb a b l, lt-ltb c d (omega arith), n)
+    go (no l) = let n : a - b ≡ c - d = omega arith in rw (le-ltb a b (omega arith), le-ltb c d (omega arith), n)
+
+pub sub-more : (a b : ℕ) → subℕ (a + b) a ≡ pos b
+sub-more a b = let n : a + b - a ≡ b = omega arith in rw (le-ltb (a + b) a (omega arith), n)
+
+pub sub-less : (a b : ℕ) → subℕ a (a + b) ≡ negℤ (pos b)
+sub-less a zero = let n : a + 0 ≡ a = omega arith in let z : a - a ≡ 0 = omega arith in rw (n, le-ltb a a (omega arith), z)
+sub-less a (suc b) = let n : a + suc b - suc a ≡ b = omega arith in rw (lt-ltb a (a + suc b) (omega arith), n)
+
+-- ---- the change in used blocks
+
+pub allocate-change : (es : List ℕ) (s b : ℕ) → 0 < b → Run es b s → changeFrom es (placed es s b) ≡ pos b
+unfolding changeFrom
+allocate-change es s b h run = rw (placed-used es s b h run) (sub-more (used es) b)
+
+pub free-change : (es : List ℕ) (k : ℕ) → entryAt es k ≡ HEAD → changeFrom es (released es k (blockCount es k)) ≡ negℤ (pos (blockCount es k))
+unfolding changeFrom
+free-change es k head = rw (← freed-used es k head) (sub-less (used (released es k (blockCount es k))) (blockCount es k))
+
+pub shrink-change : (es : List ℕ) (k c : ℕ) → entryAt es k ≡ HEAD → 0 < c → c ≤ blockCount es k
+    → changeFrom es (released es (k + c) (blockCount es k - c)) ≡ subℕ c (blockCount es k)
+unfolding changeFrom
+shrink-change es k c head h fewer =
+    sub-same (used (released es (k + c) (blockCount es k - c))) (used es) c (blockCount es k) (omega (arith, shrunk-used es k head c h fewer))
+
+pub grow-change : (es : List ℕ) (k b c : ℕ) → b ≤ c → Run es (c - b) (k + b) → changeFrom es (extended es (k + b) (c - b)) ≡ subℕ c b
+unfolding changeFrom
+grow-change es k b c more run =
+    sub-same (used (extended es (k + b) (c - b))) (used es) c b (omega (arith, extended-used es (k + b) (c - b) run))
+
+pub move-change : (es : List ℕ) (k c s : ℕ) → entryAt es k ≡ HEAD → 0 < c → Run es c s
+    → changeFrom es (released (placed es s c) k (blockCount es k)) ≡ subℕ c (blockCount es k)
+unfolding changeFrom
+move-change es k c s head h run =
+    sub-same (used (released (placed es s c) k (blockCount es k))) (used es) c (blockCount es k) (omega (arith, moved-used es k head c s h run))
+
+-- ---- how many blocks a request takes
+
+pub blocks-some : (bytes : ℕ) → 0 < bytes → 0 < blocksFor bytes
+unfolding blocksFor
+blocks-some bytes h = omega arith
+
+-- enough for the bytes, and no block too many
+pub blocks-enough : (bytes : ℕ) → bytes ≤ 16 * blocksFor bytes
+unfolding blocksFor
+blocks-enough bytes = omega arith
+
+pub blocks-least : (bytes n : ℕ) → bytes ≤ 16 * n → blocksFor bytes ≤ n
+unfolding blocksFor
+blocks-least bytes n h = omega arith
+
+pub blocks-more : (bytes n : ℕ) → 16 * n < bytes → n < blocksFor bytes
+unfolding blocksFor
+blocks-more bytes n h = omega arith
+
+pub blocks-exact : (n : ℕ) → blocksFor (16 * n) ≡ n
+unfolding blocksFor
+blocks-exact n = omega arith
+
+-- ---- the ways to reallocate
+
+-- what each way to c blocks, for the object of b blocks at k, says
+pub data Ways (es : List ℕ) (k b c : ℕ) : Way → Type 0 where
+  stays : c ≡ b → Ways es k b c stay
+  shrinks : c < b → Ways es k b c shrink
+  grows : b < c → Run es (c - b) (k + b) → Ways es k b c grow
+  moves : {s : ℕ} → b < c → (Run es (c - b) (k + b) → ⊥) → Lowest es c (some s) → Ways es k b c (move s)
+  stuck : b < c → (Run es (c - b) (k + b) → ⊥) → Lowest es c none → Ways es k b c noWay
+
+module _ (es : List ℕ) (k b c : ℕ) where
+  pub way-stay : c ≡ b → wayTo es k b c ≡ stay
+  unfolding wayTo
+  way-stay e = rw (eq-eqb c b e)
+
+  pub way-shrink : c < b → wayTo es k b c ≡ shrink
+  unfolding wayTo
+  way-shrink l = rw (ne-eqb c b (λ e. omega arith), lt-ltb c b l)
+
+  -- more blocks are wanted
+  way-more : b < c → wayTo es k b c ≡ wayToGrow es k b c
+  unfolding wayTo
+  way-more l = rw (ne-eqb c b (λ e. omega arith), le-ltb c b (omega arith))
+
+  pub way-grow : b < c → Run es (c - b) (k + b) → wayTo es k b c ≡ grow
+  unfolding wayToGrow
+  way-grow l run = rw (way-more l, le-leb (c - b) (freeFrom es (k + b)) (run-le es (c - b) (k + b) run))
+
+  module _ (inside : k + b ≤ length es) where
+    -- the blocks directly after are not all free
+    pub way-elsewhere : b < c → (Run es (c - b) (k + b) → ⊥) → wayTo es k b c ≡ movesTo (firstRun es c)
+    unfolding wayToGrow
+    way-elsewhere l full = rw (way-more l) (go (leb (c - b) (freeFrom es (k + b))) refl)
+      where
+        go : (v : Bool) → leb (c - b) (freeFrom es (k + b)) ≡ v → pick v grow (movesTo (firstRun es c)) ≡ movesTo (firstRun es c)
+        go true e = absurd (full (le-run es (c - b) (k + b) inside (leb-true (c - b) (freeFrom es (k + b)) e)))
+        go false e = refl
+
+    pub way-says : 0 < c → Ways es k b c (wayTo es k b c)
+    unfolding movesTo
+    way-says h = go (ℕ-discrete c b) (decLt c b)
+      where
+        found : b < c → (Run es (c - b) (k + b) → ⊥) → (o : Option ℕ) → Lowest es c o → Ways es k b c (movesTo o)
+        found l full none low = stuck l full low
+        found l full (some s) low = moves l full low
+
+        more : b < c → Dec (freeFrom es (k + b) < c - b) → Ways es k b c (wayTo es k b c)
+        more l (no r) = let run = le-run es (c - b) (k + b) inside (omega arith) in rw (way-grow l run) (grows l run)
+        more l (yes r) =
+            let full : Run es (c - b) (k + b) → ⊥ = λ run. omega (arith, run-le es (c - b) (k + b) run) in
+            rw (way-elsewhere l full) (found l full (firstRun es c) (first-lowest es c h))
+
+        go : Dec (c ≡ b) → Dec (c < b) → Ways es k b c (wayTo es k b c)
+        go (yes e) _ = rw (way-stay e) (stays e)
+        go (no e) (yes l) = rw (way-shrink l) (shrinks l)
+        go (no e) (no l) = more (omega arith) (decLt (freeFrom es (k + b)) (c - b))
+
+    pub way-is : 0 < c → (w : Way) → Ways es k b c w → wayTo es k b c ≡ w
+    unfolding movesTo
+    way-is h stay (stays e) = way-stay e
+    way-is h shrink (shrinks l) = way-shrink l
+    way-is h grow (grows l run) = way-grow l run
+    way-is h (move s) (moves l full low) = way-elsewhere l full ∙ ap movesTo (first-is es c (some s) h low)
+    way-is h noWay (stuck l full low) = way-elsewhere l full ∙ ap movesTo (first-is es c none h low)
+
+-- ---- a request larger than the pool finds no room
+
+pub request-nowhere : (es pool : List ℕ) (bytes : ℕ) → length pool ≡ 16 * length es → length pool < bytes → firstRun es (blocksFor bytes) ≡ none
+request-nowhere es pool bytes e l =
+    none-first es (blocksFor bytes) (blocks-some bytes (omega arith)) (λ s r. omega (arith, r .room, blocks-more bytes (length es) (omega arith)))
+
+pub request-no-way : (es pool : List ℕ) (k bytes : ℕ) → length pool ≡ 16 * length es → length pool < bytes → entryAt es k ≡ HEAD
+    → wayTo es k (blockCount es k) (blocksFor bytes) ≡ noWay
+unfolding movesTo
+request-no-way es pool k bytes e l head =
+    let x = extent-of es k (entry-inside es k (λ f. omega arith)) in
+    let more = blocks-more bytes (length es) (omega arith) in
+    way-elsewhere es k (blockCount es k) (blocksFor bytes) (x .room) (omega (arith, x .room)) (λ r. omega (arith, r .room))
+    ∙ ap movesTo (request-nowhere es pool bytes e l)
+
+-- ---- a run and an object do not meet
+
+pub run-beside : (es : List ℕ) (c s k : ℕ) → 0 < c → Run es c s → entryAt es k ≡ HEAD → (s + c ≤ k) ⊎ (k + blockCount es k ≤ s)
+run-beside es c s k h run head =
+    ⊎-elim inr inl (run-apart es k (blockCount es k) s c (extent-of es k (entry-inside es k (λ f. omega arith))) h run head)
