@@ -15,8 +15,9 @@ use Rattle.rules.specs.Tests.{leading}
 use Rattle.rules.specs.Entries.{FREE, HEAD, TAIL}
 use Rattle.rules.specs.Tables.{entryAt, isFree, isHead, isTail, mayFollow, wellAfter, wellFormed, blockCount, placed, released, extended, used, objects}
 use Rattle.rules.specs.Meaning.{Extent, Run}
+use Rattle.rules.proofs.Refusals.{both-left, both-right}
 use Rattle.rules.proofs.Lists.{sets-out, sets-in, sets-cons, sets-below, one, count-set, count-all, count-none, count-cons, count-sets-fresh, count-sets-gone}
-use Rattle.rules.proofs.Tables.{both-left, both-right, both-of, may-not-mark, may-of, extent-of, extent-used, extent-before, objects-apart, run-apart, run-next, count-is, entry-inside}
+use Rattle.rules.proofs.Tables.{both-of, may-not-mark, may-of, extent-of, extent-used, extent-before, objects-apart, run-apart, run-next, count-is, entry-inside}
 
 -- ---- entries
 

@@ -17,23 +17,13 @@ use Rattle.rules.specs.Tests.{both, leading}
 use Rattle.rules.specs.Entries.{FREE, HEAD, TAIL, MARK}
 use Rattle.rules.specs.Tables.{entryAt, isFree, isHead, isTail, mayFollow, wellAfter, wellFormed, blockCount, freeFrom, fits, firstFrom, firstRun, used, objects, longest}
 use Rattle.rules.specs.Meaning.{Well, Extent, Run, Lowest, Longest}
+use Rattle.rules.proofs.Refusals.{true-not-false, both-left, both-right}
 use Rattle.rules.proofs.Lists.{count-le, leading-le, leading-pass, leading-stop, leading-more}
 
--- ---- tests
-
-pub both-left : (a b : Bool) → both a b ≡ true → a ≡ true
-both-left true b t = refl
-both-left false b t = t
-
-pub both-right : (a b : Bool) → both a b ≡ true → b ≡ true
-both-right true b t = t
-both-right false b t = let z : _≡_ {A = ℕ} 0 1 = cc in absurd (omega arith)
+-- ---- tests and entries
 
 pub both-of : (a b : Bool) → a ≡ true → b ≡ true → both a b ≡ true
 both-of a b s t = rw (s, t)
-
-pub true-not-false : {b : Bool} → b ≡ true → b ≡ false → ⊥
-true-not-false t f = let z : _≡_ {A = ℕ} 0 1 = cc in omega arith
 
 -- outside the table an entry counts as FREE
 pub entry-outside : (es : List ℕ) (k : ℕ) → length es ≤ k → entryAt es k ≡ FREE

@@ -10,6 +10,7 @@ use borrow.Author.Needs.{needs}
 use borrow.Author.Count.{below-more}
 use Rattle.rules.specs.Entries.{TAIL, entriesOf}
 use Rattle.rules.specs.Tables.{entryAt, blockCount}
+use Rattle.rules.proofs.Entries.{length-entriesOf}
 use Rattle.rules.proofs.Tables.{count-is, entry-outside}
 use Rattle.table.proofs.block_count.Statement.{statement}
 use Rattle.table.proofs.block_count.Tie as tie
@@ -38,7 +39,7 @@ blocks-requires : tie.Need-blocks-requires Inv-loop μ-loop
 blocks-requires c κs = search needs
 
 add-i : tie.Need-add-i Inv-loop μ-loop
-add-i c = search needs
+add-i c = omega (arith, length-entriesOf (c .before .before .args .table .now))
 
 loop-holds : tie.Need-loop-holds Inv-loop μ-loop
 loop-holds c = (search needs, λ j l m. absurd (omega arith))

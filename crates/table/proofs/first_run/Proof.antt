@@ -6,10 +6,11 @@ use mathlib.Core.Option.{some}
 use Prim.Native.Nat.{ℕ, _+_, _-_, _≤_, _<_}
 use native.Mathlib.Omega.{arith}
 use borrow.Author.Needs.{needs}
-use borrow.Author.Count.{below-none, below-more}
+use borrow.Author.Count.{below-more}
 use Rattle.rules.specs.Entries.{FREE, entriesOf}
 use Rattle.rules.specs.Tables.{entryAt}
 use Rattle.rules.specs.Meaning.{Run, Lowest}
+use Rattle.rules.proofs.Entries.{length-entriesOf}
 use Rattle.rules.proofs.Tables.{first-is, none-first, run-skip}
 use Rattle.table.proofs.first_run.Statement.{statement}
 use Rattle.table.proofs.first_run.Tie as tie
@@ -33,10 +34,10 @@ returns : tie.Need-returns Inv-loop μ-loop Inv-starts μ-starts
 returns c = sym (none-first _ _ (search needs) (λ q r. omega (arith, r .room)))
 
 starts-holds : tie.Need-starts-holds Inv-loop μ-loop Inv-starts μ-starts
-starts-holds c = below-none _
+starts-holds c = λ q l. absurd (omega arith)
 
 loop-holds : tie.Need-loop-holds Inv-loop μ-loop Inv-starts μ-starts
-loop-holds c = (search needs, below-none _)
+loop-holds c = (search needs, λ j l. absurd (omega arith))
 
 add-t11 : tie.Need-add-t11 Inv-loop μ-loop Inv-starts μ-starts
 add-t11 c = search needs
@@ -48,7 +49,9 @@ add-start : tie.Need-add-start Inv-loop μ-loop Inv-starts μ-starts
 add-start c = search needs
 
 add-start-2 : tie.Need-add-start-2 Inv-loop μ-loop Inv-starts μ-starts
-add-start-2 c = search needs
+add-start-2 c =
+    let s = c .before .before .before .before .before .before .before .before .before in
+    omega (arith, s .pre, length-entriesOf (s .args .table .now))
 
 starts-less : tie.Need-starts-less Inv-loop μ-loop Inv-starts μ-starts
 starts-less c = search needs
@@ -57,7 +60,7 @@ starts-again : tie.Need-starts-again Inv-loop μ-loop Inv-starts μ-starts
 starts-again c =
     let l = c .before .before .before in
     let e = l .loop .inv .0 .0 in
-    rw e (run-skip _ _ _ (l .loop .i) (l .before .before .starts .inv) (search needs) (λ z. c .if2 .taken (c .before .entry .ensures ∙ rw e z)))
+    λ q h. run-skip _ _ _ (l .loop .i) (l .before .before .starts .inv) (search needs) (λ z. c .if2 .taken (c .before .entry .ensures ∙ rw e z)) q (omega arith)
 
 add-i : tie.Need-add-i Inv-loop μ-loop Inv-starts μ-starts
 add-i c = search needs

@@ -4,7 +4,7 @@ use mathlib.Core.Path.{_≡_, sym, _∙_}
 use Prim.Native.Nat.{ℕ, _+_, _-_, _≤_, _<_}
 use native.Mathlib.Omega.{arith}
 use borrow.Author.Needs.{needs}
-use borrow.Author.Count.{below-none, below-more}
+use borrow.Author.Count.{below-more}
 use borrow.Author.Tests.{le-leb, lt-leb}
 use Rattle.rules.specs.Entries.{FREE, entriesOf}
 use Rattle.rules.specs.Tables.{entryAt, freeFrom}
@@ -31,7 +31,7 @@ returns c =
     sym (lt-leb (a .count) (freeFrom es (a .from .0)) (omega (arith, free-room es (a .from .0))))
 
 loop-holds : tie.Need-loop-holds Inv-loop μ-loop
-loop-holds c = (search needs, below-none _)
+loop-holds c = (search needs, λ j l. absurd (omega arith))
 
 add-t11 : tie.Need-add-t11 Inv-loop μ-loop
 add-t11 c = search needs
