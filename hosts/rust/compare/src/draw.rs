@@ -191,25 +191,25 @@ pub fn word_value(random: &mut Random, lent: &Lent) -> u32 {
 
 /// A call with its arguments; for a collection also roots and mark stack.
 pub fn call(random: &mut Random, lent: &mut Lent) -> Call {
-    match random.below(100) {
+    match random.below(300) {
         0 => Call::Init,
-        1..=24 => Call::Allocate {
+        1..=74 => Call::Allocate {
             bytes: bytes(random, lent),
         },
-        25..=36 => Call::Free {
+        75..=104 => Call::Free {
             block: block(random, lent),
         },
-        37..=57 => Call::Reallocate {
+        105..=169 => Call::Reallocate {
             block: block(random, lent),
             bytes: bytes(random, lent),
         },
-        58..=71 => {
+        170..=214 => {
             draw_roots(random, lent);
             lent.stack = Guarded::new(&stack(random));
             Call::Collect
         }
-        72..=77 => Call::Survey,
-        78..=87 => {
+        215..=229 => Call::Survey,
+        230..=259 => {
             let block = block(random, lent);
             Call::Load {
                 block,
@@ -266,7 +266,7 @@ fn word(random: &mut Random, lent: &Lent, block: u64) -> u64 {
 
 /// Most heads, or a few words; at times the most roots, too many, or a piece of one.
 pub fn draw_roots(random: &mut Random, lent: &mut Lent) {
-    let mut roots = if random.percent(60) {
+    let mut roots = if random.percent(80) {
         most_heads(random, lent)
     } else {
         Vec::new()

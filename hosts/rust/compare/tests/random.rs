@@ -3,7 +3,7 @@
 use compare::{library, run_walks, wrapper, Coverage, Sizes, Subject};
 use std::time::Instant;
 
-const CALLS: u64 = 300_000;
+const CALLS: u64 = 400_000;
 
 /// The heaps' sizes, each with its share of the calls in a hundred.
 const SHARES: [(Sizes, u64); 5] = [
