@@ -6,10 +6,7 @@ fn main() {
     println!("cargo:rerun-if-env-changed=BLOCKHEAP_LIB");
     let archive = archive();
     println!("cargo:rerun-if-changed={}", archive.display());
-    let file = archive
-        .file_name()
-        .and_then(|name| name.to_str())
-        .expect("an archive's name");
+    let file = archive.file_name().and_then(|name| name.to_str()).expect("an archive's name");
     let folder = archive.parent().expect("an archive's folder");
     println!("cargo:rustc-link-search=native={}", folder.display());
     println!("cargo:rustc-link-lib=static:+verbatim={file}");

@@ -88,10 +88,7 @@ impl<'m> Heap<'m> {
             &mut block,
             &mut change
         )?;
-        Ok(Placed {
-            block: block.into(),
-            change,
-        })
+        Ok(Placed { block: block.into(), change })
     }
 
     /// Frees an object and answers the change in used blocks.
@@ -114,10 +111,7 @@ impl<'m> Heap<'m> {
             &mut new_block,
             &mut change
         )?;
-        Ok(Placed {
-            block: new_block.into(),
-            change,
-        })
+        Ok(Placed { block: new_block.into(), change })
     }
 
     /// Frees every object that no chain of pointers leads to from the roots. Roots and mark stack
@@ -137,56 +131,24 @@ impl<'m> Heap<'m> {
             &mut rescans,
             &mut change
         )?;
-        Ok(Collected {
-            kept,
-            rescans,
-            change,
-        })
+        Ok(Collected { kept, rescans, change })
     }
 
     pub fn survey(&self) -> Result<Survey, Refusal> {
         let (mut used, mut objects, mut longest) = (0, 0, 0);
-        hand_over!(
-            blockheap_survey,
-            self,
-            as_ptr,
-            as_ptr,
-            &mut used,
-            &mut objects,
-            &mut longest
-        )?;
-        Ok(Survey {
-            used,
-            objects,
-            longest,
-        })
+        hand_over!(blockheap_survey, self, as_ptr, as_ptr, &mut used, &mut objects, &mut longest)?;
+        Ok(Survey { used, objects, longest })
     }
 
     /// Reads one word of an object.
     pub fn load(&self, block: u64, word: u64) -> Result<u32, Refusal> {
         let mut value = 0;
-        hand_over!(
-            blockheap_load,
-            self,
-            as_ptr,
-            as_ptr,
-            block,
-            word,
-            &mut value
-        )?;
+        hand_over!(blockheap_load, self, as_ptr, as_ptr, block, word, &mut value)?;
         Ok(value)
     }
 
     /// Writes one word of an object.
     pub fn store(&mut self, block: u64, word: u64, value: u32) -> Result<(), Refusal> {
-        hand_over!(
-            blockheap_store,
-            self,
-            as_mut_ptr,
-            as_ptr,
-            block,
-            word,
-            value
-        )
+        hand_over!(blockheap_store, self, as_mut_ptr, as_ptr, block, word, value)
     }
 }

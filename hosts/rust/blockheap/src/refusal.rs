@@ -65,9 +65,7 @@ pub(crate) fn check(number: u32) -> Result<(), Refusal> {
     if number == 0 {
         return Ok(());
     }
-    let known = Refusal::ALL
-        .into_iter()
-        .find(|refusal| refusal.number() == number);
+    let known = Refusal::ALL.into_iter().find(|refusal| refusal.number() == number);
     Err(known
         .unwrap_or_else(|| panic!("the library answered {number}, which is no refusal number")))
 }

@@ -14,16 +14,8 @@ pub enum Call {
 }
 
 impl Call {
-    pub const NAMES: [&'static str; 8] = [
-        "init",
-        "allocate",
-        "free",
-        "reallocate",
-        "collect",
-        "survey",
-        "load",
-        "store",
-    ];
+    pub const NAMES: [&'static str; 8] =
+        ["init", "allocate", "free", "reallocate", "collect", "survey", "load", "store"];
 
     /// The call's place in [`Call::NAMES`].
     pub fn index(&self) -> usize {
@@ -105,18 +97,10 @@ pub struct Reply {
 
 impl Reply {
     pub fn accepted(parts: [i64; 3]) -> Reply {
-        Reply {
-            refusal: 0,
-            parts,
-            strayed: false,
-        }
+        Reply { refusal: 0, parts, strayed: false }
     }
 
     pub fn refused(refusal: u32) -> Reply {
-        Reply {
-            refusal,
-            parts: [0; 3],
-            strayed: false,
-        }
+        Reply { refusal, parts: [0; 3], strayed: false }
     }
 }

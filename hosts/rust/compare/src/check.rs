@@ -23,15 +23,9 @@ fn reply_difference(call: &Call, reply: &Reply, expected: &Reply) -> Option<Stri
         return Some("the call wrote beside the places for its answers".to_string());
     }
     if reply.refusal != expected.refusal {
-        return Some(format!(
-            "refusal {} where {} is right",
-            reply.refusal, expected.refusal
-        ));
+        return Some(format!("refusal {} where {} is right", reply.refusal, expected.refusal));
     }
-    let mut parts = call
-        .answer_names()
-        .iter()
-        .zip(reply.parts.iter().zip(&expected.parts));
+    let mut parts = call.answer_names().iter().zip(reply.parts.iter().zip(&expected.parts));
     parts
         .find(|(_, (part, expected))| part != expected)
         .map(|(name, (part, expected))| format!("{name} {part} where {expected} is right"))
@@ -49,14 +43,8 @@ fn buffer_difference(name: &str, got: &Guarded, expected: &Guarded) -> Option<St
     if **got == **expected {
         return None;
     }
-    let at = got
-        .iter()
-        .zip(expected.iter())
-        .position(|(got, expected)| got != expected)?;
-    Some(format!(
-        "{name} byte {at} is {} where {} is right",
-        got[at], expected[at]
-    ))
+    let at = got.iter().zip(expected.iter()).position(|(got, expected)| got != expected)?;
+    Some(format!("{name} byte {at} is {} where {} is right", got[at], expected[at]))
 }
 
 /// What a refusal must leave as it was, whatever the plain-list heap says.
@@ -65,10 +53,7 @@ fn refusal_fault(reply: &Reply, before: &Lent, after: &Lent) -> Option<String> {
         return None;
     }
     if reply.parts != [0; 3] {
-        return Some(format!(
-            "the answer to a refused call is {:?}, not zero",
-            reply.parts
-        ));
+        return Some(format!("the answer to a refused call is {:?}, not zero", reply.parts));
     }
     lent_difference(after, before).map(|difference| format!("{difference}, after a refusal"))
 }
@@ -76,22 +61,12 @@ fn refusal_fault(reply: &Reply, before: &Lent, after: &Lent) -> Option<String> {
 /// The bounds on the rescan number.
 fn rescan_fault(call: &Call, reply: &Reply, before: &Lent) -> Option<String> {
     let [kept, rescans, _] = reply.parts;
-    let most = if before.stack.len() as i64 / 4 >= kept - 1 {
-        0
-    } else {
-        kept - 1
-    };
+    let most = if before.stack.len() as i64 / 4 >= kept - 1 { 0 } else { kept - 1 };
     (*call == Call::Collect && rescans > most).then(|| format!("{rescans} rescans, at most {most}"))
 }
 
 fn describe(call: &Call, lent: &Lent) -> String {
-    let lengths = lent
-        .buffers()
-        .map(|(name, bytes)| format!("{name} of {} bytes", bytes.len()));
+    let lengths = lent.buffers().map(|(name, bytes)| format!("{name} of {} bytes", bytes.len()));
     let shown = &lent.table[..lent.table.len().min(16)];
-    format!(
-        "{call:?} on base {}, {}; table begins {shown:?}",
-        lent.base,
-        lengths.join(", ")
-    )
+    format!("{call:?} on base {}, {}; table begins {shown:?}", lent.base, lengths.join(", "))
 }

@@ -45,11 +45,7 @@ impl Coverage {
     pub fn count(&mut self, call: &Call, reply: &Reply) {
         self.numbers[call.index()][reply.refusal as usize] += 1;
         if reply.refusal == 0 {
-            for (count, seen) in self
-                .situations
-                .iter_mut()
-                .zip(situations(call, &reply.parts))
-            {
+            for (count, seen) in self.situations.iter_mut().zip(situations(call, &reply.parts)) {
                 *count += u64::from(seen);
             }
         }
@@ -60,10 +56,7 @@ impl Coverage {
         let mut faults = Vec::new();
         for (call, name) in Call::NAMES.iter().enumerate() {
             for number in 0..NUMBERS {
-                match (
-                    REACHABLE[call].contains(&number),
-                    self.numbers[call][number],
-                ) {
+                match (REACHABLE[call].contains(&number), self.numbers[call][number]) {
                     (true, 0) => faults.push(format!("{name} never answered {number}")),
                     (false, 1..) => {
                         faults.push(format!("{name} answered {number}, which it cannot"))
@@ -89,11 +82,8 @@ impl Coverage {
         {
             write!(text, "\n{name:<12}").expect("text can be written");
             for (number, count) in numbers.iter().enumerate() {
-                let shown = if reachable.contains(&number) {
-                    count.to_string()
-                } else {
-                    "-".into()
-                };
+                let shown =
+                    if reachable.contains(&number) { count.to_string() } else { "-".into() };
                 write!(text, "{shown:>8}").expect("text can be written");
             }
         }

@@ -31,18 +31,14 @@ pub fn object_blocks(table: &[u8], block: u64) -> u64 {
 }
 
 pub fn heads(table: &[u8]) -> Vec<u64> {
-    (0..4 * table.len() as u64)
-        .filter(|block| entry(table, *block) == HEAD)
-        .collect()
+    (0..4 * table.len() as u64).filter(|block| entry(table, *block) == HEAD).collect()
 }
 
 /// The first head at or after a random block, or that block if the heap has none.
 fn some_head(random: &mut Random, lent: &Lent) -> u64 {
     let (start, blocks) = (random.below(blocks(lent)), blocks(lent));
     let mut in_turn = (start..blocks).chain(0..start);
-    in_turn
-        .find(|block| entry(&lent.table, *block) == HEAD)
-        .unwrap_or(start)
+    in_turn.find(|block| entry(&lent.table, *block) == HEAD).unwrap_or(start)
 }
 
 /// How the objects of a heap lead to each other.
@@ -86,16 +82,7 @@ pub fn heap(random: &mut Random, table_bytes: u64) -> Lent {
 
 fn table(random: &mut Random, table_bytes: u64) -> Vec<u8> {
     let blocks = 4 * table_bytes;
-    let styles = [
-        (1, 0),
-        (1, 2),
-        (3, 3),
-        (9, 1),
-        (9, 20),
-        (blocks, 0),
-        (blocks, blocks),
-        (0, 0),
-    ];
+    let styles = [(1, 0), (1, 2), (3, 3), (9, 1), (9, 20), (blocks, 0), (blocks, blocks), (0, 0)];
     let (longest_object, longest_gap) = random.pick(&styles);
     let mut table = vec![0; table_bytes as usize];
     if longest_object == 0 {
@@ -145,11 +132,7 @@ fn link(random: &mut Random, lent: &mut Lent, shape: Shape) {
 /// Gives each word of the block's object a value, so many in a hundred of them pointers or nearly so.
 fn fill(random: &mut Random, lent: &mut Lent, head: u64, percent: u64) {
     for word in 4 * head..4 * (head + object_blocks(&lent.table, head)) {
-        let value = if random.percent(percent) {
-            word_value(random, lent)
-        } else {
-            0
-        };
+        let value = if random.percent(percent) { word_value(random, lent) } else { 0 };
         lent.set_word(word as usize, value);
     }
 }
@@ -159,10 +142,7 @@ fn point(random: &mut Random, lent: &mut Lent, head: u64, targets: [Option<u64>;
     let end = head + object_blocks(&lent.table, head);
     lent.pool[16 * head as usize..16 * end as usize].fill(0);
     let middle = random.between(4 * head + 1, 4 * end - 1);
-    let places = [
-        random.between(middle, 4 * end - 1),
-        random.between(4 * head, middle - 1),
-    ];
+    let places = [random.between(middle, 4 * end - 1), random.between(4 * head, middle - 1)];
     for (place, target) in places.into_iter().zip(targets) {
         if let Some(target) = target {
             lent.set_word(place as usize, address(lent, target));
@@ -193,16 +173,9 @@ pub fn word_value(random: &mut Random, lent: &Lent) -> u32 {
 pub fn call(random: &mut Random, lent: &mut Lent) -> Call {
     match random.below(300) {
         0 => Call::Init,
-        1..=74 => Call::Allocate {
-            bytes: bytes(random, lent),
-        },
-        75..=104 => Call::Free {
-            block: block(random, lent),
-        },
-        105..=169 => Call::Reallocate {
-            block: block(random, lent),
-            bytes: bytes(random, lent),
-        },
+        1..=74 => Call::Allocate { bytes: bytes(random, lent) },
+        75..=104 => Call::Free { block: block(random, lent) },
+        105..=169 => Call::Reallocate { block: block(random, lent), bytes: bytes(random, lent) },
         170..=214 => {
             draw_roots(random, lent);
             lent.stack = Guarded::new(&stack(random));
@@ -211,19 +184,12 @@ pub fn call(random: &mut Random, lent: &mut Lent) -> Call {
         215..=229 => Call::Survey,
         230..=259 => {
             let block = block(random, lent);
-            Call::Load {
-                block,
-                word: word(random, lent, block),
-            }
+            Call::Load { block, word: word(random, lent, block) }
         }
         _ => {
             let block = block(random, lent);
             let value = word_value(random, lent);
-            Call::Store {
-                block,
-                word: word(random, lent, block),
-                value,
-            }
+            Call::Store { block, word: word(random, lent, block), value }
         }
     }
 }
@@ -250,11 +216,7 @@ fn block(random: &mut Random, lent: &Lent) -> u64 {
 }
 
 fn word(random: &mut Random, lent: &Lent, block: u64) -> u64 {
-    let words = if block < blocks(lent) {
-        4 * object_blocks(&lent.table, block)
-    } else {
-        4
-    };
+    let words = if block < blocks(lent) { 4 * object_blocks(&lent.table, block) } else { 4 };
     match random.below(16) {
         0 => words,
         1 => words - 1,
@@ -266,11 +228,7 @@ fn word(random: &mut Random, lent: &Lent, block: u64) -> u64 {
 
 /// Most heads, or a few words; at times the most roots, too many, or a piece of one.
 pub fn draw_roots(random: &mut Random, lent: &mut Lent) {
-    let mut roots = if random.percent(80) {
-        most_heads(random, lent)
-    } else {
-        Vec::new()
-    };
+    let mut roots = if random.percent(80) { most_heads(random, lent) } else { Vec::new() };
     let more = match random.below(64) {
         0 => 4096 - roots.len() as u64,
         1 => 4097 + random.below(10),
@@ -287,10 +245,7 @@ pub fn draw_roots(random: &mut Random, lent: &mut Lent) {
 
 fn most_heads(random: &mut Random, lent: &Lent) -> Vec<u32> {
     let heads = heads(&lent.table).into_iter();
-    heads
-        .filter(|_| random.percent(85))
-        .map(|head| address(lent, head))
-        .collect()
+    heads.filter(|_| random.percent(85)).map(|head| address(lent, head)).collect()
 }
 
 /// A stack for the marks, with any content: 0 to 64 entries, at times more, or a piece of one.
@@ -368,11 +323,7 @@ pub fn any_base(random: &mut Random, lent: &Lent) -> u64 {
 fn random_length(random: &mut Random, bytes: &[u8], most: u64) -> Vec<u8> {
     let mut bytes = bytes.to_vec();
     let by = random.between(1, most) as usize;
-    let len = if random.percent(50) {
-        bytes.len() + by
-    } else {
-        bytes.len().saturating_sub(by)
-    };
+    let len = if random.percent(50) { bytes.len() + by } else { bytes.len().saturating_sub(by) };
     bytes.resize(len, 0);
     bytes
 }

@@ -43,3 +43,18 @@ impl DerefMut for Guarded {
         &mut self.memory[GUARD_BYTES..end]
     }
 }
+
+#[cfg(test)]
+mod tests {
+    use super::*;
+
+    #[test]
+    fn a_byte_written_before_or_after_is_seen() {
+        for at in [GUARD_BYTES - 1, GUARD_BYTES + 4] {
+            let mut bytes = Guarded::new(&[1, 2, 3, 4]);
+            assert!(bytes.intact());
+            bytes.memory[at] = 0;
+            assert!(!bytes.intact());
+        }
+    }
+}

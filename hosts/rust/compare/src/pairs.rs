@@ -6,6 +6,8 @@ use crate::{draw, second, Call, Guarded, Lent, Random, Sizes, Subject};
 /// The place of the rescans among the parts of a collection's answer.
 const RESCANS: usize = 1;
 
+/// What was run: pairs and calls on each side, how many of these were refused, in how many pool bytes
+/// the pairs differed at the start, and how often stacks of different lengths took different rescans.
 #[derive(Clone, Copy, Debug, Default)]
 pub struct PairCounts {
     pub pairs: u64,
@@ -46,9 +48,8 @@ impl Pair {
     /// Two heaps that agree in base, table, roots and all that the roots reach.
     fn draw(random: &mut Random, table_bytes: u64) -> Pair {
         let mut heap = draw::heap(random, table_bytes);
-        let roots: Vec<u32> = (0..random.below(5))
-            .map(|_| draw::word_value(random, &heap))
-            .collect();
+        let roots: Vec<u32> =
+            (0..random.below(5)).map(|_| draw::word_value(random, &heap)).collect();
         heap.set_roots(&roots);
         let mut collected = heap.clone();
         second(&Call::Collect, &mut collected);
@@ -62,12 +63,7 @@ impl Pair {
 
     fn different_bytes(&self) -> u64 {
         let [first, second] = &self.sides;
-        first
-            .pool
-            .iter()
-            .zip(second.pool.iter())
-            .filter(|(a, b)| a != b)
-            .count() as u64
+        first.pool.iter().zip(second.pool.iter()).filter(|(a, b)| a != b).count() as u64
     }
 
     fn draw_call_and_make(
@@ -111,22 +107,16 @@ impl Pair {
             replies[1].parts[RESCANS] = rescans[0];
         }
         if replies[0] != replies[1] {
-            return Err(format!(
-                "{call:?} answers {:?} and {:?}",
-                replies[0], replies[1]
-            ));
+            return Err(format!("{call:?} answers {:?} and {:?}", replies[0], replies[1]));
         }
         if *first.table != *second.table {
-            return Err(format!(
-                "{call:?} leaves tables {:?} and {:?}",
-                first.table, second.table
-            ));
+            return Err(format!("{call:?} leaves tables {:?} and {:?}", first.table, second.table));
         }
         match different_block(first, second) {
             None => Ok(()),
-            Some(block) => Err(format!(
-                "{call:?} leaves different bytes in allocated block {block}"
-            )),
+            Some(block) => {
+                Err(format!("{call:?} leaves different bytes in allocated block {block}"))
+            }
         }
     }
 }
@@ -136,11 +126,8 @@ fn refill_free_blocks(random: &mut Random, lent: &mut Lent, table: &[u8]) {
     let pointers = random.percent(70);
     for block in (0..4 * table.len() as u64).filter(|block| draw::entry(table, *block) == 0) {
         for word in 4 * block..4 * block + 4 {
-            let value = if pointers {
-                draw::word_value(random, lent)
-            } else {
-                random.number() as u32
-            };
+            let value =
+                if pointers { draw::word_value(random, lent) } else { random.number() as u32 };
             lent.set_word(word as usize, value);
         }
     }

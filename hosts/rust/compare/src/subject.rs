@@ -57,9 +57,7 @@ impl Answers {
     const RUBBISH: u32 = 0xDEAD_BEEF;
 
     fn new() -> Answers {
-        Answers {
-            memory: [Answers::RUBBISH; 7],
-        }
+        Answers { memory: [Answers::RUBBISH; 7] }
     }
 
     fn places(&mut self) -> [*mut u32; 3] {
@@ -71,11 +69,7 @@ impl Answers {
         let mut reply = Reply::refused(refusal);
         for (part, name) in call.answer_names().iter().enumerate() {
             let bits = self.memory[2 * part + 1];
-            reply.parts[part] = if *name == "change" {
-                (bits as i32).into()
-            } else {
-                bits.into()
-            };
+            reply.parts[part] = if *name == "change" { (bits as i32).into() } else { bits.into() };
         }
         let untouched = |place: usize| self.memory[place] == Answers::RUBBISH;
         let unused = call.answer_names().len()..3;
@@ -91,11 +85,7 @@ pub fn wrapper(call: &Call, lent: &mut Lent) -> Reply {
 }
 
 fn on_wrapper(call: &Call, lent: &mut Lent) -> Result<[i64; 3], blockheap::Refusal> {
-    let mut heap = Heap {
-        base: lent.base,
-        pool: &mut lent.pool,
-        table: &mut lent.table,
-    };
+    let mut heap = Heap { base: lent.base, pool: &mut lent.pool, table: &mut lent.table };
     let placed = |placed: blockheap::Placed| [placed.block as i64, placed.change.into(), 0];
     Ok(match *call {
         Call::Init => {
@@ -107,19 +97,11 @@ fn on_wrapper(call: &Call, lent: &mut Lent) -> Result<[i64; 3], blockheap::Refus
         Call::Reallocate { block, bytes } => placed(heap.reallocate(block, bytes)?),
         Call::Collect => {
             let collected = heap.collect(&lent.roots, &mut lent.stack)?;
-            [
-                collected.kept.into(),
-                collected.rescans.into(),
-                collected.change.into(),
-            ]
+            [collected.kept.into(), collected.rescans.into(), collected.change.into()]
         }
         Call::Survey => {
             let survey = heap.survey()?;
-            [
-                survey.used.into(),
-                survey.objects.into(),
-                survey.longest.into(),
-            ]
+            [survey.used.into(), survey.objects.into(), survey.longest.into()]
         }
         Call::Load { block, word } => [heap.load(block, word)?.into(), 0, 0],
         Call::Store { block, word, value } => {
@@ -153,8 +135,7 @@ pub fn second_on_list(call: &Call, heap: &mut ListHeap, lent: &Lent) -> Reply {
         Call::Collect if !whole_entries => Err(Refusal::Shape),
         Call::Collect => {
             let roots = listheap::words_of(&lent.roots);
-            heap.collect(&roots, lent.stack.len() / 4)
-                .map(collected_parts)
+            heap.collect(&roots, lent.stack.len() / 4).map(collected_parts)
         }
         _ => on_list(call, heap),
     })
@@ -169,11 +150,7 @@ fn on_list(call: &Call, heap: &mut ListHeap) -> Result<[i64; 3], Refusal> {
         Call::Reallocate { block, bytes } => placed(heap.reallocate(block, bytes)?),
         Call::Survey => {
             let survey = heap.survey();
-            [
-                survey.used as i64,
-                survey.objects as i64,
-                survey.longest as i64,
-            ]
+            [survey.used as i64, survey.objects as i64, survey.longest as i64]
         }
         Call::Load { block, word } => [heap.load(block, word)?.into(), 0, 0],
         Call::Store { block, word, value } => {
@@ -184,13 +161,30 @@ fn on_list(call: &Call, heap: &mut ListHeap) -> Result<[i64; 3], Refusal> {
 }
 
 fn collected_parts(collected: listheap::Collected) -> [i64; 3] {
-    [
-        collected.kept as i64,
-        collected.rescans as i64,
-        collected.change,
-    ]
+    [collected.kept as i64, collected.rescans as i64, collected.change]
 }
 
 fn reply(result: Result<[i64; 3], Refusal>) -> Reply {
     result.map_or_else(|refusal| Reply::refused(refusal.number()), Reply::accepted)
+}
+
+#[cfg(test)]
+mod tests {
+    use super::*;
+
+    #[test]
+    fn an_answer_beside_its_place_is_seen() {
+        let free = Call::Free { block: 0 };
+        for (place, strayed) in [(0, true), (1, false), (2, true), (3, true)] {
+            let mut answers = Answers::new();
+            answers.memory[place] = 0;
+            assert_eq!(answers.reply(&free, 0).strayed, strayed, "place {place}");
+        }
+    }
+
+    #[test]
+    fn an_answer_that_is_not_written_is_seen() {
+        let reply = Answers::new().reply(&Call::Survey, 1);
+        assert_ne!(reply.parts, [0; 3]);
+    }
 }

@@ -4,51 +4,64 @@ use compare::{entry, object_blocks, run_pairs, run_walks, second, Call, Guarded,
 use compare::{Coverage, Sizes, Subject};
 use listheap::{Collected, ListHeap, Marking, Placed, Refusal};
 
-const SMALL: Sizes = Sizes {
-    least: 1,
-    most: 16,
-    calls_per_heap: 60,
-};
+const SMALL: Sizes = Sizes { least: 1, most: 16, calls_per_heap: 60 };
 const MOST_CALLS: u64 = 50_000;
 
-/// Each heap must be told from the plain-list heap within some thousand calls.
-macro_rules! must_be_noticed {
-    ($($heap:ident)*) => {$(
-        #[test]
-        fn $heap() {
-            let mut coverage = Coverage::default();
-            let outcome = run_walks(&super::$heap, super::SMALL, 5, super::MOST_CALLS, &mut coverage);
-            let fault = outcome.expect_err("no call told this heap from a right one");
-            println!("{}: {fault}", stringify!($heap));
-        }
-    )*};
+/// Within some thousand calls the heap must be told from a right one.
+fn must_be_noticed(name: &str, subject: Subject) {
+    let outcome = run_walks(subject, SMALL, 5, MOST_CALLS, &mut Coverage::default());
+    say_noticed(name, &outcome.expect_err("no call told this heap from a right one"));
 }
 
-mod noticed {
-    use compare::{run_walks, Coverage};
+fn dead_data_is_heard(name: &str, subject: Subject) {
+    let outcome = run_pairs(subject, SMALL, 5, 500);
+    say_noticed(name, &outcome.expect_err("no pair of heaps differed"));
+}
 
-    must_be_noticed! {
-        reads_words_highest_byte_first
-        skips_word_zero
-        stops_at_the_overflow_flag
-        clears_the_flag_after_the_pass
-        walks_words_first_to_last
-        clears_only_the_bytes_asked
-        moves_into_its_own_blocks
-        frees_tails_of_kept_objects
-        counts_addresses_inside_blocks
-        misses_the_lowest_start
-        cuts_numbers_to_32_bits
-        tests_the_block_before_the_bytes
-        takes_any_base
-        answers_after_a_refusal
-        writes_after_a_refusal
-        leaves_the_mark_stack
-        clears_freed_bytes
-        clears_the_pool_at_init
-        writes_past_the_pool
-        writes_the_roots
-    }
+fn say_noticed(name: &str, fault: &str) {
+    println!("noticed: {name}: {}", fault.lines().next().unwrap_or_default());
+}
+
+/// A test for each heap, with its name.
+macro_rules! each {
+    ($test:ident: $($heap:ident)*) => {
+        mod $test {
+            $(
+                #[test]
+                fn $heap() {
+                    super::$test(stringify!($heap), &super::$heap);
+                }
+            )*
+        }
+    };
+}
+
+each! { must_be_noticed:
+    reads_words_highest_byte_first
+    skips_word_zero
+    stops_at_the_overflow_flag
+    clears_the_flag_after_the_pass
+    walks_words_first_to_last
+    clears_only_the_bytes_asked
+    moves_into_its_own_blocks
+    frees_tails_of_kept_objects
+    counts_addresses_inside_blocks
+    misses_the_lowest_start
+    cuts_numbers_to_32_bits
+    tests_the_block_before_the_bytes
+    takes_any_base
+    answers_after_a_refusal
+    writes_after_a_refusal
+    leaves_the_mark_stack
+    clears_freed_bytes
+    clears_the_pool_at_init
+    writes_past_the_pool
+    writes_the_roots
+}
+
+each! { dead_data_is_heard:
+    clears_only_the_bytes_asked
+    follows_words_in_free_blocks
 }
 
 #[test]
@@ -59,26 +72,8 @@ fn a_right_heap_is_not_noticed() {
 #[test]
 fn an_empty_run_has_reached_nothing() {
     let faults = Coverage::default().faults();
-    let numbers = faults
-        .iter()
-        .filter(|fault| fault.contains("never answered"))
-        .count();
+    let numbers = faults.iter().filter(|fault| fault.contains("never answered")).count();
     assert_eq!(numbers, 39, "pairs of a call and a refusal number");
-}
-
-fn dead_data_is_heard(subject: Subject) {
-    let fault = run_pairs(subject, SMALL, 5, 500).expect_err("no pair of heaps differed");
-    println!("{fault}");
-}
-
-#[test]
-fn stale_bytes_in_new_objects_make_a_pair_differ() {
-    dead_data_is_heard(&clears_only_the_bytes_asked);
-}
-
-#[test]
-fn words_in_free_blocks_make_a_pair_differ() {
-    dead_data_is_heard(&follows_words_in_free_blocks);
 }
 
 /// Whether the heap's lengths fit each other, so that its blocks can be looked at.
@@ -88,9 +83,7 @@ fn in_shape(lent: &Lent) -> bool {
 
 fn heads(lent: &Lent) -> Vec<u64> {
     let blocks = 0..4 * lent.table.len() as u64;
-    blocks
-        .filter(|block| in_shape(lent) && entry(&lent.table, *block) == 1)
-        .collect()
+    blocks.filter(|block| in_shape(lent) && entry(&lent.table, *block) == 1).collect()
 }
 
 /// A right collection on a pool that was changed for it.
@@ -118,19 +111,12 @@ fn collect_by(
         return right;
     }
     let (roots, entries) = (listheap::words_of(&before.roots), before.stack.len() / 4);
-    *lent = Lent {
-        stack: lent.stack.clone(),
-        ..before
-    };
+    *lent = Lent { stack: lent.stack.clone(), ..before };
     let collected = listheap::on_bytes(lent.base, &mut lent.pool, &mut lent.table, |heap| {
         Ok(collect(heap, &roots, entries))
     })
     .expect("an accepted collection");
-    Reply::accepted([
-        collected.kept as i64,
-        collected.rescans as i64,
-        collected.change,
-    ])
+    Reply::accepted([collected.kept as i64, collected.rescans as i64, collected.change])
 }
 
 /// A collection whose rescans are the fault's own.
@@ -162,9 +148,7 @@ fn reads_words_highest_byte_first(call: &Call, lent: &mut Lent) -> Reply {
 
 fn skips_word_zero(call: &Call, lent: &mut Lent) -> Reply {
     collect_on_changed_pool(call, lent, |lent| {
-        heads(lent)
-            .into_iter()
-            .for_each(|head| lent.set_word(4 * head as usize, 0));
+        heads(lent).into_iter().for_each(|head| lent.set_word(4 * head as usize, 0));
     })
 }
 
@@ -197,19 +181,10 @@ fn clears_the_flag_after_the_pass(call: &Call, lent: &mut Lent) -> Reply {
 fn frees_tails_of_kept_objects(call: &Call, lent: &mut Lent) -> Reply {
     collect_by(call, lent, |heap, roots, entries| {
         let before = heap.clone();
-        let mut collected = heap
-            .collect(roots, entries)
-            .expect("an accepted collection");
-        let freed = before
-            .objects
-            .iter()
-            .find(|object| !heap.objects.contains(object));
+        let mut collected = heap.collect(roots, entries).expect("an accepted collection");
+        let freed = before.objects.iter().find(|object| !heap.objects.contains(object));
         let first_freed = freed.map_or(heap.blocks, |object| object.start);
-        for object in heap
-            .objects
-            .iter_mut()
-            .filter(|object| object.start > first_freed)
-        {
+        for object in heap.objects.iter_mut().filter(|object| object.start > first_freed) {
             collected.change -= object.blocks as i64 - 1;
             object.blocks = 1;
             object.words.truncate(4);
@@ -239,31 +214,20 @@ fn moves_into_its_own_blocks(call: &Call, lent: &mut Lent) -> Reply {
         return reply;
     }
     let moved = listheap::on_bytes(lent.base, &mut lent.pool, &mut lent.table, |heap| {
-        let old = heap
-            .objects
-            .iter()
-            .find(|object| object.start == block)
-            .cloned();
+        let old = heap.objects.iter().find(|object| object.start == block).cloned();
         let freed = heap.free(block)?;
         let placed = heap.allocate(bytes)?;
         for (word, value) in old.expect("an object").words.into_iter().enumerate() {
             heap.store(placed.block, word as u64, value)?;
         }
-        Ok(Placed {
-            change: placed.change + freed,
-            ..placed
-        })
+        Ok(Placed { change: placed.change + freed, ..placed })
     });
-    moved.map_or(reply, |placed| {
-        Reply::accepted([placed.block as i64, placed.change, 0])
-    })
+    moved.map_or(reply, |placed| Reply::accepted([placed.block as i64, placed.change, 0]))
 }
 
 fn counts_addresses_inside_blocks(call: &Call, lent: &mut Lent) -> Reply {
     let roots = lent.roots.clone();
-    lent.roots
-        .chunks_exact_mut(4)
-        .for_each(|root| root[0] &= 0xF0);
+    lent.roots.chunks_exact_mut(4).for_each(|root| root[0] &= 0xF0);
     let reply = second(call, lent);
     lent.roots = roots;
     reply
@@ -293,10 +257,7 @@ fn cuts_numbers_to_32_bits(call: &Call, lent: &mut Lent) -> Reply {
     let call = match *call {
         Call::Allocate { bytes } => Call::Allocate { bytes: cut(bytes) },
         Call::Free { block } => Call::Free { block: cut(block) },
-        Call::Load { block, word } => Call::Load {
-            block,
-            word: cut(word),
-        },
+        Call::Load { block, word } => Call::Load { block, word: cut(word) },
         other => other,
     };
     second(&call, lent)
@@ -384,13 +345,7 @@ fn follows_words_in_free_blocks(call: &Call, lent: &mut Lent) -> Reply {
         let blocks = 0..4 * lent.table.len() as u64;
         let free = blocks.filter(|block| entry(&lent.table, *block) == 0);
         let words = free.flat_map(|block| &lent.pool[16 * block as usize..][..16]);
-        let heard: Vec<u8> = lent
-            .roots
-            .iter()
-            .chain(words)
-            .copied()
-            .take(4 * 4096)
-            .collect();
+        let heard: Vec<u8> = lent.roots.iter().chain(words).copied().take(4 * 4096).collect();
         lent.roots = Guarded::new(&heard);
     }
     let reply = second(call, lent);

@@ -34,22 +34,14 @@ impl Example<'_> {
     fn gives<const N: usize>(&mut self, call: Call, parts: [i64; N], table: [u8; 2]) -> &mut Self {
         let mut all = [0; 3];
         all[..N].copy_from_slice(&parts);
-        assert_eq!(
-            (self.subject)(&call, &mut self.lent),
-            Reply::accepted(all),
-            "{call:?}"
-        );
+        assert_eq!((self.subject)(&call, &mut self.lent), Reply::accepted(all), "{call:?}");
         assert_eq!(self.lent.table[..], table, "the table after {call:?}");
         self
     }
 
     fn refuses(&mut self, call: Call, number: u32) -> &mut Self {
         let before = self.lent.table.to_vec();
-        assert_eq!(
-            (self.subject)(&call, &mut self.lent),
-            Reply::refused(number),
-            "{call:?}"
-        );
+        assert_eq!((self.subject)(&call, &mut self.lent), Reply::refused(number), "{call:?}");
         assert_eq!(self.lent.table[..], before, "the table after {call:?}");
         self
     }
@@ -57,10 +49,7 @@ impl Example<'_> {
 
 fn on_every_heap(example: impl Fn(&mut Example)) {
     for subject in [&library as Subject, &wrapper, &second] {
-        example(&mut Example {
-            subject,
-            lent: Lent::new(BASE, &[0; 128], &[0; 2]),
-        });
+        example(&mut Example { subject, lent: Lent::new(BASE, &[0; 128], &[0; 2]) });
     }
 }
 
@@ -112,17 +101,14 @@ fn example_04_no_room() {
 fn example_05_free() {
     on_every_heap(|heap| {
         heap.from([165, 169]).gives(free(1), [-3], [1, 169]);
-        heap.from([165, 169])
-            .refuses(free(5), 7)
-            .refuses(free(8), 6);
+        heap.from([165, 169]).refuses(free(5), 7).refuses(free(8), 6);
     });
 }
 
 #[test]
 fn example_06_shrink() {
     on_every_heap(|heap| {
-        heap.from([1, 169])
-            .gives(reallocate(4, 16), [4, -3], [1, 1]);
+        heap.from([1, 169]).gives(reallocate(4, 16), [4, -3], [1, 1]);
     });
 }
 
@@ -144,22 +130,16 @@ fn example_08_move() {
 #[test]
 fn example_09_collect() {
     on_every_heap(|heap| {
-        heap.linked(&[4160], 64)
-            .gives(Call::Collect, [2, 0, -3], [1, 169]);
-        assert!(
-            heap.lent.stack.iter().all(|byte| *byte == 0),
-            "the mark stack is zero"
-        );
-        heap.linked(&[4160], 0)
-            .gives(Call::Collect, [2, 1, -3], [1, 169]);
+        heap.linked(&[4160], 64).gives(Call::Collect, [2, 0, -3], [1, 169]);
+        assert!(heap.lent.stack.iter().all(|byte| *byte == 0), "the mark stack is zero");
+        heap.linked(&[4160], 0).gives(Call::Collect, [2, 1, -3], [1, 169]);
     });
 }
 
 #[test]
 fn example_10_collect_without_roots() {
     on_every_heap(|heap| {
-        heap.linked(&[], 64)
-            .gives(Call::Collect, [0, 0, -8], [0, 0]);
+        heap.linked(&[], 64).gives(Call::Collect, [0, 0, -8], [0, 0]);
     });
 }
 
@@ -167,8 +147,7 @@ fn example_10_collect_without_roots() {
 fn example_11_roots_that_count_for_nothing() {
     on_every_heap(|heap| {
         for root in [4128, 4097] {
-            heap.linked(&[root], 64)
-                .gives(Call::Collect, [0, 0, -8], [0, 0]);
+            heap.linked(&[root], 64).gives(Call::Collect, [0, 0, -8], [0, 0]);
         }
     });
 }
@@ -177,9 +156,7 @@ fn example_11_roots_that_count_for_nothing() {
 fn example_12_ill_formed_tables() {
     on_every_heap(|heap| {
         for table in [[2, 0], [3, 0], [8, 0]] {
-            heap.from(table)
-                .refuses(allocate(1), 2)
-                .refuses(allocate(0), 2);
+            heap.from(table).refuses(allocate(1), 2).refuses(allocate(0), 2);
         }
     });
 }
@@ -187,9 +164,7 @@ fn example_12_ill_formed_tables() {
 #[test]
 fn example_13_bases() {
     on_every_heap(|heap| {
-        heap.from([0, 0])
-            .based(4_294_967_168)
-            .gives(allocate(1), [0, 1], [1, 0]);
+        heap.from([0, 0]).based(4_294_967_168).gives(allocate(1), [0, 1], [1, 0]);
         heap.based(4_294_967_184).refuses(allocate(1), 1);
         heap.based(0).refuses(allocate(1), 1);
     });
@@ -199,8 +174,7 @@ fn example_13_bases() {
 fn example_14_last_word() {
     on_every_heap(|heap| {
         heap.from([165, 169]).lent.set_word(31, 77);
-        heap.gives(load(4, 15), [77], [165, 169])
-            .refuses(load(4, 16), 8);
+        heap.gives(load(4, 15), [77], [165, 169]).refuses(load(4, 16), 8);
     });
 }
 

@@ -19,11 +19,7 @@ fn library_and_list_agree(seed: u64, table_bytes: usize, calls: usize) {
         let expected = second_on_list(&call, &mut list, &lent);
         let reply = library(&call, &mut lent);
         assert_eq!(reply, expected, "seed {seed}, call {number}: {call:?}");
-        used = if call == Call::Init {
-            0
-        } else {
-            used + change(&call, &reply.parts)
-        };
+        used = if call == Call::Init { 0 } else { used + change(&call, &reply.parts) };
         assert_eq!(
             used,
             list.used() as i64,
@@ -39,19 +35,14 @@ fn library_and_list_agree(seed: u64, table_bytes: usize, calls: usize) {
 
 /// The change in used blocks, 0 for a call that answers none.
 fn change(call: &Call, parts: &[i64; 3]) -> i64 {
-    let place = call
-        .answer_names()
-        .iter()
-        .position(|name| *name == "change");
+    let place = call.answer_names().iter().position(|name| *name == "change");
     place.map_or(0, |place| parts[place])
 }
 
 /// The objects that table and pool hold.
 fn read_back(lent: &mut Lent) -> ListHeap {
-    listheap::on_bytes(lent.base, &mut lent.pool, &mut lent.table, |heap| {
-        Ok(heap.clone())
-    })
-    .expect("a heap that is in order")
+    listheap::on_bytes(lent.base, &mut lent.pool, &mut lent.table, |heap| Ok(heap.clone()))
+        .expect("a heap that is in order")
 }
 
 #[test]

@@ -7,53 +7,16 @@ const CALLS: u64 = 400_000;
 
 /// The heaps' sizes, each with its share of the calls in a hundred.
 const SHARES: [(Sizes, u64); 5] = [
-    (
-        Sizes {
-            least: 1,
-            most: 2,
-            calls_per_heap: 30,
-        },
-        30,
-    ),
-    (
-        Sizes {
-            least: 1,
-            most: 16,
-            calls_per_heap: 100,
-        },
-        40,
-    ),
-    (
-        Sizes {
-            least: 17,
-            most: 128,
-            calls_per_heap: 100,
-        },
-        17,
-    ),
-    (
-        Sizes {
-            least: 129,
-            most: 1024,
-            calls_per_heap: 50,
-        },
-        10,
-    ),
-    (
-        Sizes {
-            least: 1024,
-            most: 1024,
-            calls_per_heap: 50,
-        },
-        3,
-    ),
+    (Sizes { least: 1, most: 2, calls_per_heap: 20 }, 30),
+    (Sizes { least: 1, most: 16, calls_per_heap: 50 }, 45),
+    (Sizes { least: 17, most: 128, calls_per_heap: 70 }, 16),
+    (Sizes { least: 129, most: 1024, calls_per_heap: 50 }, 7),
+    (Sizes { least: 1024, most: 1024, calls_per_heap: 50 }, 2),
 ];
 
 fn calls_wanted() -> u64 {
     match std::env::var("BLOCKHEAP_CALLS") {
-        Ok(text) => text
-            .parse()
-            .expect("BLOCKHEAP_CALLS must be a number of calls"),
+        Ok(text) => text.parse().expect("BLOCKHEAP_CALLS must be a number of calls"),
         Err(_) => CALLS,
     }
 }

@@ -53,11 +53,7 @@ pub fn collect_on_bytes(
 pub fn words_of(bytes: &[u8]) -> Vec<u32> {
     bytes
         .chunks_exact(WORD_BYTES)
-        .map(|word| {
-            word.iter()
-                .rev()
-                .fold(0, |above, byte| above * 256 + u32::from(*byte))
-        })
+        .map(|word| word.iter().rev().fold(0, |above, byte| above * 256 + u32::from(*byte)))
         .collect()
 }
 
@@ -78,11 +74,7 @@ fn decode(base: u64, pool: &[u8], table: &[u8]) -> Result<ListHeap, Refusal> {
     for block in 0..heap.blocks {
         match entry(table, block) {
             FREE => {}
-            HEAD => heap.objects.push(Object {
-                start: block,
-                blocks: 1,
-                words: Vec::new(),
-            }),
+            HEAD => heap.objects.push(Object { start: block, blocks: 1, words: Vec::new() }),
             TAIL => match heap.objects.last_mut() {
                 Some(object) if object.end() == block => object.blocks += 1,
                 _ => return Err(Refusal::Table),
@@ -134,4 +126,24 @@ fn entry(table: &[u8], block: u64) -> u8 {
 /// Sets an entry that is still 0.
 fn add_entry(table: &mut [u8], block: u64, entry: u8) {
     table[(block / ENTRIES_PER_BYTE) as usize] += entry * weight(block);
+}
+
+#[cfg(test)]
+mod tests {
+    use super::*;
+
+    #[test]
+    fn words_are_read_lowest_byte_first() {
+        assert_eq!(words_of(&[0x00, 0x10, 0x00, 0x00]), [4096]);
+    }
+
+    #[test]
+    fn a_table_and_its_list_are_the_same_heap() {
+        let (mut pool, mut table) = ([7; 128], [165, 169]);
+        let spans = on_bytes(4096, &mut pool, &mut table, |heap| {
+            Ok(heap.objects.iter().map(|o| (o.start, o.blocks)).collect::<Vec<_>>())
+        });
+        assert_eq!(spans, Ok(vec![(0, 1), (1, 3), (4, 4)]));
+        assert_eq!((pool, table), ([7; 128], [165, 169]));
+    }
 }

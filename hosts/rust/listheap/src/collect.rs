@@ -36,8 +36,7 @@ impl ListHeap {
     pub fn sweep(&mut self, marked: &[bool], rescans: u64) -> Collected {
         let used_before = self.used();
         let mut marks = marked.iter();
-        self.objects
-            .retain(|_| *marks.next().expect("one mark for each object"));
+        self.objects.retain(|_| *marks.next().expect("one mark for each object"));
         Collected {
             kept: self.objects.len() as u64,
             rescans,
@@ -47,9 +46,7 @@ impl ListHeap {
 
     /// The place in the list of the object whose head has this address.
     fn target(&self, word: u32) -> Option<usize> {
-        self.objects
-            .binary_search_by_key(&u64::from(word), |object| self.address(object))
-            .ok()
+        self.objects.binary_search_by_key(&u64::from(word), |object| self.address(object)).ok()
     }
 }
 

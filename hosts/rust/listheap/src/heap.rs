@@ -49,27 +49,16 @@ pub struct ListHeap {
 
 impl ListHeap {
     pub fn empty(base: u64, blocks: u64) -> ListHeap {
-        ListHeap {
-            base,
-            blocks,
-            objects: Vec::new(),
-        }
+        ListHeap { base, blocks, objects: Vec::new() }
     }
 
     pub fn allocate(&mut self, bytes: u64) -> Result<Placed, Refusal> {
         let blocks = blocks_for(bytes)?;
         let start = self.room_for(blocks).ok_or(Refusal::NoRoom)?;
-        let mut object = Object {
-            start,
-            blocks: 0,
-            words: Vec::new(),
-        };
+        let mut object = Object { start, blocks: 0, words: Vec::new() };
         object.resize(blocks);
         self.insert(object);
-        Ok(Placed {
-            block: start,
-            change: blocks as i64,
-        })
+        Ok(Placed { block: start, change: blocks as i64 })
     }
 
     pub fn free(&mut self, block: u64) -> Result<i64, Refusal> {
@@ -91,22 +80,14 @@ impl ListHeap {
         object.start = start;
         object.resize(blocks);
         self.insert(object);
-        Ok(Placed {
-            block: start,
-            change,
-        })
+        Ok(Placed { block: start, change })
     }
 
     pub fn survey(&self) -> Survey {
         Survey {
             used: self.used(),
             objects: self.objects.len() as u64,
-            longest: self
-                .gaps()
-                .into_iter()
-                .map(|(start, end)| end - start)
-                .max()
-                .unwrap_or(0),
+            longest: self.gaps().into_iter().map(|(start, end)| end - start).max().unwrap_or(0),
         }
     }
 
@@ -160,25 +141,17 @@ impl ListHeap {
 
     /// The lowest start of a free run of so many blocks.
     fn room_for(&self, blocks: u64) -> Option<u64> {
-        self.gaps()
-            .into_iter()
-            .find(|(start, end)| end - start >= blocks)
-            .map(|(start, _)| start)
+        self.gaps().into_iter().find(|(start, end)| end - start >= blocks).map(|(start, _)| start)
     }
 
     /// How many blocks the object may have without moving.
     fn room_in_place(&self, index: usize) -> u64 {
-        let end = self
-            .objects
-            .get(index + 1)
-            .map_or(self.blocks, |next| next.start);
+        let end = self.objects.get(index + 1).map_or(self.blocks, |next| next.start);
         end - self.objects[index].start
     }
 
     fn insert(&mut self, object: Object) {
-        let index = self
-            .objects
-            .partition_point(|other| other.start < object.start);
+        let index = self.objects.partition_point(|other| other.start < object.start);
         self.objects.insert(index, object);
     }
 }
