@@ -181,11 +181,10 @@ static const struct work {
     {"collect-graph", graph, collect},
 };
 
+/* The processor time of this program, which other programs on the machine disturb least. */
 static double nanoseconds(void)
 {
-    struct timespec now;
-    timespec_get(&now, TIME_UTC);
-    return (double)now.tv_sec * 1e9 + (double)now.tv_nsec;
+    return (double)clock() * (1e9 / CLOCKS_PER_SEC);
 }
 
 static double time_rounds(const struct work *work, long rounds)
