@@ -6,12 +6,12 @@
 //!
 //! ```
 //! # fn main() -> Result<(), blockheap::Refusal> {
-//! let (mut pool, mut table) = ([0; 64 * 2], [0; 2]);
+//! let (mut pool, mut table) = ([0; 64 * 16], [0; 16]);
 //! let mut heap = blockheap::Heap::init(4096, &mut pool, &mut table)?;
 //! let buffer = heap.allocate(33)?.block;
 //! heap.store(buffer, 0, 7)?;
-//! assert_eq!(heap.load(buffer, 0)?, 7);
-//! assert_eq!(heap.survey()?.used, 3);
+//! let collected = heap.collect(&(4096 + 16 * buffer as u32).to_le_bytes(), &mut [0; 64])?;
+//! assert_eq!((collected.kept, heap.load(buffer, 0)?), (1, 7));
 //! # Ok(())
 //! # }
 //! ```
@@ -54,9 +54,10 @@ pub struct Survey {
     pub longest: u32,
 }
 
-/// A method that hands its heap, and then its own arguments, to the call of the same name.
+/// Hands a heap, and then a call's own arguments, to the library. The two names say how the call takes
+/// pool and table: `as_ptr` to read, `as_mut_ptr` to write.
 ///
-/// Safety of each call: slices are valid for their lengths and never null, the borrows of a `Heap`
+/// Safety of each call: slices are valid for their lengths and never null, and the borrows of a `Heap`
 /// overlap neither each other nor the locals that take the answers.
 macro_rules! hand_over {
     ($call:ident, $heap:expr, $pool:ident, $table:ident $(, $argument:expr)*) => {{

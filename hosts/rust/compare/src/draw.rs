@@ -226,14 +226,14 @@ fn word(random: &mut Random, lent: &Lent, block: u64) -> u64 {
     }
 }
 
-/// Most heads, or a few words; at times the most roots, too many, or a piece of one.
+/// Good roots; at times the most, too many, or a piece of one.
 pub fn draw_roots(random: &mut Random, lent: &mut Lent) {
-    let mut roots = if random.percent(80) { most_heads(random, lent) } else { Vec::new() };
+    let mut roots = good_roots(random, lent);
     let more = match random.below(64) {
         0 => 4096 - roots.len() as u64,
         1 => 4097 + random.below(10),
         2..=5 => random.between(5, 64),
-        _ => random.below(4),
+        _ => 0,
     };
     roots.extend((0..more).map(|_| word_value(random, lent)));
     lent.set_roots(&roots);
@@ -241,6 +241,15 @@ pub fn draw_roots(random: &mut Random, lent: &mut Lent) {
         let piece = random.between(1, 3) as usize;
         lent.roots = Guarded::new(&[&lent.roots[..], &random.bytes(piece)].concat());
     }
+}
+
+/// Most heads, or a few words, at most 4,096 in all.
+pub fn good_roots(random: &mut Random, lent: &Lent) -> Vec<u32> {
+    let mut roots = if random.percent(75) { most_heads(random, lent) } else { Vec::new() };
+    let few = random.below(4);
+    roots.extend((0..few).map(|_| word_value(random, lent)));
+    roots.truncate(4096);
+    roots
 }
 
 fn most_heads(random: &mut Random, lent: &Lent) -> Vec<u32> {

@@ -32,7 +32,8 @@ pub fn run_pairs(
         counts.different_bytes += pair.different_bytes();
         pair.call(subject, &Call::Collect, &mut counts)?;
         for _ in 0..sizes.calls_per_heap {
-            pair.draw_call_and_make(subject, &mut random, &mut counts)
+            let call = pair.draw_call(&mut random);
+            pair.call(subject, &call, &mut counts)
                 .map_err(|fault| format!("seed {seed}, call {}: {fault}", counts.calls))?;
         }
         counts.pairs += 1;
@@ -41,6 +42,7 @@ pub fn run_pairs(
 }
 
 struct Pair {
+    base: u64,
     sides: [Lent; 2],
 }
 
@@ -48,8 +50,7 @@ impl Pair {
     /// Two heaps that agree in base, table, roots and all that the roots reach.
     fn draw(random: &mut Random, table_bytes: u64) -> Pair {
         let mut heap = draw::heap(random, table_bytes);
-        let roots: Vec<u32> =
-            (0..random.below(5)).map(|_| draw::word_value(random, &heap)).collect();
+        let roots = draw::good_roots(random, &heap);
         heap.set_roots(&roots);
         let mut collected = heap.clone();
         second(&Call::Collect, &mut collected);
@@ -58,7 +59,7 @@ impl Pair {
             refill_free_blocks(random, side, &collected.table);
             side.stack = Guarded::new(&draw::good_stack(random));
         }
-        Pair { sides }
+        Pair { base: sides[0].base, sides }
     }
 
     fn different_bytes(&self) -> u64 {
@@ -66,28 +67,18 @@ impl Pair {
         first.pool.iter().zip(second.pool.iter()).filter(|(a, b)| a != b).count() as u64
     }
 
-    fn draw_call_and_make(
-        &mut self,
-        subject: Subject,
-        random: &mut Random,
-        counts: &mut PairCounts,
-    ) -> Result<(), String> {
-        let call = draw::call(random, &mut self.sides[0]);
+    /// A call for both sides: the same arguments, now and then on another base, and stacks of their own.
+    fn draw_call(&mut self, random: &mut Random) -> Call {
         let [first, second] = &mut self.sides;
+        first.base = self.base;
+        let call = draw::call(random, first);
+        if random.percent(5) {
+            first.base = draw::any_base(random, first);
+        }
+        second.base = first.base;
         second.roots = first.roots.clone();
         second.stack = Guarded::new(&other_stack(random, &first.stack));
-        let base = first.base;
-        if random.percent(5) {
-            let other = draw::any_base(random, first);
-            self.set_base(other);
-        }
-        let result = self.call(subject, &call, counts);
-        self.set_base(base);
-        result
-    }
-
-    fn set_base(&mut self, base: u64) {
-        self.sides.iter_mut().for_each(|side| side.base = base);
+        call
     }
 
     /// Makes one call on both sides and compares answers, tables and the bytes of allocated blocks.
