@@ -1,0 +1,233 @@
+/*
+ * Times one implementation of blockheap.h. Linked with the library, with the plain C port and with the
+ * plain-list heap, it does the same work on each, and prints for each kind of work and size of heap
+ *
+ *   WORK TABLE_BYTES NANOSECONDS CHECKSUM
+ *
+ * where the time is that of one round, and the checksum is made of the answers of a fixed number of rounds.
+ */
+#include <stdio.h>
+#include <stdlib.h>
+#include <string.h>
+#include <time.h>
+
+#include "blockheap.h"
+
+enum { CHECKED_ROUNDS = 50, REPEATS = 3, MAX_LIVE = BLOCKHEAP_MAX_BLOCKS / 4, GRAPH_ROOTS = 64 };
+static const double LEAST_NANOSECONDS = 20e6;
+static const uint32_t BASE = 4096;
+
+static uint8_t pool[BLOCKHEAP_MAX_POOL_BYTES];
+static uint8_t table[BLOCKHEAP_MAX_TABLE_BYTES];
+static uint8_t roots[GRAPH_ROOTS * BLOCKHEAP_WORD_BYTES];
+static uint8_t stack[BLOCKHEAP_MAX_STACK_ENTRIES * BLOCKHEAP_WORD_BYTES];
+static size_t table_bytes, blocks, roots_len;
+
+static uint32_t live[MAX_LIVE];
+static size_t live_count;
+
+#define HEAP BASE, pool, BLOCKHEAP_POOL_BYTES(table_bytes), table, table_bytes
+
+static uint32_t checksum;
+
+static void add(uint32_t answer)
+{
+    checksum = checksum * 31 + answer;
+}
+
+static uint32_t random_state;
+
+static uint32_t random_below(uint32_t end)
+{
+    random_state ^= random_state << 13;
+    random_state ^= random_state >> 17;
+    random_state ^= random_state << 5;
+    return random_state % end;
+}
+
+static void must(uint32_t refusal)
+{
+    if (refusal) {
+        fprintf(stderr, "unexpected refusal %u\n", (unsigned)refusal);
+        exit(1);
+    }
+}
+
+static uint32_t address(size_t block)
+{
+    return BASE + BLOCKHEAP_BLOCK_BYTES * (uint32_t)block;
+}
+
+static void put_word(uint8_t *bytes, uint32_t value)
+{
+    for (int at = 0; at < BLOCKHEAP_WORD_BYTES; at++)
+        bytes[at] = (uint8_t)(value >> 8 * at);
+}
+
+static void point(size_t block, size_t word, size_t target)
+{
+    if (target < blocks)
+        put_word(pool + BLOCKHEAP_BLOCK_BYTES * block + BLOCKHEAP_WORD_BYTES * word, address(target));
+}
+
+static void set_roots(size_t count)
+{
+    roots_len = count * BLOCKHEAP_WORD_BYTES;
+    for (size_t root = 0; root < count; root++)
+        put_word(roots + BLOCKHEAP_WORD_BYTES * root, address(count == 1 ? 0 : random_below((uint32_t)blocks)));
+}
+
+/* Small objects, a quarter as many as there are blocks, so that about half the blocks are used. */
+static void fill(void)
+{
+    int32_t change;
+    must(blockheap_init(HEAP));
+    live_count = blocks / 4;
+    for (size_t at = 0; at < live_count; at++)
+        must(blockheap_allocate(HEAP, 1 + random_below(48), &live[at], &change));
+}
+
+static void churn(void)
+{
+    int32_t change;
+    uint32_t *object = &live[random_below((uint32_t)live_count)];
+    must(blockheap_free(HEAP, *object, &change));
+    must(blockheap_allocate(HEAP, 1 + random_below(48), object, &change));
+    add(*object);
+}
+
+static void reallocate(void)
+{
+    int32_t change;
+    uint32_t *object = &live[random_below((uint32_t)live_count)];
+    must(blockheap_reallocate(HEAP, *object, 1 + random_below(48), object, &change));
+    add(*object);
+}
+
+static void load_and_store(void)
+{
+    uint32_t object = live[random_below((uint32_t)live_count)], value;
+    must(blockheap_load(HEAP, object, 3, &value));
+    must(blockheap_store(HEAP, object, 3, value + 1));
+    add(value);
+}
+
+static void survey(void)
+{
+    uint32_t used, objects, longest;
+    must(blockheap_survey(HEAP, &used, &objects, &longest));
+    add(used);
+    add(objects);
+    add(longest);
+}
+
+/* One object in every block, leading nowhere. */
+static void only_heads(void)
+{
+    memset(table, 0x55, table_bytes);
+    memset(pool, 0, sizeof pool);
+    set_roots(0);
+}
+
+static void chain(void)
+{
+    only_heads();
+    for (size_t block = 0; block < blocks; block++)
+        point(block, 0, block + 1);
+    set_roots(1);
+}
+
+static void tree(void)
+{
+    only_heads();
+    for (size_t block = 0; block < blocks; block++) {
+        point(block, 1, 2 * block + 1);
+        point(block, 2, 2 * block + 2);
+    }
+    set_roots(1);
+}
+
+static void graph(void)
+{
+    only_heads();
+    for (size_t word = 0; word < 4 * blocks; word++)
+        point(word / 4, word % 4, random_below((uint32_t)blocks));
+    set_roots(GRAPH_ROOTS);
+}
+
+static void collect(void)
+{
+    uint32_t kept, rescans;
+    int32_t change;
+    memset(table, 0x55, table_bytes);
+    must(blockheap_collect(HEAP, roots, roots_len, stack, sizeof stack, &kept, &rescans, &change));
+    add(kept);
+    add(rescans);
+    add((uint32_t)change);
+}
+
+static const struct work {
+    const char *name;
+    void (*prepare)(void);
+    void (*round)(void);
+} works[] = {
+    {"free+allocate", fill, churn},
+    {"reallocate", fill, reallocate},
+    {"load+store", fill, load_and_store},
+    {"survey", fill, survey},
+    {"collect-nothing", only_heads, collect},
+    {"collect-chain", chain, collect},
+    {"collect-tree", tree, collect},
+    {"collect-graph", graph, collect},
+};
+
+/* The processor time of this program, which other programs on the machine disturb least. */
+static double nanoseconds(void)
+{
+    return (double)clock() * (1e9 / CLOCKS_PER_SEC);
+}
+
+static double time_rounds(const struct work *work, long rounds)
+{
+    double start = nanoseconds();
+    for (long round = 0; round < rounds; round++)
+        work->round();
+    return nanoseconds() - start;
+}
+
+/* The best time of one round, over some repeats that are long enough to be timed. */
+static double best_time(const struct work *work)
+{
+    long rounds = 1;
+    while (time_rounds(work, rounds) < LEAST_NANOSECONDS)
+        rounds *= 2;
+    double best = time_rounds(work, rounds);
+    for (int repeat = 1; repeat < REPEATS; repeat++) {
+        double time = time_rounds(work, rounds);
+        best = time < best ? time : best;
+    }
+    return best / (double)rounds;
+}
+
+static void run(const struct work *work, size_t size)
+{
+    table_bytes = size;
+    blocks = BLOCKHEAP_BLOCKS_PER_TABLE_BYTE * size;
+    random_state = 2018;
+    checksum = 0;
+    work->prepare();
+    for (int round = 0; round < CHECKED_ROUNDS; round++)
+        work->round();
+    uint32_t checked = checksum;
+    printf("%s %zu %.1f %08x\n", work->name, size, best_time(work), (unsigned)checked);
+    fflush(stdout);
+}
+
+int main(void)
+{
+    static const size_t sizes[] = {8, BLOCKHEAP_MAX_TABLE_BYTES};
+    for (size_t at = 0; at < sizeof works / sizeof works[0]; at++)
+        for (size_t size = 0; size < sizeof sizes / sizeof sizes[0]; size++)
+            run(&works[at], sizes[size]);
+    return 0;
+}

@@ -1,0 +1,346 @@
+/*
+ * A plain checked port of the heap's rules by hand: what a C programmer would write in the place of the
+ * library. The benchmark runs it beside the library.
+ */
+#include <stdbool.h>
+#include <string.h>
+
+#include "blockheap.h"
+
+static unsigned entry_at(const uint8_t *table, size_t block)
+{
+    return table[block / 4] >> 2 * (block % 4) & 3;
+}
+
+static void set_entry(uint8_t *table, size_t block, unsigned entry)
+{
+    unsigned shift = 2 * (block % 4);
+    table[block / 4] = (uint8_t)((table[block / 4] & ~(3u << shift)) | entry << shift);
+}
+
+static void set_entries(uint8_t *table, size_t from, size_t to, unsigned entry)
+{
+    for (size_t block = from; block < to; block++)
+        set_entry(table, block, entry);
+}
+
+static uint32_t check_shape(uint64_t base, size_t pool_len, size_t table_len)
+{
+    if (table_len < 1 || table_len > BLOCKHEAP_MAX_TABLE_BYTES || pool_len != BLOCKHEAP_POOL_BYTES(table_len))
+        return BLOCKHEAP_BAD_SHAPE;
+    if (base < BLOCKHEAP_MIN_BASE || base % BLOCKHEAP_BLOCK_BYTES != 0 || base > 0x100000000 - pool_len)
+        return BLOCKHEAP_BAD_SHAPE;
+    return BLOCKHEAP_OK;
+}
+
+static uint32_t check_heap(uint64_t base, size_t pool_len, const uint8_t *table, size_t table_len)
+{
+    uint32_t refusal = check_shape(base, pool_len, table_len);
+    if (refusal)
+        return refusal;
+    unsigned before = BLOCKHEAP_FREE;
+    for (size_t block = 0; block < 4 * table_len; block++) {
+        unsigned entry = entry_at(table, block);
+        if (entry == BLOCKHEAP_MARK || (entry == BLOCKHEAP_TAIL && before == BLOCKHEAP_FREE))
+            return BLOCKHEAP_BAD_TABLE;
+        before = entry;
+    }
+    return BLOCKHEAP_OK;
+}
+
+static uint32_t check_head(const uint8_t *table, size_t blocks, uint64_t block)
+{
+    if (block >= blocks)
+        return BLOCKHEAP_NO_SUCH_BLOCK;
+    return entry_at(table, block) == BLOCKHEAP_HEAD ? BLOCKHEAP_OK : BLOCKHEAP_NOT_A_HEAD;
+}
+
+/* The first block at or after `from` whose entry is not `entry`, or `most`. */
+static size_t end_of(const uint8_t *table, size_t from, size_t most, unsigned entry)
+{
+    while (from < most && entry_at(table, from) == entry)
+        from++;
+    return from;
+}
+
+static size_t object_end(const uint8_t *table, size_t blocks, size_t head)
+{
+    return end_of(table, head + 1, blocks, BLOCKHEAP_TAIL);
+}
+
+static uint64_t blocks_for(uint64_t bytes)
+{
+    return bytes / BLOCKHEAP_BLOCK_BYTES + (bytes % BLOCKHEAP_BLOCK_BYTES != 0);
+}
+
+static bool find_run(const uint8_t *table, size_t blocks, uint64_t wanted, size_t *start)
+{
+    for (size_t from = 0; from < blocks; from++) {
+        size_t end = end_of(table, from, blocks, BLOCKHEAP_FREE);
+        if (end - from >= wanted) {
+            *start = from;
+            return true;
+        }
+        from = end;
+    }
+    return false;
+}
+
+static void place(uint8_t *table, size_t start, size_t blocks)
+{
+    set_entry(table, start, BLOCKHEAP_HEAD);
+    set_entries(table, start + 1, start + blocks, BLOCKHEAP_TAIL);
+}
+
+static void clear(uint8_t *pool, size_t from, size_t to)
+{
+    memset(pool + BLOCKHEAP_BLOCK_BYTES * from, 0, BLOCKHEAP_BLOCK_BYTES * (to - from));
+}
+
+static uint32_t word_at(const uint8_t *bytes)
+{
+    return bytes[0] | (uint32_t)bytes[1] << 8 | (uint32_t)bytes[2] << 16 | (uint32_t)bytes[3] << 24;
+}
+
+static void set_word(uint8_t *bytes, uint32_t value)
+{
+    for (int at = 0; at < BLOCKHEAP_WORD_BYTES; at++)
+        bytes[at] = (uint8_t)(value >> 8 * at);
+}
+
+uint32_t blockheap_init(uint64_t base, const uint8_t *pool, size_t pool_len, uint8_t *table, size_t table_len)
+{
+    (void)pool;
+    uint32_t refusal = check_shape(base, pool_len, table_len);
+    if (!refusal)
+        memset(table, 0, table_len);
+    return refusal;
+}
+
+uint32_t blockheap_allocate(uint64_t base, uint8_t *pool, size_t pool_len, uint8_t *table, size_t table_len,
+                            uint64_t bytes, uint32_t *block, int32_t *change)
+{
+    *block = 0;
+    *change = 0;
+    uint32_t refusal = check_heap(base, pool_len, table, table_len);
+    if (refusal)
+        return refusal;
+    if (bytes == 0)
+        return BLOCKHEAP_ZERO_BYTES;
+    uint64_t wanted = blocks_for(bytes);
+    size_t start;
+    if (!find_run(table, 4 * table_len, wanted, &start))
+        return BLOCKHEAP_NO_ROOM;
+    place(table, start, wanted);
+    clear(pool, start, start + wanted);
+    *block = (uint32_t)start;
+    *change = (int32_t)wanted;
+    return BLOCKHEAP_OK;
+}
+
+uint32_t blockheap_free(uint64_t base, const uint8_t *pool, size_t pool_len, uint8_t *table, size_t table_len,
+                        uint64_t block, int32_t *change)
+{
+    (void)pool;
+    *change = 0;
+    uint32_t refusal = check_heap(base, pool_len, table, table_len);
+    if (!refusal)
+        refusal = check_head(table, 4 * table_len, block);
+    if (refusal)
+        return refusal;
+    size_t end = object_end(table, 4 * table_len, block);
+    set_entries(table, block, end, BLOCKHEAP_FREE);
+    *change = (int32_t)block - (int32_t)end;
+    return BLOCKHEAP_OK;
+}
+
+uint32_t blockheap_reallocate(uint64_t base, uint8_t *pool, size_t pool_len, uint8_t *table, size_t table_len,
+                              uint64_t block, uint64_t bytes, uint32_t *new_block, int32_t *change)
+{
+    *new_block = 0;
+    *change = 0;
+    uint32_t refusal = check_heap(base, pool_len, table, table_len);
+    if (refusal)
+        return refusal;
+    if (bytes == 0)
+        return BLOCKHEAP_ZERO_BYTES;
+    size_t blocks = 4 * table_len;
+    refusal = check_head(table, blocks, block);
+    if (refusal)
+        return refusal;
+    uint64_t wanted = blocks_for(bytes);
+    size_t end = object_end(table, blocks, block), had = end - block, start = block;
+    if (wanted > blocks)
+        return BLOCKHEAP_NO_ROOM;
+    if (wanted <= had) {
+        set_entries(table, block + wanted, end, BLOCKHEAP_FREE);
+    } else if (end_of(table, end, blocks, BLOCKHEAP_FREE) - block >= wanted) {
+        set_entries(table, end, block + wanted, BLOCKHEAP_TAIL);
+        clear(pool, end, block + wanted);
+    } else if (find_run(table, blocks, wanted, &start)) {
+        place(table, start, wanted);
+        memcpy(pool + BLOCKHEAP_BLOCK_BYTES * start, pool + BLOCKHEAP_BLOCK_BYTES * block,
+               BLOCKHEAP_BLOCK_BYTES * had);
+        clear(pool, start + had, start + wanted);
+        set_entries(table, block, end, BLOCKHEAP_FREE);
+    } else {
+        return BLOCKHEAP_NO_ROOM;
+    }
+    *new_block = (uint32_t)start;
+    *change = (int32_t)wanted - (int32_t)had;
+    return BLOCKHEAP_OK;
+}
+
+typedef struct {
+    uint64_t base;
+    const uint8_t *pool;
+    uint8_t *table;
+    size_t blocks;
+    uint8_t *stack;
+    size_t entries, depth;
+    bool overflow;
+} marking;
+
+/* Marks the word's target, and says whether it was a head that had no mark. */
+static bool mark_target(marking *m, uint32_t word, uint32_t *target)
+{
+    if (word < m->base || word % BLOCKHEAP_BLOCK_BYTES != 0)
+        return false;
+    uint64_t block = (word - m->base) / BLOCKHEAP_BLOCK_BYTES;
+    if (block >= m->blocks || entry_at(m->table, block) != BLOCKHEAP_HEAD)
+        return false;
+    set_entry(m->table, block, BLOCKHEAP_MARK);
+    *target = (uint32_t)block;
+    return true;
+}
+
+static void walk(marking *m, size_t head)
+{
+    size_t end = object_end(m->table, m->blocks, head);
+    for (size_t word = 4 * end; word-- > 4 * head;) {
+        uint32_t child;
+        if (!mark_target(m, word_at(m->pool + BLOCKHEAP_WORD_BYTES * word), &child))
+            continue;
+        if (m->depth < m->entries)
+            set_word(m->stack + BLOCKHEAP_WORD_BYTES * m->depth++, child);
+        else
+            m->overflow = true;
+    }
+}
+
+static void walk_subtree(marking *m, size_t head)
+{
+    walk(m, head);
+    while (m->depth > 0) {
+        m->depth--;
+        walk(m, word_at(m->stack + BLOCKHEAP_WORD_BYTES * m->depth));
+    }
+}
+
+static void rescan(marking *m)
+{
+    m->overflow = false;
+    for (size_t block = 0; block < m->blocks; block++)
+        if (entry_at(m->table, block) == BLOCKHEAP_MARK)
+            walk_subtree(m, block);
+}
+
+static void sweep(uint8_t *table, size_t blocks, uint32_t *kept, int32_t *change)
+{
+    bool freeing = false;
+    for (size_t block = 0; block < blocks; block++) {
+        unsigned entry = entry_at(table, block);
+        if (entry == BLOCKHEAP_MARK) {
+            set_entry(table, block, BLOCKHEAP_HEAD);
+            ++*kept;
+        }
+        if (entry != BLOCKHEAP_TAIL)
+            freeing = entry == BLOCKHEAP_HEAD;
+        if (freeing) {
+            set_entry(table, block, BLOCKHEAP_FREE);
+            --*change;
+        }
+    }
+}
+
+uint32_t blockheap_collect(uint64_t base, const uint8_t *pool, size_t pool_len, uint8_t *table, size_t table_len,
+                           const uint8_t *roots, size_t roots_len, uint8_t *stack, size_t stack_len,
+                           uint32_t *kept, uint32_t *rescans, int32_t *change)
+{
+    *kept = *rescans = 0;
+    *change = 0;
+    if (roots_len % BLOCKHEAP_WORD_BYTES != 0 || stack_len % BLOCKHEAP_WORD_BYTES != 0)
+        return BLOCKHEAP_BAD_SHAPE;
+    uint32_t refusal = check_heap(base, pool_len, table, table_len);
+    if (refusal)
+        return refusal;
+    if (roots_len / BLOCKHEAP_WORD_BYTES > BLOCKHEAP_MAX_ROOTS)
+        return BLOCKHEAP_TOO_MANY_ROOTS;
+    if (stack_len / BLOCKHEAP_WORD_BYTES > BLOCKHEAP_MAX_STACK_ENTRIES)
+        return BLOCKHEAP_STACK_TOO_LONG;
+    marking m = {base, pool, table, 4 * table_len, stack, stack_len / BLOCKHEAP_WORD_BYTES, 0, false};
+    for (size_t at = 0; at < roots_len; at += BLOCKHEAP_WORD_BYTES) {
+        uint32_t root;
+        if (mark_target(&m, word_at(roots + at), &root))
+            walk_subtree(&m, root);
+    }
+    for (; m.overflow; ++*rescans)
+        rescan(&m);
+    sweep(table, m.blocks, kept, change);
+    memset(stack, 0, stack_len);
+    return BLOCKHEAP_OK;
+}
+
+uint32_t blockheap_survey(uint64_t base, const uint8_t *pool, size_t pool_len, const uint8_t *table,
+                          size_t table_len, uint32_t *used, uint32_t *objects, uint32_t *longest)
+{
+    (void)pool;
+    *used = *objects = *longest = 0;
+    uint32_t refusal = check_heap(base, pool_len, table, table_len);
+    if (refusal)
+        return refusal;
+    uint32_t run = 0;
+    for (size_t block = 0; block < 4 * table_len; block++) {
+        unsigned entry = entry_at(table, block);
+        *used += entry != BLOCKHEAP_FREE;
+        *objects += entry == BLOCKHEAP_HEAD;
+        run = entry == BLOCKHEAP_FREE ? run + 1 : 0;
+        if (run > *longest)
+            *longest = run;
+    }
+    return BLOCKHEAP_OK;
+}
+
+static uint32_t check_word(uint64_t base, size_t pool_len, const uint8_t *table, size_t table_len,
+                           uint64_t block, uint64_t word)
+{
+    uint32_t refusal = check_heap(base, pool_len, table, table_len);
+    if (!refusal)
+        refusal = check_head(table, 4 * table_len, block);
+    if (refusal)
+        return refusal;
+    size_t words = BLOCKHEAP_WORDS_PER_BLOCK * (object_end(table, 4 * table_len, block) - block);
+    return word < words ? BLOCKHEAP_OK : BLOCKHEAP_NO_SUCH_WORD;
+}
+
+static size_t word_offset(uint64_t block, uint64_t word)
+{
+    return BLOCKHEAP_BLOCK_BYTES * block + BLOCKHEAP_WORD_BYTES * word;
+}
+
+uint32_t blockheap_load(uint64_t base, const uint8_t *pool, size_t pool_len, const uint8_t *table,
+                        size_t table_len, uint64_t block, uint64_t word, uint32_t *value)
+{
+    uint32_t refusal = check_word(base, pool_len, table, table_len, block, word);
+    *value = refusal ? 0 : word_at(pool + word_offset(block, word));
+    return refusal;
+}
+
+uint32_t blockheap_store(uint64_t base, uint8_t *pool, size_t pool_len, const uint8_t *table, size_t table_len,
+                         uint64_t block, uint64_t word, uint32_t value)
+{
+    uint32_t refusal = check_word(base, pool_len, table, table_len, block, word);
+    if (!refusal)
+        set_word(pool + word_offset(block, word), value);
+    return refusal;
+}

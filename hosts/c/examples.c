@@ -1,0 +1,278 @@
+/*
+ * The checked examples of the heap's rules through the C header: 8 blocks, base 4,096.
+ *
+ * Every buffer is exactly as long as it is said to be, in memory of its own, so that the sanitizers and
+ * valgrind see an access beside it.
+ */
+#include <stdbool.h>
+#include <stdio.h>
+#include <stdlib.h>
+#include <string.h>
+
+#include "blockheap.h"
+
+enum { TABLE_BYTES = 2, POOL_BYTES = BLOCKHEAP_POOL_BYTES(TABLE_BYTES) };
+
+static uint64_t base;
+static uint8_t *pool;
+static uint8_t *table;
+
+#define HEAP base, pool, POOL_BYTES, table, TABLE_BYTES
+
+/* What every place for an answer holds before a call. */
+enum { RUBBISH = 0x5EED5EED };
+
+static bool same(const char *what, long long got, long long expected)
+{
+    if (got != expected)
+        printf("    %s is %lld where %lld is right\n", what, got, expected);
+    return got == expected;
+}
+
+static uint8_t *lent(size_t bytes)
+{
+    uint8_t *memory = malloc(bytes ? bytes : 1);
+    if (!memory) {
+        puts("out of memory");
+        exit(2);
+    }
+    return memory;
+}
+
+static void end_heap(void)
+{
+    free(pool);
+    free(table);
+    pool = table = NULL;
+}
+
+/* A heap with this table and a pool of zeros. */
+static bool from(uint8_t first, uint8_t second)
+{
+    end_heap();
+    base = 4096;
+    pool = lent(POOL_BYTES);
+    table = lent(TABLE_BYTES);
+    memset(pool, 0, POOL_BYTES);
+    table[0] = first;
+    table[1] = second;
+    return true;
+}
+
+static bool table_is(uint8_t first, uint8_t second)
+{
+    return same("table byte 0", table[0], first) && same("table byte 1", table[1], second);
+}
+
+static bool initialises(uint32_t refusal)
+{
+    return same("refusal", blockheap_init(HEAP), refusal);
+}
+
+static bool allocates(uint64_t bytes, uint32_t refusal, uint32_t block, int32_t change)
+{
+    uint32_t got_block = RUBBISH;
+    int32_t got_change = RUBBISH;
+    return same("refusal", blockheap_allocate(HEAP, bytes, &got_block, &got_change), refusal)
+        && same("block", got_block, block) && same("change", got_change, change);
+}
+
+static bool frees(uint64_t block, uint32_t refusal, int32_t change)
+{
+    int32_t got_change = RUBBISH;
+    return same("refusal", blockheap_free(HEAP, block, &got_change), refusal)
+        && same("change", got_change, change);
+}
+
+static bool reallocates(uint64_t block, uint64_t bytes, uint32_t refusal, uint32_t new_block, int32_t change)
+{
+    uint32_t got_block = RUBBISH;
+    int32_t got_change = RUBBISH;
+    return same("refusal", blockheap_reallocate(HEAP, block, bytes, &got_block, &got_change), refusal)
+        && same("new block", got_block, new_block) && same("change", got_change, change);
+}
+
+static bool loads(uint64_t block, uint64_t word, uint32_t refusal, uint32_t value)
+{
+    uint32_t got = RUBBISH;
+    return same("refusal", blockheap_load(HEAP, block, word, &got), refusal) && same("value", got, value);
+}
+
+static bool stores(uint64_t block, uint64_t word, uint32_t value)
+{
+    return same("refusal", blockheap_store(HEAP, block, word, value), BLOCKHEAP_OK);
+}
+
+static bool surveys(uint32_t used, uint32_t objects, uint32_t longest)
+{
+    uint32_t got_used = RUBBISH, got_objects = RUBBISH, got_longest = RUBBISH;
+    return same("refusal", blockheap_survey(HEAP, &got_used, &got_objects, &got_longest), BLOCKHEAP_OK)
+        && same("used", got_used, used) && same("objects", got_objects, objects)
+        && same("longest", got_longest, longest);
+}
+
+static bool all_zero(const uint8_t *bytes, size_t length)
+{
+    for (size_t at = 0; at < length; at++)
+        if (bytes[at])
+            return same("mark stack byte", bytes[at], 0);
+    return true;
+}
+
+/* Collects from one root, or from none where `root` is NULL. */
+static bool collects(const uint32_t *root, size_t stack_entries, uint32_t kept, uint32_t rescans, int32_t change)
+{
+    size_t roots_len = root ? 4 : 0, stack_len = 4 * stack_entries;
+    uint8_t *roots = lent(roots_len), *stack = lent(stack_len);
+    for (size_t at = 0; at < roots_len; at++)
+        roots[at] = (uint8_t)(*root >> 8 * at);
+    memset(stack, 0xEE, stack_len);
+    uint32_t got_kept = RUBBISH, got_rescans = RUBBISH;
+    int32_t got_change = RUBBISH;
+    uint32_t refusal =
+        blockheap_collect(HEAP, roots, roots_len, stack, stack_len, &got_kept, &got_rescans, &got_change);
+    bool right = same("refusal", refusal, BLOCKHEAP_OK) && same("kept", got_kept, kept)
+        && same("rescans", got_rescans, rescans) && same("change", got_change, change)
+        && all_zero(stack, stack_len);
+    free(roots);
+    free(stack);
+    return right;
+}
+
+/* The heap of examples 9 to 11: word 0 of block 4 leads to block 0. */
+static bool from_linked(void)
+{
+    return from(165, 169) && stores(4, 0, 4096) && surveys(8, 3, 0);
+}
+
+static bool example_1(void)
+{
+    return from(0, 0) && allocates(1, BLOCKHEAP_OK, 0, 1) && table_is(1, 0);
+}
+
+static bool example_2(void)
+{
+    return from(1, 0) && allocates(33, BLOCKHEAP_OK, 1, 3) && table_is(165, 0);
+}
+
+static bool example_3(void)
+{
+    return from(165, 0) && allocates(64, BLOCKHEAP_OK, 4, 4) && table_is(165, 169);
+}
+
+static bool example_4(void)
+{
+    return from(165, 169) && allocates(1, BLOCKHEAP_NO_ROOM, 0, 0) && table_is(165, 169);
+}
+
+static bool example_5(void)
+{
+    return from(165, 169) && frees(1, BLOCKHEAP_OK, -3) && table_is(1, 169)
+        && frees(5, BLOCKHEAP_NOT_A_HEAD, 0) && frees(8, BLOCKHEAP_NO_SUCH_BLOCK, 0) && table_is(1, 169);
+}
+
+static bool example_6(void)
+{
+    return from(1, 169) && reallocates(4, 16, BLOCKHEAP_OK, 4, -3) && table_is(1, 1);
+}
+
+static bool example_7(void)
+{
+    return from(1, 1) && reallocates(0, 64, BLOCKHEAP_OK, 0, 3) && table_is(169, 1)
+        && from(1, 1) && reallocates(0, 65, BLOCKHEAP_NO_ROOM, 0, 0) && table_is(1, 1);
+}
+
+static bool example_8(void)
+{
+    return from(5, 0) && reallocates(0, 17, BLOCKHEAP_OK, 2, 1) && table_is(148, 0);
+}
+
+static bool example_9(void)
+{
+    const uint32_t root = 4160;
+    return from_linked() && collects(&root, 64, 2, 0, -3) && table_is(1, 169)
+        && from_linked() && collects(&root, 0, 2, 1, -3) && table_is(1, 169);
+}
+
+static bool example_10(void)
+{
+    return from_linked() && collects(NULL, 64, 0, 0, -8) && table_is(0, 0);
+}
+
+static bool example_11(void)
+{
+    const uint32_t tail = 4128, inside = 4097;
+    return from_linked() && collects(&tail, 64, 0, 0, -8) && table_is(0, 0)
+        && from_linked() && collects(&inside, 64, 0, 0, -8) && table_is(0, 0);
+}
+
+static bool refuses_table(uint8_t first)
+{
+    return from(first, 0) && allocates(1, BLOCKHEAP_BAD_TABLE, 0, 0)
+        && allocates(0, BLOCKHEAP_BAD_TABLE, 0, 0) && table_is(first, 0);
+}
+
+static bool example_12(void)
+{
+    return refuses_table(2) && refuses_table(3) && refuses_table(8);
+}
+
+static bool initialises_at(uint64_t address, uint32_t refusal)
+{
+    bool made = from(1, 1);
+    base = address;
+    return made && initialises(refusal);
+}
+
+static bool example_13(void)
+{
+    return initialises_at(4294967168u, BLOCKHEAP_OK) && table_is(0, 0)
+        && initialises_at(4294967184u, BLOCKHEAP_BAD_SHAPE) && table_is(1, 1)
+        && initialises_at(0, BLOCKHEAP_BAD_SHAPE) && table_is(1, 1);
+}
+
+static bool example_14(void)
+{
+    return from(165, 169) && stores(4, 15, 77) && loads(4, 15, BLOCKHEAP_OK, 77)
+        && loads(4, 16, BLOCKHEAP_NO_SUCH_WORD, 0);
+}
+
+static bool example_15(void)
+{
+    return from(165, 169) && reallocates(8, 0, BLOCKHEAP_ZERO_BYTES, 0, 0) && table_is(165, 169);
+}
+
+static const struct {
+    const char *title;
+    bool (*holds)(void);
+} examples[] = {
+    {"allocate 1 byte", example_1},
+    {"allocate 33 bytes", example_2},
+    {"allocate 64 bytes", example_3},
+    {"no room for 1 byte", example_4},
+    {"free an object, a tail, a block outside", example_5},
+    {"shrink an object", example_6},
+    {"grow in place, and not at all", example_7},
+    {"grow by moving", example_8},
+    {"collect from one root", example_9},
+    {"collect from no roots", example_10},
+    {"roots that count for nothing", example_11},
+    {"ill-formed tables", example_12},
+    {"bases at the limits", example_13},
+    {"the last word and the one after", example_14},
+    {"0 bytes is refused before the block is", example_15},
+};
+
+int main(void)
+{
+    enum { COUNT = sizeof examples / sizeof examples[0] };
+    int failed = 0;
+    for (int number = 0; number < COUNT; number++) {
+        bool holds = examples[number].holds();
+        printf("example %2d  %-40s %s\n", number + 1, examples[number].title, holds ? "ok" : "FAILED");
+        failed += !holds;
+    }
+    end_heap();
+    printf("%d passed, %d failed\n", COUNT - failed, failed);
+    return failed != 0;
+}

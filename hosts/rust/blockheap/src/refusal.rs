@@ -1,0 +1,71 @@
+use std::fmt;
+
+/// Why a call was refused. After a refusal the heap holds what it held before.
+#[derive(Clone, Copy, Debug, PartialEq, Eq, Hash)]
+pub enum Refusal {
+    BadShape = 1,
+    BadTable = 2,
+    TooManyRoots = 3,
+    StackTooLong = 4,
+    ZeroBytes = 5,
+    NoSuchBlock = 6,
+    NotAHead = 7,
+    NoSuchWord = 8,
+    NoRoom = 9,
+}
+
+impl Refusal {
+    pub const ALL: [Refusal; 9] = [
+        Refusal::BadShape,
+        Refusal::BadTable,
+        Refusal::TooManyRoots,
+        Refusal::StackTooLong,
+        Refusal::ZeroBytes,
+        Refusal::NoSuchBlock,
+        Refusal::NotAHead,
+        Refusal::NoSuchWord,
+        Refusal::NoRoom,
+    ];
+
+    pub fn number(self) -> u32 {
+        self as u32
+    }
+
+    fn reason(self) -> &'static str {
+        match self {
+            Refusal::BadShape => {
+                "the table must have 1 to 1,024 bytes, the pool exactly 64 times as many, the base \
+                 must be a multiple of 16, at least 16, with the pool's end at most 4,294,967,296, \
+                 and roots and mark stack must have four bytes to an entry"
+            }
+            Refusal::BadTable => {
+                "the table has a mark, a tail at block 0 or a tail after a free block"
+            }
+            Refusal::TooManyRoots => "there are more than 4,096 root words",
+            Refusal::StackTooLong => "the mark stack has more than 64 entries",
+            Refusal::ZeroBytes => "a request must be for at least one byte",
+            Refusal::NoSuchBlock => "the block number lies outside the pool",
+            Refusal::NotAHead => "the block is not the head of an object",
+            Refusal::NoSuchWord => "the word lies outside the object",
+            Refusal::NoRoom => "no run of free blocks is long enough",
+        }
+    }
+}
+
+impl fmt::Display for Refusal {
+    fn fmt(&self, f: &mut fmt::Formatter<'_>) -> fmt::Result {
+        write!(f, "refused ({}): {}", self.number(), self.reason())
+    }
+}
+
+impl std::error::Error for Refusal {}
+
+/// Turns the library's number into a result.
+pub(crate) fn check(number: u32) -> Result<(), Refusal> {
+    if number == 0 {
+        return Ok(());
+    }
+    let known = Refusal::ALL.into_iter().find(|refusal| refusal.number() == number);
+    Err(known
+        .unwrap_or_else(|| panic!("the library answered {number}, which is no refusal number")))
+}

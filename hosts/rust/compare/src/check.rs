@@ -1,0 +1,72 @@
+//! One call, made on a subject and on the plain-list heap, and compared.
+
+use crate::{second, Call, Guarded, Lent, Reply, Subject};
+
+/// Makes the call on both and answers the reply with what is lent as it was left, or says what differs.
+pub fn compare(subject: Subject, call: &Call, before: &Lent) -> Result<(Reply, Lent), String> {
+    let mut expected = before.clone();
+    let expected_reply = second(call, &mut expected);
+    let mut after = before.clone();
+    let reply = subject(call, &mut after);
+    let difference = reply_difference(call, &reply, &expected_reply)
+        .or_else(|| lent_difference(&after, &expected))
+        .or_else(|| refusal_fault(&reply, before, &after))
+        .or_else(|| rescan_fault(call, &reply, before));
+    match difference {
+        None => Ok((reply, after)),
+        Some(difference) => Err(format!("{difference}\n  {}", describe(call, before))),
+    }
+}
+
+fn reply_difference(call: &Call, reply: &Reply, expected: &Reply) -> Option<String> {
+    if reply.strayed {
+        return Some("the call wrote beside the places for its answers".to_string());
+    }
+    if reply.refusal != expected.refusal {
+        return Some(format!("refusal {} where {} is right", reply.refusal, expected.refusal));
+    }
+    let mut parts = call.answer_names().iter().zip(reply.parts.iter().zip(&expected.parts));
+    parts
+        .find(|(_, (part, expected))| part != expected)
+        .map(|(name, (part, expected))| format!("{name} {part} where {expected} is right"))
+}
+
+fn lent_difference(after: &Lent, expected: &Lent) -> Option<String> {
+    let mut buffers = after.buffers().into_iter().zip(expected.buffers());
+    buffers.find_map(|((name, got), (_, expected))| buffer_difference(name, got, expected))
+}
+
+fn buffer_difference(name: &str, got: &Guarded, expected: &Guarded) -> Option<String> {
+    if !got.intact() {
+        return Some(format!("a byte outside the {name} was written"));
+    }
+    if **got == **expected {
+        return None;
+    }
+    let at = got.iter().zip(expected.iter()).position(|(got, expected)| got != expected)?;
+    Some(format!("{name} byte {at} is {} where {} is right", got[at], expected[at]))
+}
+
+/// What a refusal must leave as it was, whatever the plain-list heap says.
+fn refusal_fault(reply: &Reply, before: &Lent, after: &Lent) -> Option<String> {
+    if reply.refusal == 0 {
+        return None;
+    }
+    if reply.parts != [0; 3] {
+        return Some(format!("the answer to a refused call is {:?}, not zero", reply.parts));
+    }
+    lent_difference(after, before).map(|difference| format!("{difference}, after a refusal"))
+}
+
+/// The bounds on the rescan number.
+fn rescan_fault(call: &Call, reply: &Reply, before: &Lent) -> Option<String> {
+    let [kept, rescans, _] = reply.parts;
+    let most = if before.stack.len() as i64 / 4 >= kept - 1 { 0 } else { kept - 1 };
+    (*call == Call::Collect && rescans > most).then(|| format!("{rescans} rescans, at most {most}"))
+}
+
+fn describe(call: &Call, lent: &Lent) -> String {
+    let lengths = lent.buffers().map(|(name, bytes)| format!("{name} of {} bytes", bytes.len()));
+    let shown = &lent.table[..lent.table.len().min(16)];
+    format!("{call:?} on base {}, {}; table begins {shown:?}", lent.base, lengths.join(", "))
+}

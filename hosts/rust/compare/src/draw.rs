@@ -1,0 +1,338 @@
+//! Random heaps, calls and arguments: mostly sensible, often at a border, sometimes absurd.
+
+use crate::{Call, Guarded, Lent, Random};
+
+const FREE: u8 = 0;
+const HEAD: u8 = 1;
+const TAIL: u8 = 2;
+const MARK: u8 = 3;
+
+/// Far outside of every heap, and equal to small numbers where a number is cut or wrapped.
+const HUGE: [u64; 6] = [1 << 32, 1 << 36, 1 << 60, 1 << 62, 1 << 63, u64::MAX - 31];
+
+pub fn entry(table: &[u8], block: u64) -> u8 {
+    table[block as usize / 4] >> (2 * (block % 4)) & 3
+}
+
+fn set_entry(table: &mut [u8], block: u64, entry: u8) {
+    let shift = 2 * (block % 4);
+    let byte = &mut table[block as usize / 4];
+    *byte = *byte & !(3 << shift) | entry << shift;
+}
+
+fn blocks(lent: &Lent) -> u64 {
+    4 * lent.table.len() as u64
+}
+
+/// The number of blocks of the object whose head is `block`.
+pub fn object_blocks(table: &[u8], block: u64) -> u64 {
+    let after = (block + 1..4 * table.len() as u64).take_while(|k| entry(table, *k) == TAIL);
+    1 + after.count() as u64
+}
+
+pub fn heads(table: &[u8]) -> Vec<u64> {
+    (0..4 * table.len() as u64).filter(|block| entry(table, *block) == HEAD).collect()
+}
+
+/// The first head at or after a random block, or that block if the heap has none.
+fn some_head(random: &mut Random, lent: &Lent) -> u64 {
+    let (start, blocks) = (random.below(blocks(lent)), blocks(lent));
+    let mut in_turn = (start..blocks).chain(0..start);
+    in_turn.find(|block| entry(&lent.table, *block) == HEAD).unwrap_or(start)
+}
+
+/// How the objects of a heap lead to each other.
+#[derive(Clone, Copy, Debug)]
+pub enum Shape {
+    /// Random bytes.
+    Noise,
+    /// Random words that are mostly pointers.
+    Pointers,
+    /// Random words, few of which are pointers.
+    FewPointers,
+    /// Each object leads to the next.
+    RisingChain,
+    /// Each object leads to the one before, the worst for a short stack.
+    FallingChain,
+    /// A rising chain whose last leads to its first.
+    Ring,
+    /// Object i leads to objects 2i + 1 and 2i + 2.
+    Tree,
+}
+
+const SHAPES: [Shape; 7] = [
+    Shape::Noise,
+    Shape::Pointers,
+    Shape::FewPointers,
+    Shape::RisingChain,
+    Shape::FallingChain,
+    Shape::Ring,
+    Shape::Tree,
+];
+
+/// A heap with a well-formed table of so many bytes.
+pub fn heap(random: &mut Random, table_bytes: u64) -> Lent {
+    let table = table(random, table_bytes);
+    let pool = random.bytes(64 * table_bytes as usize);
+    let mut lent = Lent::new(good_base(random, table_bytes), &pool, &table);
+    let shape = random.pick(&SHAPES);
+    link(random, &mut lent, shape);
+    lent
+}
+
+fn table(random: &mut Random, table_bytes: u64) -> Vec<u8> {
+    let blocks = 4 * table_bytes;
+    let styles = [(1, 0), (1, 2), (3, 3), (9, 1), (9, 20), (blocks, 0), (blocks, blocks), (0, 0)];
+    let (longest_object, longest_gap) = random.pick(&styles);
+    let mut table = vec![0; table_bytes as usize];
+    if longest_object == 0 {
+        return table;
+    }
+    let mut block = random.below(longest_gap + 1);
+    while block < blocks {
+        let end = blocks.min(block + random.between(1, longest_object));
+        set_entry(&mut table, block, HEAD);
+        (block + 1..end).for_each(|tail| set_entry(&mut table, tail, TAIL));
+        block = end + random.below(longest_gap + 1);
+    }
+    table
+}
+
+/// A base that fits, often the lowest or the highest.
+pub fn good_base(random: &mut Random, table_bytes: u64) -> u64 {
+    let highest = (1 << 32) - 64 * table_bytes;
+    let between = 16 * random.between(1, highest / 16);
+    random.pick(&[16, 4096, between, highest])
+}
+
+/// Fills the objects' words with pointers to each other.
+fn link(random: &mut Random, lent: &mut Lent, shape: Shape) {
+    let heads = heads(&lent.table);
+    let target = |index: usize| heads.get(index).copied();
+    for (index, head) in heads.iter().enumerate() {
+        let targets = match shape {
+            Shape::Noise => continue,
+            Shape::Pointers => {
+                fill(random, lent, *head, 90);
+                continue;
+            }
+            Shape::FewPointers => {
+                fill(random, lent, *head, 5);
+                continue;
+            }
+            Shape::RisingChain => [target(index + 1), None],
+            Shape::FallingChain => [index.checked_sub(1).and_then(target), None],
+            Shape::Ring => [target((index + 1) % heads.len()), None],
+            Shape::Tree => [target(2 * index + 1), target(2 * index + 2)],
+        };
+        point(random, lent, *head, targets);
+    }
+}
+
+/// Gives each word of the block's object a value, so many in a hundred of them pointers or nearly so.
+fn fill(random: &mut Random, lent: &mut Lent, head: u64, percent: u64) {
+    for word in 4 * head..4 * (head + object_blocks(&lent.table, head)) {
+        let value = if random.percent(percent) { word_value(random, lent) } else { 0 };
+        lent.set_word(word as usize, value);
+    }
+}
+
+/// Clears an object and puts the targets' addresses at random places in it.
+fn point(random: &mut Random, lent: &mut Lent, head: u64, targets: [Option<u64>; 2]) {
+    let end = head + object_blocks(&lent.table, head);
+    lent.pool[16 * head as usize..16 * end as usize].fill(0);
+    let middle = random.between(4 * head + 1, 4 * end - 1);
+    let places = [random.between(middle, 4 * end - 1), random.between(4 * head, middle - 1)];
+    for (place, target) in places.into_iter().zip(targets) {
+        if let Some(target) = target {
+            lent.set_word(place as usize, address(lent, target));
+        }
+    }
+}
+
+fn address(lent: &Lent, block: u64) -> u32 {
+    lent.base.wrapping_add(16 * block) as u32
+}
+
+/// Mostly the address of a head; else one that counts for nothing, or any number.
+pub fn word_value(random: &mut Random, lent: &Lent) -> u32 {
+    let some_block = random.below(blocks(lent));
+    match random.below(16) {
+        0 => address(lent, some_block),
+        1 => address(lent, some_block) + random.between(1, 15) as u32,
+        2 => address(lent, blocks(lent)),
+        3 => (lent.base as u32).wrapping_sub(16),
+        4 => address(lent, some_block).swap_bytes(),
+        5 => some_block as u32,
+        6 => random.number() as u32,
+        _ => address(lent, some_head(random, lent)),
+    }
+}
+
+/// A call with its arguments; for a collection also roots and mark stack.
+pub fn call(random: &mut Random, lent: &mut Lent) -> Call {
+    match random.below(300) {
+        0 => Call::Init,
+        1..=74 => Call::Allocate { bytes: bytes(random, lent) },
+        75..=104 => Call::Free { block: block(random, lent) },
+        105..=169 => Call::Reallocate { block: block(random, lent), bytes: bytes(random, lent) },
+        170..=214 => {
+            draw_roots(random, lent);
+            lent.stack = Guarded::new(&stack(random));
+            Call::Collect
+        }
+        215..=229 => Call::Survey,
+        230..=259 => {
+            let block = block(random, lent);
+            Call::Load { block, word: word(random, lent, block) }
+        }
+        _ => {
+            let block = block(random, lent);
+            let value = word_value(random, lent);
+            Call::Store { block, word: word(random, lent, block), value }
+        }
+    }
+}
+
+fn bytes(random: &mut Random, lent: &Lent) -> u64 {
+    let pool = lent.pool.len() as u64;
+    match random.below(16) {
+        0 => 0,
+        1 => random.pick(&HUGE) + random.below(32),
+        2 => pool - 16 + random.below(33),
+        3 | 4 => random.between(1, pool),
+        5 => 16 * random.between(1, 4),
+        _ => random.between(1, 100),
+    }
+}
+
+fn block(random: &mut Random, lent: &Lent) -> u64 {
+    match random.below(16) {
+        0 => random.below(blocks(lent)),
+        1 => blocks(lent) + random.below(2),
+        2 => random.pick(&HUGE).wrapping_add(some_head(random, lent)),
+        _ => some_head(random, lent),
+    }
+}
+
+fn word(random: &mut Random, lent: &Lent, block: u64) -> u64 {
+    let words = if block < blocks(lent) { 4 * object_blocks(&lent.table, block) } else { 4 };
+    match random.below(16) {
+        0 => words,
+        1 => words - 1,
+        2 => random.below(4 * blocks(lent)),
+        3 => random.pick(&HUGE) + random.below(4),
+        _ => random.below(words),
+    }
+}
+
+/// Good roots; at times the most, too many, or a piece of one.
+pub fn draw_roots(random: &mut Random, lent: &mut Lent) {
+    let mut roots = good_roots(random, lent);
+    let more = match random.below(64) {
+        0 => 4096 - roots.len() as u64,
+        1 => 4097 + random.below(10),
+        2..=5 => random.between(5, 64),
+        _ => 0,
+    };
+    roots.extend((0..more).map(|_| word_value(random, lent)));
+    lent.set_roots(&roots);
+    if random.percent(2) {
+        let piece = random.between(1, 3) as usize;
+        lent.roots = Guarded::new(&[&lent.roots[..], &random.bytes(piece)].concat());
+    }
+}
+
+/// Most heads, or a few words, at most 4,096 in all.
+pub fn good_roots(random: &mut Random, lent: &Lent) -> Vec<u32> {
+    let mut roots = if random.percent(75) { most_heads(random, lent) } else { Vec::new() };
+    let few = random.below(4);
+    roots.extend((0..few).map(|_| word_value(random, lent)));
+    roots.truncate(4096);
+    roots
+}
+
+fn most_heads(random: &mut Random, lent: &Lent) -> Vec<u32> {
+    let heads = heads(&lent.table).into_iter();
+    heads.filter(|_| random.percent(85)).map(|head| address(lent, head)).collect()
+}
+
+/// A stack for the marks, with any content: 0 to 64 entries, at times more, or a piece of one.
+fn stack(random: &mut Random) -> Vec<u8> {
+    let len = match random.below(32) {
+        0 => 4 * random.pick(&[65, 66, 100, 4096]),
+        1 => random.below(280),
+        2 => 4 * 64,
+        3..=8 => 0,
+        _ => return good_stack(random),
+    };
+    random.bytes(len as usize)
+}
+
+/// A stack of 0 to 64 entries, short ones more often.
+pub fn good_stack(random: &mut Random) -> Vec<u8> {
+    let most = random.pick(&[0, 2, 8, 64]);
+    let entries = random.between(0, most);
+    random.bytes(4 * entries as usize)
+}
+
+/// Makes the heap wrong in one way, or in two.
+pub fn damage(random: &mut Random, lent: &mut Lent) {
+    damage_once(random, lent);
+    if random.percent(25) {
+        damage_once(random, lent);
+    }
+}
+
+fn damage_once(random: &mut Random, lent: &mut Lent) {
+    match random.below(8) {
+        0 => lent.base = any_base(random, lent),
+        1 => lent.pool = Guarded::new(&random_length(random, &lent.pool, 65)),
+        2 => lent.table = Guarded::new(&random_length(random, &lent.table, 2)),
+        3 => {
+            let table_bytes = random.pick(&[0, 1025, 1026]);
+            lent.table = Guarded::zeroed(table_bytes);
+            lent.pool = Guarded::zeroed(64 * table_bytes);
+        }
+        4 if !lent.table.is_empty() => {
+            let table = random.bytes(lent.table.len());
+            lent.table.copy_from_slice(&table);
+        }
+        5 if !lent.table.is_empty() => set_entry(&mut lent.table, 0, TAIL),
+        6 | 7 if !lent.table.is_empty() => {
+            let block = random.below(blocks(lent));
+            let wrong = random.pick(&[MARK, TAIL, FREE]);
+            set_entry(&mut lent.table, block, wrong);
+        }
+        _ => lent.base = lent.base.wrapping_add(1),
+    }
+}
+
+/// A base that may fit or not.
+pub fn any_base(random: &mut Random, lent: &Lent) -> u64 {
+    let pool = lent.pool.len() as u64;
+    let highest = (1u64 << 32).wrapping_sub(pool);
+    let misplaced = lent.base.wrapping_add(random.between(1, 15));
+    let wrapping = pool.wrapping_neg();
+    random.pick(&[
+        0,
+        8,
+        16,
+        highest,
+        highest + 16,
+        1 << 32,
+        lent.base.wrapping_add(1 << 32),
+        misplaced,
+        wrapping,
+        u64::MAX - 15,
+    ])
+}
+
+/// The bytes with up to `most` more or fewer at the end.
+fn random_length(random: &mut Random, bytes: &[u8], most: u64) -> Vec<u8> {
+    let mut bytes = bytes.to_vec();
+    let by = random.between(1, most) as usize;
+    let len = if random.percent(50) { bytes.len() + by } else { bytes.len().saturating_sub(by) };
+    bytes.resize(len, 0);
+    bytes
+}

@@ -1,0 +1,24 @@
+//! Runs a heap beside the plain-list heap and compares every answer and every byte.
+//!
+//! A [`Subject`] is a heap under test: the library through its raw calls, the library through the
+//! safe wrapper, or a heap that is broken on purpose, which the comparison must notice.
+
+mod call;
+mod check;
+mod coverage;
+mod draw;
+mod guarded;
+mod pairs;
+mod random;
+mod subject;
+mod walk;
+
+pub use call::{Call, Lent, Reply};
+pub use check::compare;
+pub use coverage::Coverage;
+pub use draw::{call as draw_call, entry, object_blocks};
+pub use guarded::Guarded;
+pub use pairs::{run_pairs, PairCounts};
+pub use random::Random;
+pub use subject::{library, second, second_on_list, wrapper, Subject};
+pub use walk::{run_walks, Sizes};

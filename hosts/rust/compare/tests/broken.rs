@@ -1,0 +1,354 @@
+//! The comparison must notice a wrong heap: each heap here follows all rules but one.
+
+use compare::{entry, object_blocks, run_pairs, run_walks, second, Call, Guarded, Lent, Reply};
+use compare::{Coverage, Sizes, Subject};
+use listheap::{Collected, ListHeap, Marking, Placed, Refusal};
+
+const SMALL: Sizes = Sizes { least: 1, most: 16, calls_per_heap: 60 };
+const MOST_CALLS: u64 = 50_000;
+
+/// Within some thousand calls the heap must be told from a right one.
+fn must_be_noticed(name: &str, subject: Subject) {
+    let outcome = run_walks(subject, SMALL, 5, MOST_CALLS, &mut Coverage::default());
+    say_noticed(name, &outcome.expect_err("no call told this heap from a right one"));
+}
+
+fn dead_data_is_heard(name: &str, subject: Subject) {
+    let outcome = run_pairs(subject, SMALL, 5, 500);
+    say_noticed(name, &outcome.expect_err("no pair of heaps differed"));
+}
+
+fn say_noticed(name: &str, fault: &str) {
+    println!("noticed: {name}: {}", fault.lines().next().unwrap_or_default());
+}
+
+/// A test for each heap, with its name.
+macro_rules! each {
+    ($test:ident: $($heap:ident)*) => {
+        mod $test {
+            $(
+                #[test]
+                fn $heap() {
+                    super::$test(stringify!($heap), &super::$heap);
+                }
+            )*
+        }
+    };
+}
+
+each! { must_be_noticed:
+    reads_words_highest_byte_first
+    skips_word_zero
+    stops_at_the_overflow_flag
+    clears_the_flag_after_the_pass
+    walks_words_first_to_last
+    clears_only_the_bytes_asked
+    moves_into_its_own_blocks
+    frees_tails_of_kept_objects
+    counts_addresses_inside_blocks
+    misses_the_lowest_start
+    cuts_numbers_to_32_bits
+    tests_the_block_before_the_bytes
+    takes_any_base
+    answers_after_a_refusal
+    writes_after_a_refusal
+    leaves_the_mark_stack
+    clears_freed_bytes
+    clears_the_pool_at_init
+    writes_past_the_pool
+    writes_the_roots
+}
+
+each! { dead_data_is_heard:
+    clears_only_the_bytes_asked
+    follows_words_in_free_blocks
+}
+
+#[test]
+fn a_right_heap_is_not_noticed() {
+    run_walks(&second, SMALL, 5, MOST_CALLS, &mut Coverage::default()).expect("a right heap");
+}
+
+#[test]
+fn an_empty_run_has_reached_nothing() {
+    let faults = Coverage::default().faults();
+    let numbers = faults.iter().filter(|fault| fault.contains("never answered")).count();
+    assert_eq!(numbers, 39, "pairs of a call and a refusal number");
+}
+
+/// Whether the heap's lengths fit each other, so that its blocks can be looked at.
+fn in_shape(lent: &Lent) -> bool {
+    lent.pool.len() == 64 * lent.table.len()
+}
+
+fn heads(lent: &Lent) -> Vec<u64> {
+    let blocks = 0..4 * lent.table.len() as u64;
+    blocks.filter(|block| in_shape(lent) && entry(&lent.table, *block) == 1).collect()
+}
+
+/// A right collection on a pool that was changed for it.
+fn collect_on_changed_pool(call: &Call, lent: &mut Lent, change: impl Fn(&mut Lent)) -> Reply {
+    let pool = lent.pool.clone();
+    if *call == Call::Collect {
+        change(lent);
+    }
+    let reply = second(call, lent);
+    if *call == Call::Collect {
+        lent.pool = pool;
+    }
+    reply
+}
+
+/// A collection that is accepted, made by other hands.
+fn collect_by(
+    call: &Call,
+    lent: &mut Lent,
+    collect: impl Fn(&mut ListHeap, &[u32], usize) -> Collected,
+) -> Reply {
+    let before = lent.clone();
+    let right = second(call, lent);
+    if *call != Call::Collect || right.refusal != 0 {
+        return right;
+    }
+    let (roots, entries) = (listheap::words_of(&before.roots), before.stack.len() / 4);
+    *lent = Lent { stack: lent.stack.clone(), ..before };
+    let collected = listheap::on_bytes(lent.base, &mut lent.pool, &mut lent.table, |heap| {
+        Ok(collect(heap, &roots, entries))
+    })
+    .expect("an accepted collection");
+    Reply::accepted([collected.kept as i64, collected.rescans as i64, collected.change])
+}
+
+/// A collection whose rescans are the fault's own.
+fn collect_with_rescans(
+    call: &Call,
+    lent: &mut Lent,
+    rescan: impl Fn(&mut Marking) -> u64,
+) -> Reply {
+    collect_by(call, lent, |heap, roots, entries| {
+        let mut marking = Marking::new(heap, entries);
+        marking.roots(roots);
+        let rescans = rescan(&mut marking);
+        let marked = marking.marked;
+        heap.sweep(&marked, rescans)
+    })
+}
+
+fn reverse_words(lent: &mut Lent) {
+    lent.pool.chunks_exact_mut(4).for_each(<[u8]>::reverse);
+    lent.roots.chunks_exact_mut(4).for_each(<[u8]>::reverse);
+}
+
+fn reads_words_highest_byte_first(call: &Call, lent: &mut Lent) -> Reply {
+    reverse_words(lent);
+    let reply = second(call, lent);
+    reverse_words(lent);
+    reply
+}
+
+fn skips_word_zero(call: &Call, lent: &mut Lent) -> Reply {
+    collect_on_changed_pool(call, lent, |lent| {
+        heads(lent).into_iter().for_each(|head| lent.set_word(4 * head as usize, 0));
+    })
+}
+
+fn walks_words_first_to_last(call: &Call, lent: &mut Lent) -> Reply {
+    collect_on_changed_pool(call, lent, |lent| {
+        for head in heads(lent) {
+            let end = head + object_blocks(&lent.table, head);
+            let object = &mut lent.pool[16 * head as usize..16 * end as usize];
+            object.reverse();
+            object.chunks_exact_mut(4).for_each(<[u8]>::reverse);
+        }
+    })
+}
+
+fn stops_at_the_overflow_flag(call: &Call, lent: &mut Lent) -> Reply {
+    collect_with_rescans(call, lent, |marking| u64::from(marking.overflowed))
+}
+
+fn clears_the_flag_after_the_pass(call: &Call, lent: &mut Lent) -> Reply {
+    collect_with_rescans(call, lent, |marking| {
+        let rescans = u64::from(marking.overflowed);
+        if marking.overflowed {
+            marking.pass();
+            marking.overflowed = false;
+        }
+        rescans
+    })
+}
+
+fn frees_tails_of_kept_objects(call: &Call, lent: &mut Lent) -> Reply {
+    collect_by(call, lent, |heap, roots, entries| {
+        let before = heap.clone();
+        let mut collected = heap.collect(roots, entries).expect("an accepted collection");
+        let freed = before.objects.iter().find(|object| !heap.objects.contains(object));
+        let first_freed = freed.map_or(heap.blocks, |object| object.start);
+        for object in heap.objects.iter_mut().filter(|object| object.start > first_freed) {
+            collected.change -= object.blocks as i64 - 1;
+            object.blocks = 1;
+            object.words.truncate(4);
+        }
+        collected
+    })
+}
+
+fn clears_only_the_bytes_asked(call: &Call, lent: &mut Lent) -> Reply {
+    let before = lent.pool.clone();
+    let reply = second(call, lent);
+    let [block, change, _] = reply.parts;
+    if let (1.., Call::Allocate { bytes } | Call::Reallocate { bytes, .. }) = (change, *call) {
+        let start = 16 * block as usize;
+        let stale = start + bytes as usize..start + bytes.next_multiple_of(16) as usize;
+        lent.pool[stale.clone()].copy_from_slice(&before[stale]);
+    }
+    reply
+}
+
+fn moves_into_its_own_blocks(call: &Call, lent: &mut Lent) -> Reply {
+    let reply = second(call, lent);
+    let Call::Reallocate { block, bytes } = *call else {
+        return reply;
+    };
+    if reply.refusal != Refusal::NoRoom.number() {
+        return reply;
+    }
+    let moved = listheap::on_bytes(lent.base, &mut lent.pool, &mut lent.table, |heap| {
+        let old = heap.objects.iter().find(|object| object.start == block).cloned();
+        let freed = heap.free(block)?;
+        let placed = heap.allocate(bytes)?;
+        for (word, value) in old.expect("an object").words.into_iter().enumerate() {
+            heap.store(placed.block, word as u64, value)?;
+        }
+        Ok(Placed { change: placed.change + freed, ..placed })
+    });
+    moved.map_or(reply, |placed| Reply::accepted([placed.block as i64, placed.change, 0]))
+}
+
+fn counts_addresses_inside_blocks(call: &Call, lent: &mut Lent) -> Reply {
+    let roots = lent.roots.clone();
+    lent.roots.chunks_exact_mut(4).for_each(|root| root[0] &= 0xF0);
+    let reply = second(call, lent);
+    lent.roots = roots;
+    reply
+}
+
+/// Takes the second place of a run where that is free too.
+fn misses_the_lowest_start(call: &Call, lent: &mut Lent) -> Reply {
+    let mut reply = second(call, lent);
+    if let (0, Call::Allocate { .. }) = (reply.refusal, call) {
+        let block = reply.parts[0] as u64;
+        reply.parts[0] = listheap::on_bytes(lent.base, &mut lent.pool, &mut lent.table, |heap| {
+            let free = |block| block < heap.blocks && heap.objects.iter().all(|o| o.start != block);
+            let index = heap.objects.iter().position(|object| object.start == block);
+            let object = index.expect("the new object");
+            if free(heap.objects[object].end()) {
+                heap.objects[object].start += 1;
+            }
+            Ok(heap.objects[object].start as i64)
+        })
+        .expect("a heap in order");
+    }
+    reply
+}
+
+fn cuts_numbers_to_32_bits(call: &Call, lent: &mut Lent) -> Reply {
+    let cut = |number: u64| u64::from(number as u32);
+    let call = match *call {
+        Call::Allocate { bytes } => Call::Allocate { bytes: cut(bytes) },
+        Call::Free { block } => Call::Free { block: cut(block) },
+        Call::Load { block, word } => Call::Load { block, word: cut(word) },
+        other => other,
+    };
+    second(&call, lent)
+}
+
+fn tests_the_block_before_the_bytes(call: &Call, lent: &mut Lent) -> Reply {
+    let reply = second(call, lent);
+    match *call {
+        Call::Reallocate { block, .. } if reply.refusal == 5 => {
+            let with_bytes = second(&Call::Reallocate { block, bytes: 1 }, &mut lent.clone());
+            if matches!(with_bytes.refusal, 6 | 7) {
+                with_bytes
+            } else {
+                reply
+            }
+        }
+        _ => reply,
+    }
+}
+
+fn takes_any_base(call: &Call, lent: &mut Lent) -> Reply {
+    let base = std::mem::replace(&mut lent.base, 4096);
+    let reply = second(call, lent);
+    lent.base = base;
+    reply
+}
+
+fn answers_after_a_refusal(call: &Call, lent: &mut Lent) -> Reply {
+    let mut reply = second(call, lent);
+    if reply.refusal == 9 {
+        reply.parts[0] = 4096;
+    }
+    reply
+}
+
+fn writes_after_a_refusal(call: &Call, lent: &mut Lent) -> Reply {
+    let reply = second(call, lent);
+    if reply.refusal == 4 {
+        lent.stack[0] ^= 1;
+    }
+    reply
+}
+
+fn leaves_the_mark_stack(call: &Call, lent: &mut Lent) -> Reply {
+    let stack = lent.stack.clone();
+    let reply = second(call, lent);
+    lent.stack = stack;
+    reply
+}
+
+fn clears_freed_bytes(call: &Call, lent: &mut Lent) -> Reply {
+    let reply = second(call, lent);
+    if let (0, Call::Free { block }) = (reply.refusal, *call) {
+        lent.pool[16 * block as usize..][..16].fill(0);
+    }
+    reply
+}
+
+fn clears_the_pool_at_init(call: &Call, lent: &mut Lent) -> Reply {
+    let reply = second(call, lent);
+    if let (0, Call::Init) = (reply.refusal, call) {
+        lent.pool.fill(0);
+    }
+    reply
+}
+
+fn writes_past_the_pool(call: &Call, lent: &mut Lent) -> Reply {
+    let end = lent.pool.as_mut_ptr_range().end;
+    // The byte after the pool is a guard byte of the same vector.
+    unsafe { *end = 0 };
+    second(call, lent)
+}
+
+fn writes_the_roots(call: &Call, lent: &mut Lent) -> Reply {
+    let reply = second(call, lent);
+    if reply.refusal == 0 {
+        lent.roots.fill(0);
+    }
+    reply
+}
+
+fn follows_words_in_free_blocks(call: &Call, lent: &mut Lent) -> Reply {
+    let roots = lent.roots.clone();
+    if *call == Call::Collect && in_shape(lent) {
+        let blocks = 0..4 * lent.table.len() as u64;
+        let free = blocks.filter(|block| entry(&lent.table, *block) == 0);
+        let words = free.flat_map(|block| &lent.pool[16 * block as usize..][..16]);
+        let heard: Vec<u8> = lent.roots.iter().chain(words).copied().take(4 * 4096).collect();
+        lent.roots = Guarded::new(&heard);
+    }
+    let reply = second(call, lent);
+    lent.roots = roots;
+    reply
+}

@@ -1,0 +1,36 @@
+//! Dead data has no voice: pairs of heaps, long lists of calls. BLOCKHEAP_PAIRS asks for more pairs.
+
+use compare::{library, run_pairs, Sizes};
+
+const PAIRS: u64 = 600;
+
+fn pairs_wanted() -> u64 {
+    match std::env::var("BLOCKHEAP_PAIRS") {
+        Ok(text) => text.parse().expect("BLOCKHEAP_PAIRS must be a number of pairs"),
+        Err(_) => PAIRS,
+    }
+}
+
+fn pairs_agree(sizes: Sizes, seed: u64, pairs: u64) {
+    let counts = run_pairs(&library, sizes, seed, pairs).unwrap_or_else(|fault| panic!("{fault}"));
+    println!(
+        "tables of {} to {} bytes: {} pairs with {} different bytes answer {} calls alike ({} refused)",
+        sizes.least,
+        sizes.most,
+        counts.pairs,
+        counts.different_bytes,
+        counts.calls,
+        counts.refused
+    );
+    assert!(counts.different_bytes > 0 && counts.refused > 0 && counts.different_rescans > 0);
+}
+
+#[test]
+fn small_heaps_that_differ_in_dead_bytes_answer_alike() {
+    pairs_agree(Sizes { least: 1, most: 12, calls_per_heap: 200 }, 3, pairs_wanted());
+}
+
+#[test]
+fn large_heaps_that_differ_in_dead_bytes_answer_alike() {
+    pairs_agree(Sizes { least: 13, most: 1024, calls_per_heap: 300 }, 33, pairs_wanted() / 10);
+}

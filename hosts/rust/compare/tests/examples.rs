@@ -1,0 +1,186 @@
+//! The checked examples of the rules, on the library, its wrapper and the plain-list heap.
+//! n = 8 blocks and base 4,096 throughout; tables in decimal.
+
+use compare::{library, second, wrapper, Call, Guarded, Lent, Reply, Subject};
+
+const BASE: u64 = 4096;
+
+/// A heap of eight blocks on which calls are made one after the other.
+struct Example<'s> {
+    subject: Subject<'s>,
+    lent: Lent,
+}
+
+impl Example<'_> {
+    fn from(&mut self, table: [u8; 2]) -> &mut Self {
+        self.lent = Lent::new(BASE, &[0; 128], &table);
+        self
+    }
+
+    /// The heap of examples 9 to 11: word 0 of block 4 leads to block 0.
+    fn linked(&mut self, roots: &[u32], stack_entries: usize) -> &mut Self {
+        self.from([165, 169]);
+        self.lent.set_word(16, 4096);
+        self.lent.set_roots(roots);
+        self.lent.stack = Guarded::new(&vec![0xEE; 4 * stack_entries]);
+        self
+    }
+
+    fn based(&mut self, base: u64) -> &mut Self {
+        self.lent.base = base;
+        self
+    }
+
+    fn gives<const N: usize>(&mut self, call: Call, parts: [i64; N], table: [u8; 2]) -> &mut Self {
+        let mut all = [0; 3];
+        all[..N].copy_from_slice(&parts);
+        assert_eq!((self.subject)(&call, &mut self.lent), Reply::accepted(all), "{call:?}");
+        assert_eq!(self.lent.table[..], table, "the table after {call:?}");
+        self
+    }
+
+    fn refuses(&mut self, call: Call, number: u32) -> &mut Self {
+        let before = self.lent.table.to_vec();
+        assert_eq!((self.subject)(&call, &mut self.lent), Reply::refused(number), "{call:?}");
+        assert_eq!(self.lent.table[..], before, "the table after {call:?}");
+        self
+    }
+}
+
+fn on_every_heap(example: impl Fn(&mut Example)) {
+    for subject in [&library as Subject, &wrapper, &second] {
+        example(&mut Example { subject, lent: Lent::new(BASE, &[0; 128], &[0; 2]) });
+    }
+}
+
+fn allocate(bytes: u64) -> Call {
+    Call::Allocate { bytes }
+}
+
+fn free(block: u64) -> Call {
+    Call::Free { block }
+}
+
+fn reallocate(block: u64, bytes: u64) -> Call {
+    Call::Reallocate { block, bytes }
+}
+
+fn load(block: u64, word: u64) -> Call {
+    Call::Load { block, word }
+}
+
+#[test]
+fn example_01_allocate_one_byte() {
+    on_every_heap(|heap| {
+        heap.from([0, 0]).gives(allocate(1), [0, 1], [1, 0]);
+    });
+}
+
+#[test]
+fn example_02_allocate_more() {
+    on_every_heap(|heap| {
+        heap.from([1, 0]).gives(allocate(33), [1, 3], [165, 0]);
+    });
+}
+
+#[test]
+fn example_03_allocate_the_rest() {
+    on_every_heap(|heap| {
+        heap.from([165, 0]).gives(allocate(64), [4, 4], [165, 169]);
+    });
+}
+
+#[test]
+fn example_04_no_room() {
+    on_every_heap(|heap| {
+        heap.from([165, 169]).refuses(allocate(1), 9);
+    });
+}
+
+#[test]
+fn example_05_free() {
+    on_every_heap(|heap| {
+        heap.from([165, 169]).gives(free(1), [-3], [1, 169]);
+        heap.from([165, 169]).refuses(free(5), 7).refuses(free(8), 6);
+    });
+}
+
+#[test]
+fn example_06_shrink() {
+    on_every_heap(|heap| {
+        heap.from([1, 169]).gives(reallocate(4, 16), [4, -3], [1, 1]);
+    });
+}
+
+#[test]
+fn example_07_grow_in_place() {
+    on_every_heap(|heap| {
+        heap.from([1, 1]).gives(reallocate(0, 64), [0, 3], [169, 1]);
+        heap.from([1, 1]).refuses(reallocate(0, 65), 9);
+    });
+}
+
+#[test]
+fn example_08_move() {
+    on_every_heap(|heap| {
+        heap.from([5, 0]).gives(reallocate(0, 17), [2, 1], [148, 0]);
+    });
+}
+
+#[test]
+fn example_09_collect() {
+    on_every_heap(|heap| {
+        heap.linked(&[4160], 64).gives(Call::Collect, [2, 0, -3], [1, 169]);
+        assert!(heap.lent.stack.iter().all(|byte| *byte == 0), "the mark stack is zero");
+        heap.linked(&[4160], 0).gives(Call::Collect, [2, 1, -3], [1, 169]);
+    });
+}
+
+#[test]
+fn example_10_collect_without_roots() {
+    on_every_heap(|heap| {
+        heap.linked(&[], 64).gives(Call::Collect, [0, 0, -8], [0, 0]);
+    });
+}
+
+#[test]
+fn example_11_roots_that_count_for_nothing() {
+    on_every_heap(|heap| {
+        for root in [4128, 4097] {
+            heap.linked(&[root], 64).gives(Call::Collect, [0, 0, -8], [0, 0]);
+        }
+    });
+}
+
+#[test]
+fn example_12_ill_formed_tables() {
+    on_every_heap(|heap| {
+        for table in [[2, 0], [3, 0], [8, 0]] {
+            heap.from(table).refuses(allocate(1), 2).refuses(allocate(0), 2);
+        }
+    });
+}
+
+#[test]
+fn example_13_bases() {
+    on_every_heap(|heap| {
+        heap.from([0, 0]).based(4_294_967_168).gives(allocate(1), [0, 1], [1, 0]);
+        heap.based(4_294_967_184).refuses(allocate(1), 1);
+        heap.based(0).refuses(allocate(1), 1);
+    });
+}
+
+#[test]
+fn example_14_last_word() {
+    on_every_heap(|heap| {
+        heap.from([165, 169]).lent.set_word(31, 77);
+        heap.gives(load(4, 15), [77], [165, 169]).refuses(load(4, 16), 8);
+    });
+}
+
+#[test]
+fn example_15_zero_bytes_first() {
+    on_every_heap(|heap| {
+        heap.from([165, 169]).refuses(reallocate(8, 0), 5);
+    });
+}

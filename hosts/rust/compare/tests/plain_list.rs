@@ -1,0 +1,58 @@
+//! From an accepted init on, the library answers as a list of objects that is never read back from
+//! pool or table would.
+
+use compare::{draw_call, library, second_on_list, Call, Lent, Random};
+use listheap::ListHeap;
+
+const BASE: u64 = 4096;
+
+fn library_and_list_agree(seed: u64, table_bytes: usize, calls: usize) {
+    let mut random = Random::new(seed);
+    let pool = random.bytes(64 * table_bytes);
+    let table = random.bytes(table_bytes);
+    let mut lent = Lent::new(BASE, &pool, &table);
+    let mut list = ListHeap::empty(BASE, 4 * table_bytes as u64);
+    let mut used = 0;
+    assert_eq!(library(&Call::Init, &mut lent).refusal, 0);
+    for number in 0..calls {
+        let call = draw_call(&mut random, &mut lent);
+        let expected = second_on_list(&call, &mut list, &lent);
+        let reply = library(&call, &mut lent);
+        assert_eq!(reply, expected, "seed {seed}, call {number}: {call:?}");
+        used = if call == Call::Init { 0 } else { used + change(&call, &reply.parts) };
+        assert_eq!(
+            used,
+            list.used() as i64,
+            "seed {seed}, call {number}: used blocks after {call:?}"
+        );
+        assert_eq!(
+            read_back(&mut lent),
+            list,
+            "seed {seed}, call {number}: objects after {call:?}"
+        );
+    }
+}
+
+/// The change in used blocks, 0 for a call that answers none.
+fn change(call: &Call, parts: &[i64; 3]) -> i64 {
+    let place = call.answer_names().iter().position(|name| *name == "change");
+    place.map_or(0, |place| parts[place])
+}
+
+/// The objects that table and pool hold.
+fn read_back(lent: &mut Lent) -> ListHeap {
+    listheap::on_bytes(lent.base, &mut lent.pool, &mut lent.table, |heap| Ok(heap.clone()))
+        .expect("a heap that is in order")
+}
+
+#[test]
+fn the_library_answers_as_a_plain_list_on_small_heaps() {
+    for seed in 0..40 {
+        library_and_list_agree(seed, 1 + seed as usize % 16, 500);
+    }
+}
+
+#[test]
+fn the_library_answers_as_a_plain_list_on_the_largest_heap() {
+    library_and_list_agree(77, 1024, 3000);
+}

@@ -1,0 +1,82 @@
+//! The plain-list heap behind the C header, so that the benchmark can run it as it runs the library.
+
+use listheap::{Collected, ListHeap, Placed, Refusal};
+use std::slice::{from_raw_parts, from_raw_parts_mut};
+
+/// A heap as C hands it over. The list writes back what it read: where the header lends pool or table
+/// as const, the same bytes.
+struct Lent<'c> {
+    base: u64,
+    pool: &'c mut [u8],
+    table: &'c mut [u8],
+}
+
+impl Lent<'_> {
+    fn on_list<A>(
+        self,
+        call: impl FnOnce(&mut ListHeap) -> Result<A, Refusal>,
+    ) -> Result<A, Refusal> {
+        listheap::on_bytes(self.base, self.pool, self.table, call)
+    }
+}
+
+/// The refusal number, with the answer's parts in their places, zero on a refusal.
+unsafe fn answer<const N: usize>(result: Result<[i64; N], Refusal>, places: [*mut u32; N]) -> u32 {
+    let (refusal, parts) = match result {
+        Ok(parts) => (0, parts),
+        Err(refusal) => (refusal.number(), [0; N]),
+    };
+    for (place, part) in places.into_iter().zip(parts) {
+        *place = part as u32;
+    }
+    refusal
+}
+
+fn placed_parts(placed: Placed) -> [i64; 2] {
+    [placed.block as i64, placed.change]
+}
+
+fn collected_parts(collected: Collected) -> [i64; 3] {
+    [collected.kept as i64, collected.rescans as i64, collected.change]
+}
+
+/// Exports a call on a heap: its own arguments, the places of its answers, and what it does.
+macro_rules! export {
+    ($name:ident($($argument:ident: $type:ty),*) -> [$($place:ident),*], $lent:ident => $call:expr) => {
+        /// # Safety
+        /// As `include/blockheap.h` asks.
+        #[no_mangle]
+        pub unsafe extern "C" fn $name(
+            base: u64, pool: *mut u8, pool_len: usize, table: *mut u8, table_len: usize,
+            $($argument: $type,)* $($place: *mut u32,)*
+        ) -> u32 {
+            let pool = from_raw_parts_mut(pool, pool_len);
+            let table = from_raw_parts_mut(table, table_len);
+            let $lent = Lent { base, pool, table };
+            answer($call, [$($place),*])
+        }
+    };
+}
+
+export!(blockheap_init() -> [], lent =>
+    listheap::init(lent.base, lent.pool, lent.table).map(|()| []));
+export!(blockheap_allocate(bytes: u64) -> [block, change], lent =>
+    lent.on_list(|heap| heap.allocate(bytes)).map(placed_parts));
+export!(blockheap_free(block: u64) -> [change], lent =>
+    lent.on_list(|heap| heap.free(block)).map(|change| [change]));
+export!(blockheap_reallocate(block: u64, bytes: u64) -> [new_block, change], lent =>
+    lent.on_list(|heap| heap.reallocate(block, bytes)).map(placed_parts));
+export!(blockheap_collect(roots: *const u8, roots_len: usize, stack: *mut u8, stack_len: usize)
+-> [kept, rescans, change], lent => {
+    let roots = from_raw_parts(roots, roots_len);
+    let stack = from_raw_parts_mut(stack, stack_len);
+    listheap::collect_on_bytes(lent.base, lent.pool, lent.table, roots, stack)
+        .map(collected_parts)
+});
+export!(blockheap_survey() -> [used, objects, longest], lent =>
+    lent.on_list(|heap| Ok(heap.survey()))
+        .map(|survey| [survey.used as i64, survey.objects as i64, survey.longest as i64]));
+export!(blockheap_load(block: u64, word: u64) -> [value], lent =>
+    lent.on_list(|heap| heap.load(block, word)).map(|value| [value.into()]));
+export!(blockheap_store(block: u64, word: u64, value: u32) -> [], lent =>
+    lent.on_list(|heap| heap.store(block, word, value)).map(|()| []));

@@ -1,0 +1,16 @@
+//! The block heap as a plain list of objects, each a start, a block count and its words.
+//!
+//! It is written from the rules of the heap alone and shares nothing with the library: it keeps no
+//! table while it works, and finds room between the objects of its list. [`on_bytes`] reads a lent
+//! table and pool into such a list, lets a call work on the list, and writes the list back.
+//! It is made to be plain, not fast.
+
+mod bytes;
+mod collect;
+mod heap;
+mod refusal;
+
+pub use bytes::{collect_on_bytes, init, on_bytes, words_of};
+pub use collect::{Collected, Marking};
+pub use heap::{ListHeap, Object, Placed, Survey};
+pub use refusal::Refusal;

@@ -1,0 +1,203 @@
+/*
+ * blockheap: the MicroPython block heap over memory that the caller lends.
+ *
+ * THE HEAP
+ *
+ * The library has no memory of its own. Every call is handed the whole heap:
+ *
+ *   base, pool, pool_len, table, table_len
+ *
+ * - The pool is cut into blocks of 16 bytes, numbered from 0.
+ * - The table has two bits for each block: block k is in byte k / 4, shifted
+ *   left by 2 * (k % 4). They say free, head of an object, or tail of one. An
+ *   object is a head with all the tails directly after it.
+ * - table_len, called t below, is 1 to 1,024. It rules n = 4 * t blocks, and
+ *   pool_len is exactly 64 * t.
+ * - base is the address of block 0, as the words in the pool spell addresses:
+ *   block k has the address base + 16 * k. It is a multiple of 16, at least
+ *   16, and base + 64 * t is at most 4,294,967,296. On a 32-bit board, lend a
+ *   pool aligned to 16 bytes and give its own address. Elsewhere choose any
+ *   such number, 4,096 say, and keep to it: the library never uses it to find
+ *   the pool.
+ * - A word is 32 bits, lowest byte first on every host. An object of b blocks
+ *   has words 0 to 4 * b - 1.
+ * - A word is a pointer if it equals the address of a block that is the head
+ *   of an object. An address inside a block, or of a tail, counts for nothing.
+ *
+ * To start, lend a pool and a table and call blockheap_init. Then hand both to
+ * each later call as the last one left them. Programs may read and write the
+ * bytes of their own objects directly; block k begins at pool + 16 * k. The
+ * table is the library's to write.
+ *
+ * ANSWERS
+ *
+ * Every call returns 0, or the number of the first reason to refuse, in the
+ * order of enum blockheap_refusal. Any number may be passed as base, block,
+ * word or bytes, and any content in any buffer: what does not fit is refused.
+ * The other answers go out through the pointers that come last. They are
+ * written on every call. After a refusal they are all 0, and pool, table and
+ * mark stack hold what they held before.
+ *
+ * `change` is the change in used blocks, -4,096 to 4,096. Since the latest
+ * accepted init, the changes add up to the used blocks of blockheap_survey.
+ *
+ * WHAT THE CALLER ENSURES
+ *
+ * No library can check these, and nothing holds of a call that breaks them:
+ * - Each buffer pointer is valid for its length in bytes, and not null, even
+ *   where the length is 0 (pass the address of any byte then).
+ * - Each answer pointer is valid, aligned for its type, and not null.
+ * - A buffer that the call may write (a pointer without const) overlaps no
+ *   other buffer or answer of that call; nor do two answers overlap.
+ * - Nothing else writes the buffers while the call runs. Calls on different
+ *   heaps may run at the same time.
+ * - Programs write only to bytes of their own objects.
+ */
+#ifndef BLOCKHEAP_H
+#define BLOCKHEAP_H
+
+#include <stddef.h>
+#include <stdint.h>
+
+#ifdef __cplusplus
+extern "C" {
+#endif
+
+/* Sizes and limits. */
+#define BLOCKHEAP_BLOCK_BYTES 16
+#define BLOCKHEAP_WORD_BYTES 4
+#define BLOCKHEAP_WORDS_PER_BLOCK 4
+#define BLOCKHEAP_BLOCKS_PER_TABLE_BYTE 4
+#define BLOCKHEAP_MAX_TABLE_BYTES 1024
+#define BLOCKHEAP_MAX_BLOCKS 4096
+#define BLOCKHEAP_MAX_POOL_BYTES 65536
+#define BLOCKHEAP_MIN_BASE 16
+#define BLOCKHEAP_MAX_ROOTS 4096
+#define BLOCKHEAP_MAX_STACK_ENTRIES 64
+
+/* The length of the pool that a table of t bytes rules. */
+#define BLOCKHEAP_POOL_BYTES(t) (64 * (t))
+
+/* What a block's two bits say. MARK is never left in a table by a call. */
+enum blockheap_entry {
+    BLOCKHEAP_FREE = 0,
+    BLOCKHEAP_HEAD = 1,
+    BLOCKHEAP_TAIL = 2,
+    BLOCKHEAP_MARK = 3
+};
+
+/* What a call returns. Of several reasons, the lowest number is given. */
+enum blockheap_refusal {
+    BLOCKHEAP_OK = 0,
+    BLOCKHEAP_BAD_SHAPE = 1,       /* table_len, pool_len or base breaks the rules above, or the
+                                      roots' or stack's length is not divisible by 4 */
+    BLOCKHEAP_BAD_TABLE = 2,       /* a MARK, a tail at block 0, or a tail after a free block */
+    BLOCKHEAP_TOO_MANY_ROOTS = 3,  /* more than 4,096 root words */
+    BLOCKHEAP_STACK_TOO_LONG = 4,  /* a mark stack of more than 64 entries */
+    BLOCKHEAP_ZERO_BYTES = 5,      /* a request for 0 bytes */
+    BLOCKHEAP_NO_SUCH_BLOCK = 6,   /* the block number is n or more */
+    BLOCKHEAP_NOT_A_HEAD = 7,      /* the block is free or a tail */
+    BLOCKHEAP_NO_SUCH_WORD = 8,    /* the word is not inside the object */
+    BLOCKHEAP_NO_ROOM = 9          /* no long enough run of free blocks */
+};
+
+/*
+ * Makes every block free, whatever the table held. The pool is not touched.
+ * Refusals: BAD_SHAPE.
+ */
+uint32_t blockheap_init(uint64_t base, const uint8_t *pool, size_t pool_len,
+                        uint8_t *table, size_t table_len);
+
+/*
+ * Makes an object of `bytes` bytes, rounded up to whole blocks, at the lowest
+ * place where it fits, and sets all bytes of its blocks to 0. `block` is the
+ * number of its head, `change` the blocks it takes.
+ * Refusals: BAD_SHAPE, BAD_TABLE, ZERO_BYTES, NO_ROOM (exactly if no run of
+ * free blocks is long enough; nothing is collected to make room).
+ */
+uint32_t blockheap_allocate(uint64_t base, uint8_t *pool, size_t pool_len,
+                            uint8_t *table, size_t table_len,
+                            uint64_t bytes, uint32_t *block, int32_t *change);
+
+/*
+ * Makes all blocks of the object whose head is `block` free. Their bytes stay.
+ * `change` is the number of its blocks, negated.
+ * Refusals: BAD_SHAPE, BAD_TABLE, NO_SUCH_BLOCK, NOT_A_HEAD.
+ */
+uint32_t blockheap_free(uint64_t base, const uint8_t *pool, size_t pool_len,
+                        uint8_t *table, size_t table_len,
+                        uint64_t block, int32_t *change);
+
+/*
+ * Resizes the object whose head is `block` to `bytes` bytes, rounded up to
+ * whole blocks. `new_block` is the number of its head afterwards:
+ * - as many blocks as before: nothing changes;
+ * - fewer: the last blocks become free, and their bytes stay;
+ * - more, and enough free blocks follow directly: it grows in place;
+ * - more otherwise: it moves to the place that blockheap_allocate would take
+ *   while the old object still holds its blocks. The old blocks become free,
+ *   their bytes stay, and pointers to the old head are the caller's to mend.
+ * The old bytes are kept, and all bytes of added blocks are 0.
+ * Refusals: BAD_SHAPE, BAD_TABLE, ZERO_BYTES, NO_SUCH_BLOCK, NOT_A_HEAD,
+ * NO_ROOM (exactly if it can neither grow in place nor move; the object stays
+ * as it was).
+ */
+uint32_t blockheap_reallocate(uint64_t base, uint8_t *pool, size_t pool_len,
+                              uint8_t *table, size_t table_len,
+                              uint64_t block, uint64_t bytes,
+                              uint32_t *new_block, int32_t *change);
+
+/*
+ * Collects garbage: keeps exactly the objects that a chain of pointers leads
+ * to from a root, and makes the blocks of all others free. Pool and roots are
+ * not written.
+ * - roots: the root words, four bytes each, lowest byte first; at most 4,096.
+ *   A root is followed as a pointer in an object is, and anything else in the
+ *   list counts for nothing.
+ * - stack: working memory, four bytes an entry, 0 to 64 entries. Any size
+ *   keeps the same objects; a short one costs time. What it holds at the start
+ *   does not matter, and after an accepted call it is all 0.
+ * - kept: the number of objects kept.
+ * - rescans: how often the whole table was gone through because the stack was
+ *   full. At most kept - 1 (0 if none are kept), and 0 if the stack has at
+ *   least that many entries.
+ * - change: the number of blocks freed, negated.
+ * Refusals: BAD_SHAPE, BAD_TABLE, TOO_MANY_ROOTS, STACK_TOO_LONG.
+ */
+uint32_t blockheap_collect(uint64_t base, const uint8_t *pool, size_t pool_len,
+                           uint8_t *table, size_t table_len,
+                           const uint8_t *roots, size_t roots_len,
+                           uint8_t *stack, size_t stack_len,
+                           uint32_t *kept, uint32_t *rescans, int32_t *change);
+
+/*
+ * Answers how many blocks are used, how many objects there are, and the length
+ * in blocks of the longest run of free blocks.
+ * Refusals: BAD_SHAPE, BAD_TABLE.
+ */
+uint32_t blockheap_survey(uint64_t base, const uint8_t *pool, size_t pool_len,
+                          const uint8_t *table, size_t table_len,
+                          uint32_t *used, uint32_t *objects, uint32_t *longest);
+
+/*
+ * Reads word `word` of the object whose head is `block`.
+ * Refusals: BAD_SHAPE, BAD_TABLE, NO_SUCH_BLOCK, NOT_A_HEAD, NO_SUCH_WORD.
+ */
+uint32_t blockheap_load(uint64_t base, const uint8_t *pool, size_t pool_len,
+                        const uint8_t *table, size_t table_len,
+                        uint64_t block, uint64_t word, uint32_t *value);
+
+/*
+ * Writes word `word` of the object whose head is `block`: those four bytes and
+ * no others.
+ * Refusals: BAD_SHAPE, BAD_TABLE, NO_SUCH_BLOCK, NOT_A_HEAD, NO_SUCH_WORD.
+ */
+uint32_t blockheap_store(uint64_t base, uint8_t *pool, size_t pool_len,
+                         const uint8_t *table, size_t table_len,
+                         uint64_t block, uint64_t word, uint32_t value);
+
+#ifdef __cplusplus
+}
+#endif
+
+#endif
