@@ -1,2 +1,5 @@
 pub mod Checked
 pub mod Numbers
+pub mod Counting
+pub mod Allocating
+pub mod Freeing
