@@ -3,3 +3,4 @@ pub mod Numbers
 pub mod Counting
 pub mod Allocating
 pub mod Freeing
+pub mod Reallocating
