@@ -1,6 +1,9 @@
 pub mod Checked
 pub mod Numbers
 pub mod Counting
+pub mod Initialising
 pub mod Allocating
 pub mod Freeing
 pub mod Reallocating
+pub mod Storing
+pub mod Promised

@@ -1,0 +1,32 @@
+-- The promises, all together.
+-- Assumes nothing.
+use Rattle.promises.specs.Promises.{Promises}
+use Rattle.promises.proofs.Numbers.{init-refusal, allocate-refusal, free-refusal, reallocate-refusal, collect-refusal, survey-refusal, load-refusal, store-refusal, allocate-no-room, reallocate-no-room, refused, refused-stack}
+use Rattle.promises.proofs.Initialising.{initialised}
+use Rattle.promises.proofs.Allocating.{allocated}
+use Rattle.promises.proofs.Freeing.{freed}
+use Rattle.promises.proofs.Reallocating.{reallocated}
+use Rattle.promises.proofs.Storing.{stored, survey-leaves, load-leaves}
+
+pub promises : Promises
+promises = record {
+  init-refusal = init-refusal;
+  allocate-refusal = allocate-refusal;
+  free-refusal = free-refusal;
+  reallocate-refusal = reallocate-refusal;
+  collect-refusal = collect-refusal;
+  survey-refusal = survey-refusal;
+  load-refusal = load-refusal;
+  store-refusal = store-refusal;
+  allocate-no-room = allocate-no-room;
+  reallocate-no-room = reallocate-no-room;
+  refused = refused;
+  refused-stack = refused-stack;
+  initialised = initialised;
+  allocated = allocated;
+  freed = freed;
+  reallocated = reallocated;
+  stored = stored;
+  survey-leaves = survey-leaves;
+  load-leaves = load-leaves;
+}
