@@ -6,4 +6,5 @@ pub mod Allocating
 pub mod Freeing
 pub mod Reallocating
 pub mod Storing
+pub mod Collecting
 pub mod Promised

@@ -174,7 +174,7 @@ module _ (base : ℕ) (h : Heap) where
   unfolding wholeWords
   lists-of roots stack s = rw (shape-of base h (s .0), eq-eqb (length roots % 4) 0 (s .1), eq-eqb (length stack % 4) 0 (s .2))
 
-  lists-say : (roots stack : List ℕ) → both (goodShape base h) (both (wholeWords roots) (wholeWords stack)) ≡ true
+  pub lists-say : (roots stack : List ℕ) → both (goodShape base h) (both (wholeWords roots) (wholeWords stack)) ≡ true
       → Shape base h × (length roots % 4 ≡ 0) × (length stack % 4 ≡ 0)
   unfolding wholeWords
   lists-say roots stack e =

@@ -4,14 +4,15 @@ use mathlib.Core.Path.{_≡_}
 use mathlib.Core.Logic.{_≢_, _↔_, _⊎_}
 use mathlib.Core.List.{List}
 use mathlib.Core.Option.{some}
-use Prim.Native.Nat.{ℕ, _+_, _*_, _^_, _≤_, _<_}
+use Prim.Native.Nat.{ℕ, _+_, _*_, _-_, _^_, _≤_, _<_}
 use lib.IntN.{pos, negℤ, subℕ, _+ℤ_, natAbs}
 use lib.ListN.{getD}
-use Rattle.rules.specs.Words.{bytesOf}
+use Rattle.rules.specs.Words.{bytesOf, wordsOf}
 use Rattle.rules.specs.Entries.{FREE, HEAD, TAIL}
 use Rattle.rules.specs.Tables.{entryAt, blockCount, used}
 use Rattle.rules.specs.Meaning.{Lowest}
 use Rattle.rules.specs.Outcomes.{Heap, Outcome, onlyRefusal, loaded}
+use Rattle.rules.specs.Reach.{Reachable}
 use Rattle.rules.specs.Calls.{blocksFor, init, allocate, free, reallocate, collect, survey, load, store}
 use Rattle.rules.specs.Runs.{Call, step}
 use Rattle.rules.proofs.Refusals.{Passed}
@@ -154,6 +155,19 @@ pub record Stored (base : ℕ) (before : Heap) (k i w : ℕ) (r : Outcome) : Typ
   -- the shape is good and the table well-formed
   pub good : Passed base (r .heap)
 
+-- an accepted collect from the roots; what it keeps is said in full by Collected of the crate keeping
+pub record Reclaimed (base : ℕ) (before : Heap) (roots : List ℕ) (r : Outcome) : Type 0 where
+  -- no byte is changed
+  pub bytes : r .heap .pool ≡ before .pool
+  -- every reachable object is as before
+  pub others : (o : ℕ) → Reachable base before (wordsOf roots) o → Same before (r .heap) o
+  -- so many blocks are no longer used, and no block is newly used
+  pub change : r .answer .change ≡ negℤ (pos (used (before .entries) - used (r .heap .entries)))
+  pub fewer : used (r .heap .entries) ≤ used (before .entries)
+  pub counts : Counts before r
+  -- the shape is good and the table well-formed
+  pub good : Passed base (r .heap)
+
 -- ---- the promises, for every heap and every argument
 
 pub record Promises : Type 0 where
@@ -182,6 +196,9 @@ pub record Promises : Type 0 where
   pub reallocated : (base : ℕ) (h : Heap) (k bytes : ℕ) → Accepted (reallocate base h k bytes)
       → Reallocated base h k (blocksFor bytes) (reallocate base h k bytes)
   pub stored : (base : ℕ) (h : Heap) (k i w : ℕ) → Accepted (store base h k i w) → Stored base h k i w (store base h k i w)
+  -- of a table in bytes, each entry of which is one of the four
+  pub reclaimed : (base : ℕ) (h : Heap) (roots stack : List ℕ) → ((k : ℕ) → entryAt (h .entries) k < 4) → Accepted (collect base h roots stack)
+      → Reclaimed base h roots (collect base h roots stack)
   -- survey and load leave the heap as it is
   pub survey-leaves : (base : ℕ) (h : Heap) → survey base h .heap ≡ h
   pub load-leaves : (base : ℕ) (h : Heap) (k i : ℕ) → load base h k i .heap ≡ h

@@ -65,6 +65,13 @@ unfolding changeFrom
 move-change es k c s head h run =
     sub-same (used (released (placed es s c) k (blockCount es k))) (used es) c (blockCount es k) (omega (arith, moved-used es k head c s h run))
 
+-- no more blocks are used than before
+pub collect-change : (es after : List ℕ) → used after ≤ used es → changeFrom es after ≡ negℤ (pos (used es - used after))
+unfolding changeFrom
+collect-change es after fewer =
+    let e : used after + (used es - used after) ≡ used es = omega arith in
+    rw e at (sub-less (used after) (used es - used after))
+
 -- ---- how many blocks a request takes
 
 pub blocks-some : (bytes : ℕ) → 0 < bytes → 0 < blocksFor bytes

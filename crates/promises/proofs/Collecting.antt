@@ -1,0 +1,47 @@
+-- An accepted collect: how the used blocks change, and what stays.
+-- Assumes nothing.
+use mathlib.Core.Path.{ap, _∙_}
+use mathlib.Core.List.{List}
+use Prim.Native.Nat.{ℕ, _+_, _*_, _<_}
+use native.Mathlib.Omega.{arith}
+use lib.ListN.{length, getD}
+use Rattle.rules.specs.Tables.{entryAt}
+use Rattle.rules.specs.Outcomes.{Heap, Outcome}
+use Rattle.rules.specs.Refusals.{badLists}
+use Rattle.rules.specs.Calls.{collect}
+use Rattle.rules.proofs.Refusals.{Shape, not-false, first-none}
+use Rattle.rules.proofs.Calls.{collect-change}
+use Rattle.keeping.specs.Keeping.{Collected}
+use Rattle.keeping.proofs.Collections.{collect-keeps, collect-less}
+use Rattle.promises.specs.Promises.{Accepted, Reclaimed}
+use Rattle.promises.proofs.Checked.{collect-checked, no-refusal}
+use Rattle.promises.proofs.Numbers.{lists-say}
+use Rattle.promises.proofs.Counting.{counts-of, shape-kept}
+
+module _ (base : ℕ) (h : Heap) (roots stack : List ℕ) (small : (k : ℕ) → entryAt (h .entries) k < 4) (accepted : Accepted (collect base h roots stack)) where
+  abbrev r : Outcome
+  r = collect base h roots stack
+
+  shape : Shape base h
+  shape =
+      let a = first-none (badLists base h roots stack) _ (omega arith) (no-refusal (collect-checked base h roots stack) accepted) in
+      lists-say base h roots stack (not-false _ (a .0)) .0
+
+  pub reclaimed : Reclaimed base h roots r
+  reclaimed =
+      let k : Collected base h roots stack r = collect-keeps base h roots stack accepted small in
+      record {
+        bytes = k .pool;
+        others = λ o reach. record {
+          head = k .table .kept o reach;
+          blocks = k .table .count o reach;
+          bytes = λ i l. ap (λ (bytes : List ℕ). getD bytes (16 * o + i) 0) (k .pool);
+        };
+        change = k .change ∙ collect-change (h .entries) (r .heap .entries) (collect-less base h roots stack accepted);
+        fewer = collect-less base h roots stack accepted;
+        counts = counts-of base h r shape (k .table .long) (k .change);
+        good = record {
+          shape = shape-kept base h (r .heap) (ap length (k .pool)) (k .table .long) shape;
+          well = k .table .proper .well;
+        };
+      }
