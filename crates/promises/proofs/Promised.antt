@@ -6,7 +6,7 @@ use Rattle.promises.proofs.Initialising.{initialised}
 use Rattle.promises.proofs.Allocating.{allocated}
 use Rattle.promises.proofs.Freeing.{freed}
 use Rattle.promises.proofs.Reallocating.{reallocated}
-use Rattle.promises.proofs.Storing.{stored, survey-leaves, load-leaves}
+use Rattle.promises.proofs.Storing.{stored, surveyed, survey-leaves, load-leaves}
 use Rattle.promises.proofs.Collecting.{reclaimed}
 
 pub promises : Promises
@@ -28,6 +28,7 @@ promises = record {
   freed = freed;
   reallocated = reallocated;
   stored = stored;
+  surveyed = surveyed;
   reclaimed = reclaimed;
   survey-leaves = survey-leaves;
   load-leaves = load-leaves;

@@ -1,4 +1,4 @@
--- An accepted store: four bytes, and what loads then answer. Survey and load leave the heap as it is.
+-- An accepted store: four bytes, and what loads then answer. Survey and load, which only read.
 -- Assumes nothing.
 use mathlib.Core.Path.{_≡_, refl, ap, _∙_}
 use mathlib.Core.Logic.{_≢_, _⊎_, ⊎-elim}
@@ -16,8 +16,8 @@ use Rattle.rules.specs.Refusals.{firstOf, goodShape, badShape, illFormed, outsi
 use Rattle.rules.specs.Calls.{survey, load, store}
 use Rattle.rules.proofs.Words.{length-withWord, withWord-in, withWord-out, wordAt-withWord, wordAt-other}
 use Rattle.rules.proofs.Refusals.{Passed, Named, passed, passes, named, names, first-none, first-last, first-rest}
-use Rattle.rules.proofs.Tables.{entry-inside, extent-of, objects-apart}
-use Rattle.promises.specs.Promises.{Object, Same, Accepted, Stored}
+use Rattle.rules.proofs.Tables.{entry-inside, extent-of, objects-apart, longest-says}
+use Rattle.promises.specs.Promises.{Object, Same, Accepted, Stored, Surveyed}
 use Rattle.promises.proofs.Checked.{testsOfWord, load-checked, store-checked, survey-checked, number, no-refusal, acts}
 use Rattle.promises.proofs.Counting.{shape-kept}
 
@@ -133,3 +133,6 @@ survey-leaves base h = ap (λ (r : Outcome). r .heap) (survey-checked base h .is
 
 pub load-leaves : (base : ℕ) (h : Heap) (k i : ℕ) → load base h k i .heap ≡ h
 load-leaves base h k i = ap (λ (r : Outcome). r .heap) (load-checked base h k i .is) ∙ same-heap _ h _
+
+pub surveyed : (base : ℕ) (h : Heap) → Accepted (survey base h) → Surveyed h (survey base h)
+surveyed base h accepted = rw (acts (survey-checked base h) accepted) (record { used = refl; objects = refl; longest = longest-says (h .entries) })

@@ -9,8 +9,8 @@ use lib.IntN.{pos, negℤ, subℕ, _+ℤ_, natAbs}
 use lib.ListN.{getD}
 use Rattle.rules.specs.Words.{bytesOf, wordsOf}
 use Rattle.rules.specs.Entries.{FREE, HEAD, TAIL}
-use Rattle.rules.specs.Tables.{entryAt, blockCount, used}
-use Rattle.rules.specs.Meaning.{Lowest}
+use Rattle.rules.specs.Tables.{entryAt, blockCount, used, objects}
+use Rattle.rules.specs.Meaning.{Lowest, Longest}
 use Rattle.rules.specs.Outcomes.{Heap, Outcome, onlyRefusal, loaded}
 use Rattle.rules.specs.Reach.{Reachable}
 use Rattle.rules.specs.Calls.{blocksFor, init, allocate, free, reallocate, collect, survey, load, store}
@@ -155,6 +155,14 @@ pub record Stored (base : ℕ) (before : Heap) (k i w : ℕ) (r : Outcome) : Typ
   -- the shape is good and the table well-formed
   pub good : Passed base (r .heap)
 
+-- an accepted survey
+pub record Surveyed (h : Heap) (r : Outcome) : Type 0 where
+  -- it counts the used blocks and the objects
+  pub used : r .answer .used ≡ used (h .entries)
+  pub objects : r .answer .objects ≡ objects (h .entries)
+  -- and finds the longest run of FREE blocks: there is one so long, and none is longer
+  pub longest : Longest (h .entries) (r .answer .longest)
+
 -- an accepted collect from the roots; what it keeps is said in full by Collected of the crate keeping
 pub record Reclaimed (base : ℕ) (before : Heap) (roots : List ℕ) (r : Outcome) : Type 0 where
   -- no byte is changed
@@ -196,6 +204,7 @@ pub record Promises : Type 0 where
   pub reallocated : (base : ℕ) (h : Heap) (k bytes : ℕ) → Accepted (reallocate base h k bytes)
       → Reallocated base h k (blocksFor bytes) (reallocate base h k bytes)
   pub stored : (base : ℕ) (h : Heap) (k i w : ℕ) → Accepted (store base h k i w) → Stored base h k i w (store base h k i w)
+  pub surveyed : (base : ℕ) (h : Heap) → Accepted (survey base h) → Surveyed h (survey base h)
   -- of a table in bytes, each entry of which is one of the four
   pub reclaimed : (base : ℕ) (h : Heap) (roots stack : List ℕ) → ((k : ℕ) → entryAt (h .entries) k < 4) → Accepted (collect base h roots stack)
       → Reclaimed base h roots (collect base h roots stack)
