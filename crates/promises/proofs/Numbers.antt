@@ -19,7 +19,7 @@ use Rattle.rules.specs.Calls.{Way, stay, shrink, grow, move, noWay, isNoWay, wa
 use Rattle.rules.specs.Runs.{Call, Init, Allocate, Free, Reallocate, Collect, Survey, Load, Store, step}
 use Rattle.rules.proofs.Refusals.{Shape, Passed, true-not-false, both-left, both-right, not-true, not-false, first-yes, first-no, passes, asks, names, shape-true, shape-of}
 use Rattle.rules.proofs.Tables.{entry-inside, extent-of, well-says, well-of, first-lowest, none-first}
-use Rattle.rules.proofs.Calls.{Ways, stays, shrinks, grows, moves, stuck, way-says, way-is, blocks-some}
+use Rattle.rules.proofs.Calls.{Ways, stays, shrinks, grows, moves, stuck, way-says, way-is, blocks-some, blocks-enough, blocks-least, blocks-more}
 use Rattle.promises.specs.Conditions.{Condition, when, First, NoRun, NoWay, ofInit, ofAllocate, ofFree, ofReallocate, ofCollect, ofSurvey, ofWord}
 use Rattle.promises.specs.Promises.{Object, Accepted, Refused}
 use Rattle.promises.proofs.Checked.{number, refuses, wayOf, testsOfWord, init-checked, allocate-checked, free-checked, reallocate-checked, collect-checked, survey-checked, load-checked, store-checked}
@@ -57,6 +57,11 @@ first-last t r p e = go (t .holds) refl e
     go : (b : Bool) → t .holds ≡ b → pick b (t .number) 0 ≡ r → t .holds ≡ true
     go true h e = h
     go false h e = absurd (omega arith)
+
+-- ---- the blocks of a request
+
+pub rounded-up : (bytes n : ℕ) → (blocksFor bytes ≤ n) ↔ (bytes ≤ 16 * n)
+rounded-up bytes n = (λ fit. omega (arith, blocks-enough bytes), λ hold. blocks-least bytes n hold)
 
 module _ (base : ℕ) (h : Heap) where
   -- ---- the tests that every call has
@@ -272,6 +277,21 @@ module _ (base : ℕ) (h : Heap) where
           (ap isNoWay
           (way-is (h .entries) k (blockCount (h .entries) k) (blocksFor bytes) (extent-of (h .entries) k inside .room) (blocks-some bytes more) noWay
           (stuck less full nowhere)))
+
+  -- ---- a request larger than the pool
+
+  larger-nowhere : (bytes : ℕ) → Passed base h → length (h .pool) < bytes → NoRun h (blocksFor bytes)
+  larger-nowhere bytes good larger s run = omega (arith, run .room, good .shape .pool, blocks-more bytes (length (h .entries)) (omega (arith, good .shape .pool)))
+
+  pub allocate-larger : (bytes : ℕ) → Passed base h → length (h .pool) < bytes → allocate base h bytes .answer .refusal ≡ 9
+  allocate-larger bytes good larger = allocate-no-room bytes .1 (good, omega arith, larger-nowhere bytes good larger)
+
+  pub reallocate-larger : (k bytes : ℕ) → Passed base h → Object h k → length (h .pool) < bytes → reallocate base h k bytes .answer .refusal ≡ 9
+  reallocate-larger k bytes good head larger =
+      let x = extent-of (h .entries) k (entry-inside (h .entries) k (λ f. omega arith)) in
+      let more = blocks-more bytes (length (h .entries)) (omega (arith, good .shape .pool)) in
+      reallocate-no-room k bytes .1
+      (good, omega arith, head, (omega (arith, x .room), λ run. omega (arith, run .room), larger-nowhere bytes good larger))
 
 -- ---- a refused call does nothing
 

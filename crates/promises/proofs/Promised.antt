@@ -1,7 +1,7 @@
 -- The promises, all together.
 -- Assumes nothing.
 use Rattle.promises.specs.Promises.{Promises}
-use Rattle.promises.proofs.Numbers.{init-refusal, allocate-refusal, free-refusal, reallocate-refusal, collect-refusal, survey-refusal, load-refusal, store-refusal, allocate-no-room, reallocate-no-room, refused, refused-stack}
+use Rattle.promises.proofs.Numbers.{init-refusal, allocate-refusal, free-refusal, reallocate-refusal, collect-refusal, survey-refusal, load-refusal, store-refusal, rounded-up, allocate-no-room, reallocate-no-room, allocate-larger, reallocate-larger, refused, refused-stack}
 use Rattle.promises.proofs.Initialising.{initialised}
 use Rattle.promises.proofs.Allocating.{allocated}
 use Rattle.promises.proofs.Freeing.{freed}
@@ -19,8 +19,11 @@ promises = record {
   survey-refusal = survey-refusal;
   load-refusal = load-refusal;
   store-refusal = store-refusal;
+  rounded-up = rounded-up;
   allocate-no-room = allocate-no-room;
   reallocate-no-room = reallocate-no-room;
+  allocate-larger = allocate-larger;
+  reallocate-larger = reallocate-larger;
   refused = refused;
   refused-stack = refused-stack;
   initialised = initialised;

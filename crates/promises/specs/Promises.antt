@@ -6,7 +6,7 @@ use mathlib.Core.List.{List}
 use mathlib.Core.Option.{some}
 use Prim.Native.Nat.{ℕ, _+_, _*_, _-_, _^_, _≤_, _<_}
 use lib.IntN.{pos, negℤ, subℕ, _+ℤ_, natAbs}
-use lib.ListN.{getD}
+use lib.ListN.{length, getD}
 use Rattle.rules.specs.Words.{bytesOf, wordsOf}
 use Rattle.rules.specs.Entries.{FREE, HEAD, TAIL}
 use Rattle.rules.specs.Tables.{entryAt, blockCount, used, objects}
@@ -188,12 +188,18 @@ pub record Promises : Type 0 where
   pub survey-refusal : (base : ℕ) (h : Heap) → First (ofSurvey base h) (survey base h .answer .refusal)
   pub load-refusal : (base : ℕ) (h : Heap) (k i : ℕ) → First (ofWord base h k i) (load base h k i .answer .refusal)
   pub store-refusal : (base : ℕ) (h : Heap) (k i w : ℕ) → First (ofWord base h k i) (store base h k i w .answer .refusal)
+  -- the blocks of a request are the fewest that hold its bytes
+  pub rounded-up : (bytes n : ℕ) → (blocksFor bytes ≤ n) ↔ (bytes ≤ 16 * n)
   -- allocate answers 9 exactly if nothing else is refused and nowhere are enough consecutive blocks FREE
   pub allocate-no-room : (base : ℕ) (h : Heap) (bytes : ℕ)
       → (allocate base h bytes .answer .refusal ≡ 9) ↔ (Passed base h × (0 < bytes) × NoRun h (blocksFor bytes))
   -- reallocate answers 9 exactly if nothing else is refused and the object has room neither where it is nor elsewhere
   pub reallocate-no-room : (base : ℕ) (h : Heap) (k bytes : ℕ)
       → (reallocate base h k bytes .answer .refusal ≡ 9) ↔ (Passed base h × (0 < bytes) × Object h k × NoWay h k (blocksFor bytes))
+  -- so a request larger than the pool is 9
+  pub allocate-larger : (base : ℕ) (h : Heap) (bytes : ℕ) → Passed base h → length (h .pool) < bytes → allocate base h bytes .answer .refusal ≡ 9
+  pub reallocate-larger : (base : ℕ) (h : Heap) (k bytes : ℕ) → Passed base h → Object h k → length (h .pool) < bytes
+      → reallocate base h k bytes .answer .refusal ≡ 9
   -- a call that is refused does nothing
   pub refused : (c : Call) (stack : List ℕ) (h : Heap) → ¬ Accepted (step c stack h) → Refused h (step c stack h)
   pub refused-stack : (base : ℕ) (h : Heap) (roots stack : List ℕ) → ¬ Accepted (collect base h roots stack) → collect base h roots stack .stack ≡ stack

@@ -91,10 +91,6 @@ pub blocks-more : (bytes n : ℕ) → 16 * n < bytes → n < blocksFor bytes
 unfolding blocksFor
 blocks-more bytes n h = omega arith
 
-pub blocks-exact : (n : ℕ) → blocksFor (16 * n) ≡ n
-unfolding blocksFor
-blocks-exact n = omega arith
-
 -- ---- the ways to reallocate
 
 -- what each way to c blocks, for the object of b blocks at k, says
