@@ -87,7 +87,7 @@ module _ (base : ℕ) (h : Heap) (bytes : ℕ) where
       let d = first-none (noRoom (isNone (firstRun (h .entries) (blocksFor bytes)))) [] (omega arith) (c .1) in
       let some-block : 0 < blocksFor bytes = blocks-some bytes (omega (arith, eqb-false bytes 0 (c .0))) in
       rw (acts (allocate-checked base h bytes) accepted)
-      (taken-allocated base h (startOf base h bytes) (blocksFor bytes) (passed base h _ e) some-block
+      (taken-allocated base h (startOf h bytes) (blocksFor bytes) (passed base h _ e) some-block
       (found (firstRun (h .entries) (blocksFor bytes)) (d .0) (first-lowest (h .entries) (blocksFor bytes) some-block)))
 
   -- where the blocks fit somewhere, allocate is accepted

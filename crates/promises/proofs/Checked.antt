@@ -33,9 +33,9 @@ unfolding unlessRefused
 refused-by zero h stack act fine no-number = absurd (no-number (fine refl))
 refused-by (suc n) h stack act fine no-number = (record { answer = refl; heap = refl }, refl)
 
-accepted-by : (n : ℕ) (h : Heap) (stack : List ℕ) (act : Outcome) → Accepted (unlessRefused n h stack act) → (n ≡ 0) × (unlessRefused n h stack act ≡ act)
+accepted-by : (n : ℕ) (h : Heap) (stack : List ℕ) (act : Outcome) → Accepted (unlessRefused n h stack act) → unlessRefused n h stack act ≡ act
 unfolding unlessRefused
-accepted-by zero h stack act e = (refl, refl)
+accepted-by zero h stack act e = refl
 accepted-by (suc n) h stack act e = absurd (omega arith)
 
 module _ {h : Heap} {stack : List ℕ} {ts : List Test} {act r : Outcome} (c : Checked h stack ts act r) where
@@ -52,9 +52,17 @@ module _ {h : Heap} {stack : List ℕ} {ts : List Test} {act r : Outcome} (c : C
 
   -- else the call acts
   pub acts : Accepted r → r ≡ act
-  acts = rw (c .is) (λ e. accepted-by (firstOf ts) h stack act e .1)
+  acts = rw (c .is) (accepted-by (firstOf ts) h stack act)
 
 -- ---- the tests and the act of each call
+
+-- where allocate puts the object
+abbrev pub startOf : Heap → ℕ → ℕ
+startOf h bytes = orElse (firstRun (h .entries) (blocksFor bytes)) 0
+
+-- which way reallocate goes
+abbrev pub wayOf : Heap → ℕ → ℕ → Way
+wayOf h k bytes = wayTo (h .entries) k (blockCount (h .entries) k) (blocksFor bytes)
 
 module _ (base : ℕ) (h : Heap) where
   abbrev pub testsOfInit : List Test
@@ -67,10 +75,7 @@ module _ (base : ℕ) (h : Heap) where
   abbrev pub testsOfAllocate : ℕ → List Test
   testsOfAllocate bytes = badShape base h ∷ illFormed h ∷ noBytes bytes ∷ noRoom (isNone (firstRun (h .entries) (blocksFor bytes))) ∷ []
 
-  abbrev pub startOf : ℕ → ℕ
-  startOf bytes = orElse (firstRun (h .entries) (blocksFor bytes)) 0
-
-  pub allocate-checked : (bytes : ℕ) → Checked h [] (testsOfAllocate bytes) (placing h (startOf bytes) (taken h (startOf bytes) (blocksFor bytes))) (allocate base h bytes)
+  pub allocate-checked : (bytes : ℕ) → Checked h [] (testsOfAllocate bytes) (placing h (startOf h bytes) (taken h (startOf h bytes) (blocksFor bytes))) (allocate base h bytes)
   unfolding allocate placing
   allocate-checked bytes = record { is = refl; fine = λ _. refl }
 
@@ -81,11 +86,8 @@ module _ (base : ℕ) (h : Heap) where
   unfolding free placing
   free-checked k = record { is = refl; fine = λ _. refl }
 
-  abbrev pub wayOf : ℕ → ℕ → Way
-  wayOf k bytes = wayTo (h .entries) k (blockCount (h .entries) k) (blocksFor bytes)
-
   abbrev pub testsOfReallocate : ℕ → ℕ → List Test
-  testsOfReallocate k bytes = badShape base h ∷ illFormed h ∷ noBytes bytes ∷ outside h k ∷ noHead h k ∷ noRoom (isNoWay (wayOf k bytes)) ∷ []
+  testsOfReallocate k bytes = badShape base h ∷ illFormed h ∷ noBytes bytes ∷ outside h k ∷ noHead h k ∷ noRoom (isNoWay (wayOf h k bytes)) ∷ []
 
   along-fine : (w : Way) (k b c : ℕ) → isNoWay w ≡ false → Accepted (along w h k b c)
   unfolding along placing
@@ -96,7 +98,7 @@ module _ (base : ℕ) (h : Heap) where
   along-fine noWay k b c e = absurd (true-not-false refl e)
 
   pub reallocate-checked : (k bytes : ℕ)
-      → Checked h [] (testsOfReallocate k bytes) (along (wayOf k bytes) h k (blockCount (h .entries) k) (blocksFor bytes)) (reallocate base h k bytes)
+      → Checked h [] (testsOfReallocate k bytes) (along (wayOf h k bytes) h k (blockCount (h .entries) k) (blocksFor bytes)) (reallocate base h k bytes)
   unfolding reallocate
   reallocate-checked k bytes = record {
     is = refl;
@@ -106,7 +108,7 @@ module _ (base : ℕ) (h : Heap) where
         let e3 = first-rest (noBytes bytes) _ (omega arith) e2 in
         let e4 = first-rest (outside h k) _ (omega arith) e3 in
         let e5 = first-rest (noHead h k) _ (omega arith) e4 in
-        along-fine (wayOf k bytes) k (blockCount (h .entries) k) (blocksFor bytes) (first-none (noRoom (isNoWay (wayOf k bytes))) [] (omega arith) e5 .0);
+        along-fine (wayOf h k bytes) k (blockCount (h .entries) k) (blocksFor bytes) (first-none (noRoom (isNoWay (wayOf h k bytes))) [] (omega arith) e5 .0);
   }
 
   abbrev pub testsOfCollect : List ℕ → List ℕ → List Test

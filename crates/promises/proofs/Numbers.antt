@@ -168,9 +168,9 @@ module _ (base : ℕ) (h : Heap) where
       rw (number (reallocate-checked base h k bytes))
       (shape-step _ _ (λ _. well-step _ _ (bytes-step bytes _ _ (λ more. object-step k _ _ (λ head.
       let way = way-of k bytes more head in
-      first-step (noRoom (isNoWay (wayOf base h k bytes))) [] (when 9 (NoWay h k (blocksFor bytes))) [] refl
-      (way-none k (blocksFor bytes) (wayOf base h k bytes) way)
-      (way-some k (blocksFor bytes) (wayOf base h k bytes) way)
+      first-step (noRoom (isNoWay (wayOf h k bytes))) [] (when 9 (NoWay h k (blocksFor bytes))) [] refl
+      (way-none k (blocksFor bytes) (wayOf h k bytes) way)
+      (way-some k (blocksFor bytes) (wayOf h k bytes) way)
       (λ _. first-end))))))
 
   -- a collection's first test: the shape, and whole words
@@ -263,7 +263,7 @@ module _ (base : ℕ) (h : Heap) where
             good-of (shape-true base h (not-false _ (a .0))) (not-false _ (b .0)),
             more,
             head,
-            way-none k (blocksFor bytes) (wayOf base h k bytes) (way-of k bytes more head) (first-last (noRoom _) 9 (omega arith) (f .1)),
+            way-none k (blocksFor bytes) (wayOf h k bytes) (way-of k bytes more head) (first-last (noRoom _) 9 (omega arith) (f .1)),
           )
 
       if : Passed base h × (0 < bytes) × Object h k × NoWay h k (blocksFor bytes) → reallocate base h k bytes .answer .refusal ≡ 9

@@ -198,10 +198,10 @@ reallocated base h k bytes accepted =
     let e2 = first-rest (illFormed h) _ (omega arith) (first-rest (badShape base h) _ (omega arith) e) in
     let a = first-none (noBytes bytes) _ (omega arith) e2 in
     let e3 = first-rest (noHead h k) _ (omega arith) (first-rest (outside h k) _ (omega arith) (a .1)) in
-    let c = first-none (noRoom (isNoWay (wayOf base h k bytes))) [] (omega arith) e3 in
+    let c = first-none (noRoom (isNoWay (wayOf h k bytes))) [] (omega arith) e3 in
     let object = named h k _ (a .1) in
     let some-block = blocks-some bytes (omega (arith, eqb-false bytes 0 (a .0))) in
     rw (acts (reallocate-checked base h k bytes) accepted)
-    (goes base h k (blocksFor bytes) (passed base h _ e) object some-block (wayOf base h k bytes)
+    (goes base h k (blocksFor bytes) (passed base h _ e) object some-block (wayOf h k bytes)
     (way-says (h .entries) k (blockCount (h .entries) k) (blocksFor bytes) (extent-of (h .entries) k (object .inside) .room) some-block)
     (c .0))
