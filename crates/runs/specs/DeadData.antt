@@ -1,0 +1,101 @@
+-- Dead data has no voice, as one statement about whole lists of calls.
+-- Two heaps have the same table, and pools that agree on the objects reachable from a root list. Both are collected from that list.
+-- From then on no list of calls, made alike on both, tells them apart: not by an answer, not by the table, not by a byte of an allocated block.
+-- Assumes nothing.
+use mathlib.Core.Path.{_≡_}
+use mathlib.Core.Logic.{_≢_, _⊎_}
+use mathlib.Core.List.{List, [], _∷_}
+use Prim.Native.Nat.{ℕ, _+_, _*_, _/_, _%_, _≤_, _<_}
+use lib.ListN.{length, getD}
+use Rattle.rules.specs.Words.{wordsOf}
+use Rattle.rules.specs.Entries.{FREE}
+use Rattle.rules.specs.Tables.{entryAt, blockCount}
+use Rattle.rules.specs.Outcomes.{Heap, Answer, Outcome, heapOf}
+use Rattle.rules.specs.Reach.{Reachable}
+use Rattle.rules.specs.Runs.{Call, Collect, step, Turn, after, answers}
+
+-- ---- what is alike at the start
+
+-- byte i of two pools is the same
+abbrev pub SameByte : List ℕ → List ℕ → ℕ → Type 0
+SameByte pool pool′ i = getD pool i 0 ≡ getD pool′ i 0
+
+-- two heaps are equal in every byte of the objects reachable from the roots, 16 to a block, whatever their other bytes hold
+abbrev pub AgreeOnReachable : ℕ → Heap → Heap → List ℕ → Type 0
+AgreeOnReachable base h h′ roots =
+    (o : ℕ) → Reachable base h roots o → (i : ℕ) → i < 16 * blockCount (h .entries) o → SameByte (h .pool) (h′ .pool) (16 * o + i)
+
+-- ---- calls that are made alike
+
+-- a mark stack of 0 to 64 whole entries, four bytes to an entry
+pub record Accepted (stack : List ℕ) : Type 0 where
+  pub whole : length stack % 4 ≡ 0
+  pub few : length stack / 4 ≤ 64
+
+-- the two mark stacks of a call, whatever they hold
+pub data SameStacks (stack stack′ : List ℕ) : Type 0 where
+  -- they are equally long, of any length at all
+  equally-long : length stack ≡ length stack′ → SameStacks stack stack′
+  -- or both have 0 to 64 whole entries
+  both-accepted : Accepted stack → Accepted stack′ → SameStacks stack stack′
+
+abbrev pub turn : Call → List ℕ → Turn
+turn call stack = record { call = call; stack = stack }
+
+-- two lists of calls, made alike: call by call the same call with the same arguments, the base included; only the mark stacks are each heap's own
+pub data Alike : List Turn → List Turn → Type 0 where
+  done : Alike [] []
+  next : (call : Call) {stack stack′ : List ℕ} {ts us : List Turn} → SameStacks stack stack′ → Alike ts us → Alike (turn call stack ∷ ts) (turn call stack′ ∷ us)
+
+-- ---- what is then the same
+
+-- the two answers to a call with these mark stacks: every part is the same,
+-- but that an accepted call whose stacks are not equally long may report another number of rescans
+pub record SameAnswer (stack stack′ : List ℕ) (a b : Answer) : Type 0 where
+  pub refusal : a .refusal ≡ b .refusal
+  pub block : a .block ≡ b .block
+  pub change : a .change ≡ b .change
+  pub kept : a .kept ≡ b .kept
+  pub rescans : (a .rescans ≡ b .rescans) ⊎ ((a .refusal ≡ 0) × (length stack ≢ length stack′))
+  pub used : a .used ≡ b .used
+  pub objects : a .objects ≡ b .objects
+  pub longest : a .longest ≡ b .longest
+  pub value : a .value ≡ b .value
+
+-- the answers to two lists of calls: as many as calls, and call by call the same
+pub data SameAnswers : List Turn → List Turn → List Answer → List Answer → Type 0 where
+  done : SameAnswers [] [] [] []
+  next : {t u : Turn} {ts us : List Turn} {a b : Answer} {xs ys : List Answer} → SameAnswer (t .stack) (u .stack) a b → SameAnswers ts us xs ys
+      → SameAnswers (t ∷ ts) (u ∷ us) (a ∷ xs) (b ∷ ys)
+
+-- the calls ts on the heap h and the calls us on the heap h′, each call on what the one before left, do not tell the heaps apart
+pub record Indistinct (ts us : List Turn) (h h′ : Heap) : Type 0 where
+  -- all answers are the same
+  pub same-answers : SameAnswers ts us (answers ts h) (answers us h′)
+  -- after the list, so are the tables
+  pub same-table : after ts h .entries ≡ after us h′ .entries
+  -- and every byte of an allocated block
+  pub same-bytes : (k : ℕ) → entryAt (after ts h .entries) k ≢ FREE → (j : ℕ) → j < 16 → SameByte (after ts h .pool) (after us h′ .pool) (16 * k + j)
+
+-- ---- the statement
+
+-- an accepted call. A collection is accepted only on a well-formed table and a pool that suits it
+abbrev pub IsAccepted : Turn → Heap → Type 0
+IsAccepted t h = step (t .call) (t .stack) h .answer .refusal ≡ 0
+
+abbrev pub DeadDataHasNoVoice : Type 0
+DeadDataHasNoVoice =
+    -- two heaps with the same table and any two pools
+    (table pool pool′ : List ℕ)
+    -- a base and a root list, in bytes, four to a word
+    → (base : ℕ) (roots : List ℕ)
+    -- the pools are equal in every byte of the objects reachable from that list
+    → AgreeOnReachable base (heapOf pool table) (heapOf pool′ table) (wordsOf roots)
+    -- lists of calls of any kind, refused ones included, that begin with the collection from that list and are made alike on both heaps
+    → (stack stack′ : List ℕ) (ts us : List Turn)
+    → Alike (turn (Collect base roots) stack ∷ ts) (turn (Collect base roots) stack′ ∷ us)
+    -- the collection is accepted on both: so the table is well-formed
+    → IsAccepted (turn (Collect base roots) stack) (heapOf pool table)
+    → IsAccepted (turn (Collect base roots) stack′) (heapOf pool′ table)
+    -- then the calls do not tell the heaps apart
+    → Indistinct (turn (Collect base roots) stack ∷ ts) (turn (Collect base roots) stack′ ∷ us) (heapOf pool table) (heapOf pool′ table)
