@@ -7,10 +7,11 @@ use mathlib.Core.List.{List, [], _∷_}
 use Prim.Native.Nat.{ℕ, zero, suc, _+_, _*_, _/_, _≤_, _<_}
 use native.Mathlib.Omega.{arith}
 use native.Mathlib.Decide.{ℕ-discrete, decLt}
-use lib.ListN.{length, getD, set, length-set, List·getD-eq-default}
+use lib.ListN.{length, getD, set, replicate, length-set, length-replicate, List·getD-eq-default}
 use lib.Seq.{sets, length-sets, getD-set-same, getD-set-other}
 use Rattle.rules.specs.Entries.{FREE}
 use Rattle.rules.specs.Tables.{entryAt}
+use Rattle.rules.specs.Outcomes.{clearedBlocks}
 use Rattle.runs.specs.DeadData.{SameByte}
 
 -- the same byte is stored at the same place of both
@@ -54,6 +55,22 @@ agree-sets {es} {p} {q} es′ at vs a f =
     go : (i : ℕ) → (entryAt es (i / 16) ≢ FREE) ⊎ ((at ≤ i) × (i < at + length vs)) → SameByte p q i ⊎ ((at ≤ i) × (i < at + length vs))
     go i (inl u) = inl (a .bytes i u)
     go i (inr r) = inr r
+
+-- b blocks from s on are stored to, and the table changes there alone
+pub agree-run : {es p q : List ℕ} (es′ : List ℕ) (s b : ℕ) (vs : List ℕ) → Agree es p q → 16 * b ≤ length vs
+    → ((k : ℕ) → (s ≤ k → k < s + b → ⊥) → entryAt es′ k ≡ entryAt es k) → Agree es′ (sets p (16 * s) vs) (sets q (16 * s) vs)
+agree-run {es} es′ s b vs a l out = agree-sets es′ (16 * s) vs a (λ i u. go i u (decLt (i / 16) s) (decLt (i / 16) (s + b)))
+  where
+    go : (i : ℕ) → entryAt es′ (i / 16) ≢ FREE → Dec (i / 16 < s) → Dec (i / 16 < s + b) → (entryAt es (i / 16) ≢ FREE) ⊎ ((16 * s ≤ i) × (i < 16 * s + length vs))
+    go i u (yes x) y = inl (λ e. u (out (i / 16) (λ m n. omega arith) ∙ e))
+    go i u (no x) (yes y) = inr (omega arith, omega arith)
+    go i u (no x) (no y) = inl (λ e. u (out (i / 16) (λ m n. omega arith) ∙ e))
+
+-- the same, where they are cleared
+pub agree-cleared : {es p q : List ℕ} (es′ : List ℕ) (s b : ℕ) → Agree es p q
+    → ((k : ℕ) → (s ≤ k → k < s + b → ⊥) → entryAt es′ k ≡ entryAt es k) → Agree es′ (clearedBlocks p s b) (clearedBlocks q s b)
+unfolding clearedBlocks
+agree-cleared es′ s b a out = agree-run es′ s b (replicate (16 * b) 0) a (omega (arith, length-replicate {A = ℕ} (16 * b) 0)) out
 
 -- no byte is stored, and no block is newly allocated
 pub agree-fewer : {es p q : List ℕ} (es′ : List ℕ) → Agree es p q → ((k : ℕ) → entryAt es k ≡ FREE → entryAt es′ k ≡ FREE) → Agree es′ p q
