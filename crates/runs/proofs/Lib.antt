@@ -1,2 +1,3 @@
-pub mod Agree
+pub mod Matching
 pub mod Steps
+pub mod Collections

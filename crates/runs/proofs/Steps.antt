@@ -1,4 +1,4 @@
--- Each call but a collection, made on two pools that agree under one table: the same answer, the same table, and pools that agree again.
+-- Each call but a collection, made on two pools that match under one table: the same answer, the same table, and pools that match again.
 -- Whether a call is refused is told by the table, the lengths and the arguments alone.
 -- Assumes nothing.
 use mathlib.Core.Path.{_≡_, refl, sym, ap, _∙_}
@@ -25,7 +25,7 @@ use Rattle.rules.proofs.Tables.{extent-of, extent-used}
 use Rattle.rules.proofs.Changes.{placed-out, extended-out}
 use Rattle.rules.proofs.Refusals.{first-none, first-rest, Passed, passed, Named, named}
 use Rattle.runs.specs.DeadData.{SameByte, SameAnswer}
-use Rattle.runs.proofs.Agree.{Agree, agree-run, agree-cleared, agree-fewer, agree-same}
+use Rattle.runs.proofs.Matching.{Matching, match-run, match-cleared, match-fewer, match-same}
 
 abbrev pub heap : List ℕ → List ℕ → Heap
 heap pool es = record { pool = pool; entries = es }
@@ -34,7 +34,7 @@ heap pool es = record { pool = pool; entries = es }
 pub record Same (stack stack′ : List ℕ) (x y : Outcome) : Type 0 where
   pub answer : SameAnswer stack stack′ (x .answer) (y .answer)
   pub table : x .heap .entries ≡ y .heap .entries
-  pub agree : Agree (x .heap .entries) (x .heap .pool) (y .heap .pool)
+  pub match : Matching (x .heap .entries) (x .heap .pool) (y .heap .pool)
 
 pub answer-same : {stack stack′ : List ℕ} (a : Answer) → SameAnswer stack stack′ a a
 answer-same a =
@@ -51,11 +51,11 @@ answer-same a =
     }
 
 -- the same refusal number: nothing is changed, or both calls act
-pub same-unless : {stack stack′ es p q : List ℕ} (n : ℕ) (lent lent′ : List ℕ) (x y : Outcome) → Agree es p q → (n ≡ 0 → Same stack stack′ x y)
+pub same-unless : {stack stack′ es p q : List ℕ} (n : ℕ) (lent lent′ : List ℕ) (x y : Outcome) → Matching es p q → (n ≡ 0 → Same stack stack′ x y)
     → Same stack stack′ (unlessRefused n (heap p es) lent x) (unlessRefused n (heap q es) lent′ y)
 unfolding unlessRefused
 same-unless zero lent lent′ x y a f = f refl
-same-unless (suc r) lent lent′ x y a f = record { answer = answer-same _; table = refl; agree = a }
+same-unless (suc r) lent lent′ x y a f = record { answer = answer-same _; table = refl; match = a }
 
 -- the shape is that of the lengths
 pub shape-same : (base : ℕ) (es p q : List ℕ) → length p ≡ length q → goodShape base (heap p es) ≡ goodShape base (heap q es)
@@ -87,7 +87,7 @@ some-blocks : (bytes : ℕ) (ts : List Test) → firstOf (noBytes bytes ∷ ts) 
 unfolding blocksFor
 some-blocks bytes ts e = let n = eqb-false bytes 0 (first-none (noBytes bytes) ts (omega arith) e .0) in omega arith
 
-module _ (base : ℕ) (es p q stack stack′ : List ℕ) (a : Agree es p q) where
+module _ (base : ℕ) (es p q stack stack′ : List ℕ) (a : Matching es p q) where
   abbrev h : Heap
   h = heap p es
 
@@ -102,7 +102,7 @@ module _ (base : ℕ) (es p q stack stack′ : List ℕ) (a : Agree es p q) wher
   same-init =
       rw shape
       (same-unless (firstOf (badShape base h′ ∷ [])) [] [] _ _ a
-      (λ z. record { answer = answer-same _; table = refl; agree = agree-fewer _ a (λ k e. all-free (length es) k) }))
+      (λ z. record { answer = answer-same _; table = refl; match = match-fewer _ a (λ k e. all-free (length es) k) }))
 
   pub same-allocate : (bytes : ℕ) → Same stack stack′ (allocate base h bytes) (allocate base h′ bytes)
   unfolding allocate placing taken clearedBlocks
@@ -112,8 +112,8 @@ module _ (base : ℕ) (es p q stack stack′ : List ℕ) (a : Agree es p q) wher
       (λ z. record {
         answer = answer-same _;
         table = refl;
-        agree = let some-block = some-blocks bytes _ (first-rest _ _ (omega arith) (first-rest _ _ (omega arith) z)) in
-        agree-cleared (placed es (orElse start 0) b) (orElse start 0) b a (λ k. placed-out es (orElse start 0) b k some-block);
+        match = let some-block = some-blocks bytes _ (first-rest _ _ (omega arith) (first-rest _ _ (omega arith) z)) in
+        match-cleared (placed es (orElse start 0) b) (orElse start 0) b a (λ k. placed-out es (orElse start 0) b k some-block);
       }))
     where
       b : ℕ
@@ -127,7 +127,7 @@ module _ (base : ℕ) (es p q stack stack′ : List ℕ) (a : Agree es p q) wher
   same-free k =
       rw shape
       (same-unless (firstOf (badShape base h′ ∷ illFormed h′ ∷ outside h′ k ∷ noHead h′ k ∷ [])) [] [] _ _ a
-      (λ z. record { answer = answer-same _; table = refl; agree = agree-fewer _ a (released-free es k (blockCount es k)) }))
+      (λ z. record { answer = answer-same _; table = refl; match = match-fewer _ a (released-free es k (blockCount es k)) }))
 
   -- the bytes of an object are the same in both pools
   object-same : (k : ℕ) → Named h′ k → take (16 * blockCount es k) (drop (16 * k) p) ≡ take (16 * blockCount es k) (drop (16 * k) q)
@@ -142,21 +142,21 @@ module _ (base : ℕ) (es p q stack stack′ : List ℕ) (a : Agree es p q) wher
       go i l =
           let e : (16 * k + i) / 16 ≡ k + i / 16 = omega arith in
           let u = extent-used es k b (extent-of es k (m .inside)) (λ f. omega (arith, m .head)) (i / 16) (omega arith) in
-          rw (getD-take, getD-drop, getD-take (16 * b) (drop (16 * k) q), getD-drop) (a .bytes (16 * k + i) (rw e u))
+          rw (getD-take (16 * b) (drop (16 * k) p), getD-drop, getD-take (16 * b) (drop (16 * k) q), getD-drop) (a .bytes (16 * k + i) (rw e u))
 
   -- the ways to reallocate
   same-along : (way : Way) (k c : ℕ) → 0 < c → Passed base h′ → Named h′ k
       → Same stack stack′ (along way h k (blockCount es k) c) (along way h′ k (blockCount es k) c)
   unfolding along placing shrunk grown moved clearedBlocks
-  same-along stay k c some-block g m = record { answer = answer-same _; table = refl; agree = a }
+  same-along stay k c some-block g m = record { answer = answer-same _; table = refl; match = a }
   same-along shrink k c some-block g m =
-      record { answer = answer-same _; table = refl; agree = agree-fewer _ a (released-free es (k + c) (blockCount es k - c)) }
+      record { answer = answer-same _; table = refl; match = match-fewer _ a (released-free es (k + c) (blockCount es k - c)) }
   same-along grow k c some-block g m =
       let b = blockCount es k in
       record {
         answer = answer-same _;
         table = refl;
-        agree = agree-cleared _ (k + b) (c - b) a (extended-out es (k + b) (c - b));
+        match = match-cleared _ (k + b) (c - b) a (extended-out es (k + b) (c - b));
       }
   same-along (move s) k c some-block g m =
       let b = blockCount es k in
@@ -167,11 +167,11 @@ module _ (base : ℕ) (es p q stack stack′ : List ℕ) (a : Agree es p q) wher
       record {
         answer = answer-same _;
         table = refl;
-        agree = rw (object-same k m)
-        (agree-fewer _ (agree-run (placed es s c) s c (part ++ rest) a (omega (arith, length-append part rest, length-replicate {A = ℕ} (16 * (c - b)) 0)) (λ i. placed-out es s c i some-block))
+        match = rw (object-same k m)
+        (match-fewer _ (match-run (placed es s c) s c (part ++ rest) a (omega (arith, length-append part rest, length-replicate {A = ℕ} (16 * (c - b)) 0)) (λ i. placed-out es s c i some-block))
         (released-free (placed es s c) k b));
       }
-  same-along noWay k c some-block g m = record { answer = answer-same _; table = refl; agree = a }
+  same-along noWay k c some-block g m = record { answer = answer-same _; table = refl; match = a }
 
   pub same-reallocate : (k bytes : ℕ) → Same stack stack′ (reallocate base h k bytes) (reallocate base h′ k bytes)
   unfolding reallocate
@@ -188,14 +188,14 @@ module _ (base : ℕ) (es p q stack stack′ : List ℕ) (a : Agree es p q) wher
   unfolding survey
   same-survey =
       rw shape
-      (same-unless (firstOf (badShape base h′ ∷ illFormed h′ ∷ [])) [] [] _ _ a (λ z. record { answer = answer-same _; table = refl; agree = a }))
+      (same-unless (firstOf (badShape base h′ ∷ illFormed h′ ∷ [])) [] [] _ _ a (λ z. record { answer = answer-same _; table = refl; match = a }))
 
   pub same-store : (k i w : ℕ) → Same stack stack′ (store base h k i w) (store base h′ k i w)
   unfolding store withWord
   same-store k i w =
       rw shape
       (same-unless (firstOf (badShape base h′ ∷ illFormed h′ ∷ outside h′ k ∷ noHead h′ k ∷ noWord h′ k i ∷ [])) [] [] _ _ a
-      (λ z. record { answer = answer-same _; table = refl; agree = agree-same (4 * (4 * k + i)) (bytesOf w) a }))
+      (λ z. record { answer = answer-same _; table = refl; match = match-same (4 * (4 * k + i)) (bytesOf w) a }))
 
   -- a word of an object lies in its blocks
   word-same : (k i : ℕ) → Named h′ k → i < 4 * blockCount es k → wordAt p (4 * k + i) ≡ wordAt q (4 * k + i)
@@ -214,4 +214,4 @@ module _ (base : ℕ) (es p q stack stack′ : List ℕ) (a : Agree es p q) wher
       (same-unless (firstOf (badShape base h′ ∷ illFormed h′ ∷ outside h′ k ∷ noHead h′ k ∷ noWord h′ k i ∷ [])) [] [] _ _ a
       (λ z. let r = first-rest _ _ (omega arith) (first-rest _ _ (omega arith) z) in
       let w = first-none (noWord h′ k i) [] (omega arith) (first-rest _ _ (omega arith) (first-rest _ _ (omega arith) r)) .0 in
-      rw (word-same k i (named h′ k _ r) (leb-false _ _ w)) (record { answer = answer-same _; table = refl; agree = a })))
+      rw (word-same k i (named h′ k _ r) (leb-false _ _ w)) (record { answer = answer-same _; table = refl; match = a })))

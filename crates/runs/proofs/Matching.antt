@@ -1,4 +1,4 @@
--- Two pools under one table that agree on every allocated block. A store of the same bytes at the same place keeps this, as long as
+-- Two pools under one table that match in every allocated block. A store of the same bytes at the same place keeps this, as long as
 -- a block that is newly allocated is stored to.
 -- Assumes nothing.
 use mathlib.Core.Path.{_≡_, refl, sym, ap, _∙_}
@@ -24,7 +24,7 @@ set-alike p q at v l = go (decLt at (length p))
         List·getD-eq-default (set p at v) 0 (simp length-set (omega arith))
             ∙ sym (List·getD-eq-default (set q at v) 0 (simp length-set (omega arith)))
 
--- the same bytes are stored: what agreed still agrees, and what is stored to agrees
+-- the same bytes are stored: what matched still matches, and what is stored to matches
 pub sets-alike : (p q : List ℕ) (at : ℕ) (vs : List ℕ) (i : ℕ) → length p ≡ length q → SameByte p q i ⊎ ((at ≤ i) × (i < at + length vs))
     → SameByte (sets p at vs) (sets q at vs) i
 sets-alike p q at [] i l (inl e) = e
@@ -38,15 +38,15 @@ sets-alike p q at (v ∷ vs) i l d = sets-alike (set p at v) (set q at v) (suc a
     go (no e) (inr r) = inr (omega (arith, r .0, r .1), omega (arith, r .0, r .1))
 
 -- pools equally long, with the same in byte i if its block, block i / 16, is allocated
-pub record Agree (es p q : List ℕ) : Type 0 where
+pub record Matching (es p q : List ℕ) : Type 0 where
   pub long : length p ≡ length q
   pub bytes : (i : ℕ) → entryAt es (i / 16) ≢ FREE → SameByte p q i
 
 -- the same bytes are stored, and the table changes
-pub agree-sets : {es p q : List ℕ} (es′ : List ℕ) (at : ℕ) (vs : List ℕ) → Agree es p q
+pub match-sets : {es p q : List ℕ} (es′ : List ℕ) (at : ℕ) (vs : List ℕ) → Matching es p q
     → ((i : ℕ) → entryAt es′ (i / 16) ≢ FREE → (entryAt es (i / 16) ≢ FREE) ⊎ ((at ≤ i) × (i < at + length vs)))
-    → Agree es′ (sets p at vs) (sets q at vs)
-agree-sets {es} {p} {q} es′ at vs a f =
+    → Matching es′ (sets p at vs) (sets q at vs)
+match-sets {es} {p} {q} es′ at vs a f =
     record {
       long = length-sets p at vs ∙ a .long ∙ sym (length-sets q at vs);
       bytes = λ i u. sets-alike p q at vs i (a .long) (go i (f i u));
@@ -57,9 +57,9 @@ agree-sets {es} {p} {q} es′ at vs a f =
     go i (inr r) = inr r
 
 -- b blocks from s on are stored to, and the table changes there alone
-pub agree-run : {es p q : List ℕ} (es′ : List ℕ) (s b : ℕ) (vs : List ℕ) → Agree es p q → 16 * b ≤ length vs
-    → ((k : ℕ) → (s ≤ k → k < s + b → ⊥) → entryAt es′ k ≡ entryAt es k) → Agree es′ (sets p (16 * s) vs) (sets q (16 * s) vs)
-agree-run {es} es′ s b vs a l out = agree-sets es′ (16 * s) vs a (λ i u. go i u (decLt (i / 16) s) (decLt (i / 16) (s + b)))
+pub match-run : {es p q : List ℕ} (es′ : List ℕ) (s b : ℕ) (vs : List ℕ) → Matching es p q → 16 * b ≤ length vs
+    → ((k : ℕ) → (s ≤ k → k < s + b → ⊥) → entryAt es′ k ≡ entryAt es k) → Matching es′ (sets p (16 * s) vs) (sets q (16 * s) vs)
+match-run {es} es′ s b vs a l out = match-sets es′ (16 * s) vs a (λ i u. go i u (decLt (i / 16) s) (decLt (i / 16) (s + b)))
   where
     go : (i : ℕ) → entryAt es′ (i / 16) ≢ FREE → Dec (i / 16 < s) → Dec (i / 16 < s + b) → (entryAt es (i / 16) ≢ FREE) ⊎ ((16 * s ≤ i) × (i < 16 * s + length vs))
     go i u (yes x) y = inl (λ e. u (out (i / 16) (λ m n. omega arith) ∙ e))
@@ -67,15 +67,15 @@ agree-run {es} es′ s b vs a l out = agree-sets es′ (16 * s) vs a (λ i u. go
     go i u (no x) (no y) = inl (λ e. u (out (i / 16) (λ m n. omega arith) ∙ e))
 
 -- the same, where they are cleared
-pub agree-cleared : {es p q : List ℕ} (es′ : List ℕ) (s b : ℕ) → Agree es p q
-    → ((k : ℕ) → (s ≤ k → k < s + b → ⊥) → entryAt es′ k ≡ entryAt es k) → Agree es′ (clearedBlocks p s b) (clearedBlocks q s b)
+pub match-cleared : {es p q : List ℕ} (es′ : List ℕ) (s b : ℕ) → Matching es p q
+    → ((k : ℕ) → (s ≤ k → k < s + b → ⊥) → entryAt es′ k ≡ entryAt es k) → Matching es′ (clearedBlocks p s b) (clearedBlocks q s b)
 unfolding clearedBlocks
-agree-cleared es′ s b a out = agree-run es′ s b (replicate (16 * b) 0) a (omega (arith, length-replicate {A = ℕ} (16 * b) 0)) out
+match-cleared es′ s b a out = match-run es′ s b (replicate (16 * b) 0) a (omega (arith, length-replicate {A = ℕ} (16 * b) 0)) out
 
 -- no byte is stored, and no block is newly allocated
-pub agree-fewer : {es p q : List ℕ} (es′ : List ℕ) → Agree es p q → ((k : ℕ) → entryAt es k ≡ FREE → entryAt es′ k ≡ FREE) → Agree es′ p q
-agree-fewer es′ a f = agree-sets es′ 0 [] a (λ i u. inl (λ e. u (f (i / 16) e)))
+pub match-fewer : {es p q : List ℕ} (es′ : List ℕ) → Matching es p q → ((k : ℕ) → entryAt es k ≡ FREE → entryAt es′ k ≡ FREE) → Matching es′ p q
+match-fewer es′ a f = match-sets es′ 0 [] a (λ i u. inl (λ e. u (f (i / 16) e)))
 
 -- the same bytes are stored, and the table stays
-pub agree-same : {es p q : List ℕ} (at : ℕ) (vs : List ℕ) → Agree es p q → Agree es (sets p at vs) (sets q at vs)
-agree-same {es} at vs a = agree-sets es at vs a (λ i u. inl u)
+pub match-same : {es p q : List ℕ} (at : ℕ) (vs : List ℕ) → Matching es p q → Matching es (sets p at vs) (sets q at vs)
+match-same {es} at vs a = match-sets es at vs a (λ i u. inl u)
