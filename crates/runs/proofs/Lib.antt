@@ -1,3 +1,4 @@
 pub mod Matching
 pub mod Steps
 pub mod Collections
+pub mod NoVoice
