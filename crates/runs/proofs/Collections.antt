@@ -23,12 +23,13 @@ use Rattle.rules.proofs.Entries.{entriesOf-lt}
 use Rattle.rules.proofs.Tables.{extent-of, extent-used}
 use Rattle.rules.proofs.Marking.{head-inside}
 use Rattle.rules.proofs.Refusals.{first-none, both-left, not-false, shape-true, accepts}
+use Rattle.rules.proofs.Matching.{SameByte, Matching, match-fewer}
+use Rattle.rules.proofs.Twice.{heap, unless-both, shape-same}
 use Rattle.keeping.specs.Keeping.{marking, collected, Proper, Agree, AgreeInWords}
 use Rattle.keeping.proofs.Kept.{reachable-head, collected-used}
 use Rattle.keeping.proofs.Alike.{agree-words, marking-alike, collected-alike, collected-bytes}
-use Rattle.runs.specs.DeadData.{SameByte, AgreeOnReachable, Accepted, SameStacks, equally-long, both-accepted, SameAnswer}
-use Rattle.runs.proofs.Matching.{Matching, match-fewer}
-use Rattle.runs.proofs.Steps.{heap, Same, same-unless, shape-same}
+use Rattle.runs.specs.DeadData.{AgreeOnReachable, Accepted, SameStacks, equally-long, both-accepted, SameAnswer}
+use Rattle.runs.proofs.Same.{Same, same-answer}
 
 -- ---- the mark stacks pass the same tests
 
@@ -109,7 +110,7 @@ pub same-collect : (base : ℕ) (roots es p q stack stack′ : List ℕ) → Mat
 unfolding collect marking
 same-collect base roots es p q stack stack′ match s =
     rw (shape-same base es p q (match .long), stacks-whole s, stacks-few s)
-    (same-unless (firstOf (badLists base g′ roots stack′ ∷ illFormed g′ ∷ manyRoots roots ∷ longStack stack′ ∷ [])) stack stack′ _ _ match
+    (unless-both (Same stack stack′) _ (λ r. record { answer = same-answer stack stack′ _; table = refl; match = match })
     (λ z. let well = suits base g′ roots stack′ _ z .1 in
     same-collecting base roots es p q stack stack′ well (agree-words (matching-agree base roots es p q stack stack′ well match))
     (match-fewer _ match (freed well))))

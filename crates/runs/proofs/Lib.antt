@@ -1,5 +1,4 @@
-pub mod Matching
-pub mod Steps
+pub mod Same
 pub mod Collections
 pub mod NoVoice
 pub mod Samples

@@ -9,23 +9,24 @@ use Rattle.rules.specs.Entries.{FREE}
 use Rattle.rules.specs.Tables.{entryAt}
 use Rattle.rules.specs.Outcomes.{Heap, heapOf}
 use Rattle.rules.specs.Runs.{Call, Init, Allocate, Free, Reallocate, Collect, Survey, Load, Store, step, Turn, after, answers}
+use Rattle.rules.proofs.Matching.{Matching}
+use Rattle.rules.proofs.Twice.{heap, twin-init, twin-allocate, twin-free, twin-reallocate, twin-survey, twin-load, twin-store}
 use Rattle.runs.specs.DeadData.{SameByte, SameStacks, turn, Alike, done, next, SameAnswers, Indistinct, DeadDataHasNoVoice}
-use Rattle.runs.proofs.Matching.{Matching}
-use Rattle.runs.proofs.Steps.{heap, Same, same-init, same-allocate, same-free, same-reallocate, same-survey, same-load, same-store}
+use Rattle.runs.proofs.Same.{Same, same-twin}
 use Rattle.runs.proofs.Collections.{same-collect, same-first}
 
 -- one call on pools that match
 same-step : (call : Call) (es p q stack stack′ : List ℕ) → Matching es p q → SameStacks stack stack′
     → Same stack stack′ (step call stack (heap p es)) (step call stack′ (heap q es))
 unfolding step
-same-step (Init base) es p q stack stack′ m s = same-init base es p q stack stack′ m
-same-step (Allocate base bytes) es p q stack stack′ m s = same-allocate base es p q stack stack′ m bytes
-same-step (Free base k) es p q stack stack′ m s = same-free base es p q stack stack′ m k
-same-step (Reallocate base k bytes) es p q stack stack′ m s = same-reallocate base es p q stack stack′ m k bytes
+same-step (Init base) es p q stack stack′ m s = same-twin stack stack′ (twin-init base es p q m)
+same-step (Allocate base bytes) es p q stack stack′ m s = same-twin stack stack′ (twin-allocate base es p q m bytes)
+same-step (Free base k) es p q stack stack′ m s = same-twin stack stack′ (twin-free base es p q m k)
+same-step (Reallocate base k bytes) es p q stack stack′ m s = same-twin stack stack′ (twin-reallocate base es p q m k bytes)
 same-step (Collect base roots) es p q stack stack′ m s = same-collect base roots es p q stack stack′ m s
-same-step (Survey base) es p q stack stack′ m s = same-survey base es p q stack stack′ m
-same-step (Load base k i) es p q stack stack′ m s = same-load base es p q stack stack′ m k i
-same-step (Store base k i w) es p q stack stack′ m s = same-store base es p q stack stack′ m k i w
+same-step (Survey base) es p q stack stack′ m s = same-twin stack stack′ (twin-survey base es p q m)
+same-step (Load base k i) es p q stack stack′ m s = same-twin stack stack′ (twin-load base es p q m k i)
+same-step (Store base k i w) es p q stack stack′ m s = same-twin stack stack′ (twin-store base es p q m k i w)
 
 -- the same, where the tables are equal
 same-call : (call : Call) (h h′ : Heap) (stack stack′ : List ℕ) → h .entries ≡ h′ .entries → Matching (h .entries) (h .pool) (h′ .pool) → SameStacks stack stack′

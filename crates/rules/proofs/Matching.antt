@@ -9,10 +9,13 @@ use native.Mathlib.Omega.{arith}
 use native.Mathlib.Decide.{ℕ-discrete, decLt}
 use lib.ListN.{length, getD, set, replicate, length-set, length-replicate, List·getD-eq-default}
 use lib.Seq.{sets, length-sets, getD-set-same, getD-set-other}
 use Rattle.rules.specs.Entries.{FREE}
 use Rattle.rules.specs.Tables.{entryAt}
 use Rattle.rules.specs.Outcomes.{clearedBlocks}
-use Rattle.runs.specs.DeadData.{SameByte}
+
+-- byte i of two pools is the same
+abbrev pub SameByte : List ℕ → List ℕ → ℕ → Type 0
+SameByte p q i = getD p i 0 ≡ getD q i 0
 
 -- the same byte is stored at the same place of both
 set-alike : (p q : List ℕ) (at v : ℕ) → length p ≡ length q → SameByte (set p at v) (set q at v) at
