@@ -1,10 +1,10 @@
 -- Two pools under one table that match in every allocated block. A store of the same bytes at the same place keeps this, as long as
 -- a block that is newly allocated is stored to.
 -- Assumes nothing.
-use mathlib.Core.Path.{_≡_, refl, sym, ap, _∙_}
+use mathlib.Core.Path.{_≡_, sym, _∙_}
 use mathlib.Core.Logic.{_≢_, _⊎_, inl, inr}
 use mathlib.Core.List.{List, [], _∷_}
-use Prim.Native.Nat.{ℕ, zero, suc, _+_, _*_, _/_, _≤_, _<_}
+use Prim.Native.Nat.{ℕ, suc, _+_, _*_, _/_, _≤_, _<_}
 use native.Mathlib.Omega.{arith}
 use native.Mathlib.Decide.{ℕ-discrete, decLt}
 use lib.ListN.{length, getD, set, replicate, length-set, length-replicate, List·getD-eq-default}
@@ -25,7 +25,7 @@ set-alike p q at v l = go (decLt at (length p))
     go (yes h) = getD-set-same p at v 0 h ∙ sym (getD-set-same q at v 0 (omega arith))
     go (no h) =
         List·getD-eq-default (set p at v) 0 (simp length-set (omega arith))
-            ∙ sym (List·getD-eq-default (set q at v) 0 (simp length-set (omega arith)))
+        ∙ sym (List·getD-eq-default (set q at v) 0 (simp length-set (omega arith)))
 
 -- the same bytes are stored: what matched still matches, and what is stored to matches
 pub sets-alike : (p q : List ℕ) (at : ℕ) (vs : List ℕ) (i : ℕ) → length p ≡ length q → SameByte p q i ⊎ ((at ≤ i) × (i < at + length vs))

@@ -1,26 +1,22 @@
 -- Each call but a collection, made on two pools that match under one table: the same answer, the same table, and pools that match again.
 -- Whether a call is refused is told by the table, the lengths and the arguments alone.
 -- Assumes nothing.
-use mathlib.Core.Path.{_≡_, refl, sym, ap, _∙_}
-use mathlib.Core.Logic.{_≢_, _⊎_, inl, inr}
-use mathlib.Core.Bool.{Bool, true, false, not}
+use mathlib.Core.Path.{_≡_, refl, ap, _∙_}
 use mathlib.Core.List.{List, [], _∷_, _++_}
-use mathlib.Core.Option.{Option, some, none}
-use Prim.Native.Nat.{ℕ, zero, suc, _+_, _*_, _-_, _/_, _≤_, _<_}
+use mathlib.Core.Option.{Option}
+use Prim.Native.Nat.{ℕ, zero, suc, _+_, _*_, _-_, _/_, _<_}
 use native.Mathlib.Omega.{arith}
 use native.Mathlib.Decide.{ℕ-discrete, decLt}
-use lib.Dec.{eqb, ltb, leb}
-use lib.ListN.{length, getD, set, take, drop, replicate, length-set, length-replicate, length-append, length-take, length-drop, getD-replicate, List·getD-eq-default}
+use lib.ListN.{length, getD, set, take, drop, replicate, length-replicate, length-append, length-take, length-drop}
 use lib.Seq.{sets, ext-getD, getD-take, getD-drop, length-take-le, getD-set-same, getD-set-other, set-out}
-use borrow.Author.Tests.{eqb-false, ltb-false, leb-false, not-false}
-use Rattle.rules.specs.Tests.{pick, isNone, orElse}
+use borrow.Author.Tests.{eqb-false, leb-false}
+use Rattle.rules.specs.Tests.{orElse}
 use Rattle.rules.specs.Words.{number, bytesOf, wordAt, withWord}
-use Rattle.rules.specs.Entries.{FREE, HEAD}
-use Rattle.rules.specs.Tables.{entryAt, wellFormed, blockCount, firstRun, placed, released, extended, used, objects, longest}
-use Rattle.rules.specs.Meaning.{Extent}
-use Rattle.rules.specs.Outcomes.{Heap, Answer, Outcome, leaves, onlyRefusal, unlessRefused, clearedBlocks}
-use Rattle.rules.specs.Refusals.{Test, firstOf, goodShape, badShape, illFormed, noBytes, outside, noHead, noWord, noRoom}
-use Rattle.rules.specs.Calls.{blocksFor, init, taken, placing, allocate, freed, free, Way, stay, shrink, grow, move, noWay, shrunk, grown, moved, wayTo, wayToGrow, movesTo, isNoWay, along, reallocate, survey, load, store}
+use Rattle.rules.specs.Entries.{FREE}
+use Rattle.rules.specs.Tables.{entryAt, blockCount, firstRun, placed, released}
+use Rattle.rules.specs.Outcomes.{Heap, Outcome, onlyRefusal, loaded, unlessRefused, clearedBlocks}
+use Rattle.rules.specs.Refusals.{Test, firstOf, goodShape, badShape, illFormed, noBytes, outside, noHead, noWord}
+use Rattle.rules.specs.Calls.{blocksFor, init, taken, placing, allocate, freed, free, Way, stay, shrink, grow, move, noWay, shrunk, grown, moved, wayTo, along, reallocate, survey, load, store}
 use Rattle.rules.proofs.Tables.{extent-of, extent-used}
 use Rattle.rules.proofs.Changes.{placed-out, extended-out}
 use Rattle.rules.proofs.Refusals.{first-none, Passed, passed, Named, named-object, named-resize}
@@ -118,7 +114,7 @@ module _ (base : ℕ) (es p q : List ℕ) (a : Matching es p q) where
         answer = refl;
         table = refl;
         match = let some-block = some-blocks bytes (wants-bytes base h′ bytes _ z) in
-        match-cleared (placed es (orElse start 0) b) (orElse start 0) b a (λ k. placed-out es (orElse start 0) b k some-block);
+            match-cleared (placed es (orElse start 0) b) (orElse start 0) b a (λ k. placed-out es (orElse start 0) b k some-block);
       }))
     where
       b : ℕ
@@ -173,8 +169,8 @@ module _ (base : ℕ) (es p q : List ℕ) (a : Matching es p q) where
         answer = refl;
         table = refl;
         match = rw (object-same k m)
-        (match-fewer _ (match-run (placed es s c) s c (part ++ rest) a (omega (arith, length-append part rest, length-replicate {A = ℕ} (16 * (c - b)) 0)) (λ i. placed-out es s c i some-block))
-        (released-free (placed es s c) k b));
+            (match-fewer _ (match-run (placed es s c) s c (part ++ rest) a (omega (arith, length-append part rest, length-replicate {A = ℕ} (16 * (c - b)) 0)) (λ i. placed-out es s c i some-block))
+            (released-free (placed es s c) k b));
       }
   twin-along noWay k c some-block g m = record { answer = refl; table = refl; match = a }
 
@@ -216,4 +212,4 @@ module _ (base : ℕ) (es p q : List ℕ) (a : Matching es p q) where
   twin-load k i =
       rw shape
       (unless-both Twin _ refused
-      (λ z. rw (word-same k i (named-object base h′ k _ z) (word-inside base h′ k i z)) (record { answer = refl; table = refl; match = a })))
+      (λ z. record { answer = ap loaded (word-same k i (named-object base h′ k _ z) (word-inside base h′ k i z)); table = refl; match = a }))

@@ -3,20 +3,19 @@
 -- Assumes nothing.
 use mathlib.Core.Path.{_≡_, refl, sym, ap, _∙_}
 use mathlib.Core.Logic.{_≢_, _⊎_, inl, inr}
-use mathlib.Core.Bool.{Bool, true, false, not}
+use mathlib.Core.Bool.{true}
 use mathlib.Core.List.{List, [], _∷_}
-use Prim.Native.Nat.{ℕ, zero, suc, _+_, _*_, _-_, _/_, _%_, _≤_, _<_}
+use Prim.Native.Nat.{ℕ, zero, suc, _+_, _*_, _/_, _%_, _<_}
 use native.Mathlib.Omega.{arith}
 use native.Mathlib.Decide.{ℕ-discrete}
-use lib.Dec.{eqb, ltb}
+use lib.Dec.{ltb}
 use lib.ListN.{length}
-use borrow.Author.Tests.{eq-eqb, le-ltb}
+use borrow.Author.Tests.{le-ltb}
 use Rattle.rules.specs.Words.{wordsOf}
 use Rattle.rules.specs.Entries.{FREE, HEAD, entriesOf}
 use Rattle.rules.specs.Tables.{entryAt, wellFormed, blockCount, objects}
 use Rattle.rules.specs.Outcomes.{Heap, Outcome, heapOf, changeFrom, unlessRefused}
-use Rattle.rules.specs.Refusals.{Test, firstOf, goodShape, wholeWords, badLists, illFormed, manyRoots, longStack}
-use Rattle.rules.specs.Reach.{Reachable}
+use Rattle.rules.specs.Refusals.{Test, firstOf, wholeWords, badLists, illFormed}
 use Rattle.rules.specs.Marking.{Marked}
 use Rattle.rules.specs.Calls.{collecting, collect}
 use Rattle.rules.proofs.Entries.{entriesOf-lt}
@@ -25,10 +24,10 @@ use Rattle.rules.proofs.Marking.{head-inside}
 use Rattle.rules.proofs.Refusals.{first-none, both-left, not-false, shape-true, accepts}
 use Rattle.rules.proofs.Matching.{SameByte, Matching, match-fewer}
 use Rattle.rules.proofs.Twice.{heap, unless-both, shape-same}
-use Rattle.keeping.specs.Keeping.{marking, collected, Proper, Agree, AgreeInWords}
+use Rattle.keeping.specs.Keeping.{marking, collected, Agree, AgreeInWords}
 use Rattle.keeping.proofs.Kept.{reachable-head, collected-used}
 use Rattle.keeping.proofs.Alike.{agree-words, marking-alike, collected-alike, collected-bytes}
-use Rattle.runs.specs.DeadData.{AgreeOnReachable, Accepted, SameStacks, equally-long, both-accepted, SameAnswer}
+use Rattle.runs.specs.DeadData.{AgreeOnReachable, SameStacks, equally-long, both-accepted}
 use Rattle.runs.proofs.Same.{Same, same-answer}
 
 -- ---- the mark stacks pass the same tests
@@ -153,5 +152,5 @@ same-first base roots table p q stack stack′ agree x x′ =
     (record {
       long = s .0 ∙ sym (s′ .0);
       bytes = λ i u. let e : 16 * (i / 16) + i % 16 ≡ i = omega arith in
-      rw e at (collected-bytes base h h′ (wordsOf roots) (length stack / 4) (record { well = s .1; small = entriesOf-lt table }) a (i / 16) u (i % 16) (omega arith));
+          rw e at (collected-bytes base h h′ (wordsOf roots) (length stack / 4) (record { well = s .1; small = entriesOf-lt table }) a (i / 16) u (i % 16) (omega arith));
     }))

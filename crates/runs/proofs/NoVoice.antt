@@ -1,17 +1,14 @@
 -- Dead data has no voice. The first collection leaves pools that match in every allocated block, and every call keeps this.
 -- Assumes nothing.
-use mathlib.Core.Path.{_≡_, refl, sym, subst}
-use mathlib.Core.Logic.{_≢_}
+use mathlib.Core.Path.{_≡_, subst}
 use mathlib.Core.List.{List, [], _∷_}
-use Prim.Native.Nat.{ℕ, _+_, _*_, _/_, _<_}
+use Prim.Native.Nat.{ℕ, _+_, _*_, _/_}
 use native.Mathlib.Omega.{arith}
-use Rattle.rules.specs.Entries.{FREE}
-use Rattle.rules.specs.Tables.{entryAt}
 use Rattle.rules.specs.Outcomes.{Heap, heapOf}
 use Rattle.rules.specs.Runs.{Call, Init, Allocate, Free, Reallocate, Collect, Survey, Load, Store, step, Turn, after, answers}
 use Rattle.rules.proofs.Matching.{Matching}
 use Rattle.rules.proofs.Twice.{heap, twin-init, twin-allocate, twin-free, twin-reallocate, twin-survey, twin-load, twin-store}
-use Rattle.runs.specs.DeadData.{SameByte, SameStacks, turn, Alike, done, next, SameAnswers, Indistinct, DeadDataHasNoVoice}
+use Rattle.runs.specs.DeadData.{SameStacks, turn, Alike, done, next, Indistinct, DeadDataHasNoVoice}
 use Rattle.runs.proofs.Same.{Same, same-twin}
 use Rattle.runs.proofs.Collections.{same-collect, same-first}
 

@@ -1,30 +1,29 @@
 -- The hypotheses can be met by heaps that do differ, and live data has a voice: both by computation.
 -- Assumes nothing.
-use mathlib.Core.Path.{_≡_, refl, sym, ap, _∙_}
+use mathlib.Core.Path.{_≡_, refl}
 use mathlib.Core.Logic.{_≢_}
-use mathlib.Core.Bool.{Bool, true, false, not}
+use mathlib.Core.Bool.{Bool, true, not}
 use mathlib.Core.List.{List, [], _∷_}
-use Prim.Native.Nat.{ℕ, zero, suc, _+_, _*_, _<_}
+use Prim.Native.Nat.{ℕ, _+_, _*_}
 use native.Mathlib.Omega.{arith}
 use lib.Dec.{T, eqb, eqb→eq}
-use lib.IntN.{ℤ, pos, negℤ}
+use lib.IntN.{pos, negℤ}
 use lib.ListN.{length, getD, replicate}
-use Rattle.rules.specs.Tests.{pick, either, count, leading, tabulate}
+use Rattle.rules.specs.Tests.{either, count, leading, tabulate}
 use Rattle.rules.specs.Words.{number, bytesOf, wordAt, withWord, wordsOf}
 use Rattle.rules.specs.Entries.{entryOf, entriesOf}
 use Rattle.rules.specs.Tables.{entryAt, isHead, mayFollow, wellAfter, wellFormed, blockCount, freeFrom, fits, firstFrom, firstRun, placed, used, objects}
 use Rattle.rules.specs.Pointers.{addressOf, goodBase, targetOf, headsObject, headAt, leadsTo}
-use Rattle.rules.specs.Outcomes.{Heap, Answer, onlyRefusal, changeFrom, placedAt, collectedTo, loaded, unlessRefused, clearedBlocks}
+use Rattle.rules.specs.Outcomes.{Heap, Answer, changeFrom, placedAt, collectedTo, loaded, unlessRefused, clearedBlocks}
 use Rattle.rules.specs.Refusals.{firstOf, goodShape, wholeWords}
-use Rattle.rules.specs.Reach.{Reachable}
 use Rattle.rules.specs.Marking.{pushed, visitTo, visit, walkWords, walk, drainFor, drain, trace, rootTo, markRoot, markRoots, passBlock, passFrom, pass, rescanFor, rescan, markAll, sweptEntry, freeingAfter, sweepFrom, sweep}
 use Rattle.rules.specs.Calls.{blocksFor, taken, placing, allocate, collecting, collect, load}
-use Rattle.rules.specs.Runs.{Collect, Turn, step, answers}
+use Rattle.rules.specs.Runs.{Turn, step, answers}
 use Rattle.rules.proofs.Below.{allBelow, below}
 use Rattle.rules.proofs.Marking.{head-inside}
 use Rattle.keeping.specs.Keeping.{marking, collected}
 use Rattle.keeping.proofs.Kept.{reachable-head, collected-kept}
-use Rattle.runs.specs.DeadData.{SameByte, AgreeOnReachable, Accepted, equally-long, both-accepted, Alike, done, next, turn, IsAccepted, SameAnswers, Indistinct}
+use Rattle.runs.specs.DeadData.{AgreeOnReachable, Accepted, equally-long, both-accepted, Alike, done, next, SameAnswers, Indistinct}
 use Rattle.runs.specs.Samples.{sampleTable, sampleRoots, quietPool, loudPool, otherPool, quiet, loud, other, sampleCalls, tellingCalls}
 use Rattle.runs.proofs.NoVoice.{dead-data-has-no-voice}
 
@@ -84,7 +83,14 @@ loud-answers = refl
 second : {t u : Turn} {a b c d : Answer} → SameAnswers (t ∷ u ∷ []) (t ∷ u ∷ []) (a ∷ b ∷ []) (c ∷ d ∷ []) → b .value ≡ d .value
 second (next _ (next x done)) = x .value
 
--- both are collected, and then told apart
+-- a load tells them apart
 pub live-data-has-a-voice : Indistinct tellingCalls tellingCalls quiet other → ⊥
 unfolding count leading tabulate number bytesOf wordAt withWord wordsOf entryOf entriesOf mayFollow wellAfter wellFormed blockCount freeFrom fits firstFrom firstRun placed used objects addressOf goodBase targetOf headsObject headAt leadsTo changeFrom unlessRefused clearedBlocks firstOf goodShape wholeWords pushed visitTo visit walkWords walk drainFor drain trace rootTo markRoot markRoots passBlock passFrom pass rescanFor rescan markAll sweptEntry freeingAfter sweepFrom sweep blocksFor taken placing allocate collecting collect load step answers
 live-data-has-a-voice same = let e = second (same .same-answers) in omega arith
+
+-- so they do not agree on what is reachable: that is the only hypothesis which they do not meet
+pub live-byte-differs : AgreeOnReachable 4096 quiet other (wordsOf sampleRoots) → ⊥
+unfolding count leading tabulate number bytesOf wordAt withWord wordsOf entryOf entriesOf mayFollow wellAfter wellFormed blockCount freeFrom fits firstFrom firstRun placed used objects addressOf goodBase targetOf headsObject headAt leadsTo changeFrom unlessRefused clearedBlocks firstOf goodShape wholeWords pushed visitTo visit walkWords walk drainFor drain trace rootTo markRoot markRoots passBlock passFrom pass rescanFor rescan markAll sweptEntry freeingAfter sweepFrom sweep blocksFor taken placing allocate collecting collect load step answers
+live-byte-differs agree =
+    live-data-has-a-voice
+    (dead-data-has-no-voice sampleTable quietPool otherPool 4096 sampleRoots agree [] [] _ _ (next _ (equally-long refl) (next _ (equally-long refl) done)) refl refl)

@@ -10,20 +10,16 @@ use lib.ListN.{length, getD}
 use Rattle.rules.specs.Words.{wordsOf}
 use Rattle.rules.specs.Entries.{FREE}
 use Rattle.rules.specs.Tables.{entryAt, blockCount}
-use Rattle.rules.specs.Outcomes.{Heap, Answer, Outcome, heapOf}
+use Rattle.rules.specs.Outcomes.{Heap, Answer, heapOf}
 use Rattle.rules.specs.Reach.{Reachable}
 use Rattle.rules.specs.Runs.{Call, Collect, step, Turn, after, answers}
 
 -- ---- what is alike at the start
 
--- byte i of two pools is the same
-abbrev pub SameByte : List ℕ → List ℕ → ℕ → Type 0
-SameByte pool pool′ i = getD pool i 0 ≡ getD pool′ i 0
-
 -- two heaps are equal in every byte of the objects reachable from the roots, 16 to a block, whatever their other bytes hold
 abbrev pub AgreeOnReachable : ℕ → Heap → Heap → List ℕ → Type 0
 AgreeOnReachable base h h′ roots =
-    (o : ℕ) → Reachable base h roots o → (i : ℕ) → i < 16 * blockCount (h .entries) o → SameByte (h .pool) (h′ .pool) (16 * o + i)
+    (o : ℕ) → Reachable base h roots o → (i : ℕ) → i < 16 * blockCount (h .entries) o → getD (h .pool) (16 * o + i) 0 ≡ getD (h′ .pool) (16 * o + i) 0
 
 -- ---- calls that are made alike
 
@@ -75,7 +71,7 @@ pub record Indistinct (ts us : List Turn) (h h′ : Heap) : Type 0 where
   -- after the list, so are the tables
   pub same-table : after ts h .entries ≡ after us h′ .entries
   -- and every byte of an allocated block
-  pub same-bytes : (k : ℕ) → entryAt (after ts h .entries) k ≢ FREE → (j : ℕ) → j < 16 → SameByte (after ts h .pool) (after us h′ .pool) (16 * k + j)
+  pub same-bytes : (k : ℕ) → entryAt (after ts h .entries) k ≢ FREE → (j : ℕ) → j < 16 → getD (after ts h .pool) (16 * k + j) 0 ≡ getD (after us h′ .pool) (16 * k + j) 0
 
 -- ---- the statement
 

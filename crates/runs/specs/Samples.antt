@@ -7,7 +7,7 @@ use Prim.Native.Nat.{ℕ}
 use lib.ListN.{set, replicate}
 use Rattle.rules.specs.Words.{bytesOf, withWord}
 use Rattle.rules.specs.Outcomes.{Heap, heapOf}
-use Rattle.rules.specs.Runs.{Allocate, Collect, Load, Store, Turn}
+use Rattle.rules.specs.Runs.{Allocate, Collect, Load, Turn}
 use Rattle.runs.specs.DeadData.{turn}
 
 abbrev pub sampleTable : List ℕ
