@@ -3,17 +3,15 @@
 -- Assumes nothing.
 use mathlib.Core.Path.{_≡_, refl, ap, _∙_}
 use mathlib.Core.List.{List, [], _∷_, _++_}
-use mathlib.Core.Option.{Option}
 use Prim.Native.Nat.{ℕ, zero, suc, _+_, _*_, _-_, _/_, _<_}
 use native.Mathlib.Omega.{arith}
 use native.Mathlib.Decide.{ℕ-discrete, decLt}
 use lib.ListN.{length, getD, set, take, drop, replicate, length-replicate, length-append, length-take, length-drop}
 use lib.Seq.{sets, ext-getD, getD-take, getD-drop, length-take-le, getD-set-same, getD-set-other, set-out}
 use borrow.Author.Tests.{eqb-false, leb-false}
-use Rattle.rules.specs.Tests.{orElse}
-use Rattle.rules.specs.Words.{number, bytesOf, wordAt, withWord}
+use Rattle.rules.specs.Words.{bytesOf, wordAt, withWord}
 use Rattle.rules.specs.Entries.{FREE}
-use Rattle.rules.specs.Tables.{entryAt, blockCount, firstRun, placed, released}
+use Rattle.rules.specs.Tables.{entryAt, blockCount, placed, released}
 use Rattle.rules.specs.Outcomes.{Heap, Outcome, onlyRefusal, loaded, unlessRefused, clearedBlocks}
 use Rattle.rules.specs.Refusals.{Test, firstOf, goodShape, badShape, illFormed, noBytes, outside, noHead, noWord}
 use Rattle.rules.specs.Calls.{blocksFor, init, taken, placing, allocate, freed, free, Way, stay, shrink, grow, move, noWay, shrunk, grown, moved, wayTo, along, reallocate, survey, load, store}
@@ -105,23 +103,16 @@ module _ (base : ℕ) (es p q : List ℕ) (a : Matching es p q) where
       (unless-both Twin _ refused
       (λ z. record { answer = refl; table = refl; match = match-fewer _ a (λ k e. all-free (length es) k) }))
 
-  pub twin-allocate : (bytes : ℕ) → Twin (allocate base h bytes) (allocate base h′ bytes)
-  unfolding allocate placing taken clearedBlocks
-  twin-allocate bytes =
-      rw shape
-      (unless-both Twin _ refused
-      (λ z. record {
-        answer = refl;
-        table = refl;
-        match = let some-block = some-blocks bytes (wants-bytes base h′ bytes _ z) in
-            match-cleared (placed es (orElse start 0) b) (orElse start 0) b a (λ k. placed-out es (orElse start 0) b k some-block);
-      }))
-    where
-      b : ℕ
-      b = blocksFor bytes
+  -- a new object: all its blocks are cleared in both pools
+  twin-taken : (s b : ℕ) → 0 < b → Twin (placing h s (taken h s b)) (placing h′ s (taken h′ s b))
+  unfolding placing taken
+  twin-taken s b some-block =
+      record { answer = refl; table = refl; match = match-cleared _ s _ a (λ k. placed-out es s b k some-block) }
 
-      start : Option ℕ
-      start = firstRun es b
+  pub twin-allocate : (bytes : ℕ) → Twin (allocate base h bytes) (allocate base h′ bytes)
+  unfolding allocate
+  twin-allocate bytes =
+      rw shape (unless-both Twin _ refused (λ z. twin-taken _ (blocksFor bytes) (some-blocks bytes (wants-bytes base h′ bytes _ z))))
 
   pub twin-free : (k : ℕ) → Twin (free base h k) (free base h′ k)
   unfolding free placing freed

@@ -27,7 +27,7 @@ use Rattle.rules.proofs.Twice.{heap, unless-both, shape-same}
 use Rattle.keeping.specs.Keeping.{marking, collected, Agree, AgreeInWords}
 use Rattle.keeping.proofs.Kept.{reachable-head, collected-used}
 use Rattle.keeping.proofs.Alike.{agree-words, marking-alike, collected-alike, collected-bytes}
-use Rattle.runs.specs.DeadData.{AgreeOnReachable, SameStacks, equally-long, both-accepted}
+use Rattle.runs.specs.DeadData.{AgreeOnReachable, SameStacks, equally-long, both-up-to-64}
 use Rattle.runs.proofs.Same.{Same, same-answer}
 
 -- ---- the mark stacks pass the same tests
@@ -35,11 +35,11 @@ use Rattle.runs.proofs.Same.{Same, same-answer}
 stacks-whole : {stack stack′ : List ℕ} → SameStacks stack stack′ → wholeWords stack ≡ wholeWords stack′
 unfolding wholeWords
 stacks-whole (equally-long l) = rw l
-stacks-whole (both-accepted x y) = rw (x .whole, y .whole)
+stacks-whole (both-up-to-64 x y) = rw (x .whole, y .whole)
 
 stacks-few : {stack stack′ : List ℕ} → SameStacks stack stack′ → ltb 64 (length stack / 4) ≡ ltb 64 (length stack′ / 4)
 stacks-few (equally-long l) = rw l
-stacks-few (both-accepted x y) = le-ltb _ _ (x .few) ∙ sym (le-ltb _ _ (y .few))
+stacks-few (both-up-to-64 x y) = le-ltb _ _ (x .few) ∙ sym (le-ltb _ _ (y .few))
 
 -- ---- two collections that act
 

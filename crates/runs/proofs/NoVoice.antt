@@ -54,7 +54,7 @@ same-calls (next call {stack = stack} {stack′ = stack′} s r) h h′ t m =
 
 pub dead-data-has-no-voice : DeadDataHasNoVoice
 unfolding step
-dead-data-has-no-voice table pool pool′ base roots agree stack stack′ ts us (next call s r) x x′ =
+dead-data-has-no-voice base table roots pool pool′ stack stack′ ts us agree (next call s r) x x′ =
     let h = heapOf pool table in
     let h′ = heapOf pool′ table in
     let c = Collect base roots in

@@ -14,7 +14,7 @@ use Rattle.rules.specs.Words.{number, bytesOf, wordAt, withWord, wordsOf}
 use Rattle.rules.specs.Entries.{entryOf, entriesOf}
 use Rattle.rules.specs.Tables.{entryAt, isHead, mayFollow, wellAfter, wellFormed, blockCount, freeFrom, fits, firstFrom, firstRun, placed, used, objects}
 use Rattle.rules.specs.Pointers.{addressOf, goodBase, targetOf, headsObject, headAt, leadsTo}
-use Rattle.rules.specs.Outcomes.{Heap, Answer, changeFrom, placedAt, collectedTo, loaded, unlessRefused, clearedBlocks}
+use Rattle.rules.specs.Outcomes.{Heap, Answer, onlyRefusal, changeFrom, placedAt, collectedTo, loaded, unlessRefused, clearedBlocks}
 use Rattle.rules.specs.Refusals.{firstOf, goodShape, wholeWords}
 use Rattle.rules.specs.Marking.{pushed, visitTo, visit, walkWords, walk, drainFor, drain, trace, rootTo, markRoot, markRoots, passBlock, passFrom, pass, rescanFor, rescan, markAll, sweptEntry, freeingAfter, sweepFrom, sweep}
 use Rattle.rules.specs.Calls.{blocksFor, taken, placing, allocate, collecting, collect, load}
@@ -23,7 +23,7 @@ use Rattle.rules.proofs.Below.{allBelow, below}
 use Rattle.rules.proofs.Marking.{head-inside}
 use Rattle.keeping.specs.Keeping.{marking, collected}
 use Rattle.keeping.proofs.Kept.{reachable-head, collected-kept}
-use Rattle.runs.specs.DeadData.{AgreeOnReachable, Accepted, equally-long, both-accepted, Alike, done, next, SameAnswers, Indistinct}
+use Rattle.runs.specs.DeadData.{AgreeOnReachable, UpTo64, equally-long, both-up-to-64, Alike, done, next, SameAnswers, Indistinct}
 use Rattle.runs.specs.Samples.{sampleTable, sampleRoots, quietPool, loudPool, otherPool, quiet, loud, other, sampleCalls, tellingCalls}
 use Rattle.runs.proofs.NoVoice.{dead-data-has-no-voice}
 
@@ -54,27 +54,27 @@ pub samples-agree : AgreeOnReachable 4096 quiet loud (wordsOf sampleRoots)
 unfolding agreeIn agreeTest marking collected count leading tabulate number bytesOf wordAt withWord wordsOf entryOf entriesOf mayFollow wellAfter wellFormed blockCount freeFrom fits firstFrom firstRun placed used objects addressOf goodBase targetOf headsObject headAt leadsTo changeFrom unlessRefused clearedBlocks firstOf goodShape wholeWords pushed visitTo visit walkWords walk drainFor drain trace rootTo markRoot markRoots passBlock passFrom pass rescanFor rescan markAll sweptEntry freeingAfter sweepFrom sweep
 samples-agree = agree-tested 4096 quiet loud (wordsOf sampleRoots) refl tt
 
-full : Accepted (replicate 256 7)
+full : UpTo64 (replicate 256 7)
 full = record { whole = refl; few = omega arith }
 
-empty : Accepted []
+empty : UpTo64 []
 empty = record { whole = refl; few = omega arith }
 
 -- one mark stack has 64 entries, the other none
 pub samples-alike : Alike (sampleCalls (replicate 256 7)) (sampleCalls [])
 samples-alike =
-    next _ (both-accepted full empty) (next _ (equally-long refl) (next _ (equally-long refl) (next _ (equally-long refl) done)))
+    next _ (both-up-to-64 full empty) (next _ (equally-long refl) (next _ (equally-long refl) (next _ (equally-long refl) (next _ (equally-long refl) done))))
 
 pub samples-indistinct : Indistinct (sampleCalls (replicate 256 7)) (sampleCalls []) quiet loud
 unfolding count leading tabulate number bytesOf wordAt withWord wordsOf entryOf entriesOf mayFollow wellAfter wellFormed blockCount freeFrom fits firstFrom firstRun placed used objects addressOf goodBase targetOf headsObject headAt leadsTo changeFrom unlessRefused clearedBlocks firstOf goodShape wholeWords pushed visitTo visit walkWords walk drainFor drain trace rootTo markRoot markRoots passBlock passFrom pass rescanFor rescan markAll sweptEntry freeingAfter sweepFrom sweep blocksFor taken placing allocate collecting collect load step answers
-samples-indistinct = dead-data-has-no-voice sampleTable quietPool loudPool 4096 sampleRoots samples-agree (replicate 256 7) [] _ _ samples-alike refl refl
+samples-indistinct = dead-data-has-no-voice 4096 sampleTable sampleRoots quietPool loudPool (replicate 256 7) [] _ _ samples-agree samples-alike refl refl
 
 -- what they answer: the same, but for the rescans
-pub quiet-answers : answers (sampleCalls (replicate 256 7)) quiet ≡ collectedTo 2 0 (negℤ (pos 3)) ∷ loaded 4096 ∷ placedAt 1 (pos 3) ∷ loaded 0 ∷ []
+pub quiet-answers : answers (sampleCalls (replicate 256 7)) quiet ≡ collectedTo 2 0 (negℤ (pos 3)) ∷ loaded 4096 ∷ onlyRefusal 7 ∷ placedAt 1 (pos 3) ∷ loaded 0 ∷ []
 unfolding count leading tabulate number bytesOf wordAt withWord wordsOf entryOf entriesOf mayFollow wellAfter wellFormed blockCount freeFrom fits firstFrom firstRun placed used objects addressOf goodBase targetOf headsObject headAt leadsTo changeFrom unlessRefused clearedBlocks firstOf goodShape wholeWords pushed visitTo visit walkWords walk drainFor drain trace rootTo markRoot markRoots passBlock passFrom pass rescanFor rescan markAll sweptEntry freeingAfter sweepFrom sweep blocksFor taken placing allocate collecting collect load step answers
 quiet-answers = refl
 
-pub loud-answers : answers (sampleCalls []) loud ≡ collectedTo 2 1 (negℤ (pos 3)) ∷ loaded 4096 ∷ placedAt 1 (pos 3) ∷ loaded 0 ∷ []
+pub loud-answers : answers (sampleCalls []) loud ≡ collectedTo 2 1 (negℤ (pos 3)) ∷ loaded 4096 ∷ onlyRefusal 7 ∷ placedAt 1 (pos 3) ∷ loaded 0 ∷ []
 unfolding count leading tabulate number bytesOf wordAt withWord wordsOf entryOf entriesOf mayFollow wellAfter wellFormed blockCount freeFrom fits firstFrom firstRun placed used objects addressOf goodBase targetOf headsObject headAt leadsTo changeFrom unlessRefused clearedBlocks firstOf goodShape wholeWords pushed visitTo visit walkWords walk drainFor drain trace rootTo markRoot markRoots passBlock passFrom pass rescanFor rescan markAll sweptEntry freeingAfter sweepFrom sweep blocksFor taken placing allocate collecting collect load step answers
 loud-answers = refl
 
@@ -93,4 +93,4 @@ pub live-byte-differs : AgreeOnReachable 4096 quiet other (wordsOf sampleRoots) 
 unfolding count leading tabulate number bytesOf wordAt withWord wordsOf entryOf entriesOf mayFollow wellAfter wellFormed blockCount freeFrom fits firstFrom firstRun placed used objects addressOf goodBase targetOf headsObject headAt leadsTo changeFrom unlessRefused clearedBlocks firstOf goodShape wholeWords pushed visitTo visit walkWords walk drainFor drain trace rootTo markRoot markRoots passBlock passFrom pass rescanFor rescan markAll sweptEntry freeingAfter sweepFrom sweep blocksFor taken placing allocate collecting collect load step answers
 live-byte-differs agree =
     live-data-has-a-voice
-    (dead-data-has-no-voice sampleTable quietPool otherPool 4096 sampleRoots agree [] [] _ _ (next _ (equally-long refl) (next _ (equally-long refl) done)) refl refl)
+    (dead-data-has-no-voice 4096 sampleTable sampleRoots quietPool otherPool [] [] _ _ agree (next _ (equally-long refl) (next _ (equally-long refl) done)) refl refl)

@@ -24,7 +24,7 @@ AgreeOnReachable base h h′ roots =
 -- ---- calls that are made alike
 
 -- a mark stack of 0 to 64 whole entries, four bytes to an entry
-pub record Accepted (stack : List ℕ) : Type 0 where
+pub record UpTo64 (stack : List ℕ) : Type 0 where
   pub whole : length stack % 4 ≡ 0
   pub few : length stack / 4 ≤ 64
 
@@ -33,7 +33,7 @@ pub data SameStacks (stack stack′ : List ℕ) : Type 0 where
   -- they are equally long, of any length at all
   equally-long : length stack ≡ length stack′ → SameStacks stack stack′
   -- or both have 0 to 64 whole entries
-  both-accepted : Accepted stack → Accepted stack′ → SameStacks stack stack′
+  both-up-to-64 : UpTo64 stack → UpTo64 stack′ → SameStacks stack stack′
 
 abbrev pub turn : Call → List ℕ → Turn
 turn call stack = record { call = call; stack = stack }
@@ -75,23 +75,24 @@ pub record Indistinct (ts us : List Turn) (h h′ : Heap) : Type 0 where
 
 -- ---- the statement
 
--- an accepted call. A collection is accepted only on a well-formed table and a pool that suits it
+-- an accepted call
 abbrev pub IsAccepted : Turn → Heap → Type 0
 IsAccepted t h = step (t .call) (t .stack) h .answer .refusal ≡ 0
 
 abbrev pub DeadDataHasNoVoice : Type 0
 DeadDataHasNoVoice =
-    -- two heaps with the same table and any two pools
-    (table pool pool′ : List ℕ)
-    -- a base and a root list, in bytes, four to a word
-    → (base : ℕ) (roots : List ℕ)
-    -- the pools are equal in every byte of the objects reachable from that list
-    → AgreeOnReachable base (heapOf pool table) (heapOf pool′ table) (wordsOf roots)
-    -- lists of calls of any kind, refused ones included, that begin with the collection from that list and are made alike on both heaps
-    → (stack stack′ : List ℕ) (ts us : List Turn)
-    → Alike (turn (Collect base roots) stack ∷ ts) (turn (Collect base roots) stack′ ∷ us)
-    -- the collection is accepted on both: so the table is well-formed
-    → IsAccepted (turn (Collect base roots) stack) (heapOf pool table)
-    → IsAccepted (turn (Collect base roots) stack′) (heapOf pool′ table)
-    -- then the calls do not tell the heaps apart
-    → Indistinct (turn (Collect base roots) stack ∷ ts) (turn (Collect base roots) stack′ ∷ us) (heapOf pool table) (heapOf pool′ table)
+    -- one base, one table and one root list, in bytes, for both heaps; for each heap a pool, a mark stack for the collection, and the calls that follow it
+    (base : ℕ) (table roots pool pool′ stack stack′ : List ℕ) (ts us : List Turn) →
+    let h : Heap = heapOf pool table in
+    let h′ : Heap = heapOf pool′ table in
+    let first : Turn = turn (Collect base roots) stack in
+    let first′ : Turn = turn (Collect base roots) stack′ in
+    -- the heaps are equal in every byte of the objects reachable from the root list
+    AgreeOnReachable base h h′ (wordsOf roots)
+    -- both are collected from that list, and then called alike, by any calls on any bases, refused ones included
+    → Alike (first ∷ ts) (first′ ∷ us)
+    -- the collection is accepted on both. So the table is well-formed, and each pool suits it
+    → IsAccepted first h
+    → IsAccepted first′ h′
+    -- then the calls, that collection among them, do not tell the heaps apart
+    → Indistinct (first ∷ ts) (first′ ∷ us) h h′

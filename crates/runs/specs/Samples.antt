@@ -37,11 +37,12 @@ loud = heapOf loudPool sampleTable
 abbrev pub other : Heap
 other = heapOf otherPool sampleTable
 
--- a collection; then a live word is loaded, the dead blocks are allocated anew and a word of them is loaded
+-- a collection; then a live word is loaded, a dead one asked for, the dead blocks are allocated anew, and the last word of them is loaded
 abbrev pub sampleCalls : List ℕ → List Turn
 sampleCalls stack =
     turn (Collect 4096 sampleRoots) stack
     ∷ turn (Load 4096 4 0) []
+    ∷ turn (Load 4096 1 11) []
     ∷ turn (Allocate 4096 33) []
     ∷ turn (Load 4096 1 11) []
     ∷ []
