@@ -1,7 +1,7 @@
 -- Dead data has no voice. The first collection leaves pools that match in every allocated block, and every call keeps this.
 -- Assumes nothing.
 use mathlib.Core.Path.{_≡_, subst}
-use mathlib.Core.List.{List, [], _∷_}
+use mathlib.Core.List.{List, _∷_}
 use Prim.Native.Nat.{ℕ, _+_, _*_, _/_}
 use native.Mathlib.Omega.{arith}
 use Rattle.rules.specs.Outcomes.{Heap, heapOf}

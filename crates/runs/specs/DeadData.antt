@@ -3,37 +3,25 @@
 -- From then on no list of calls, made alike on both, tells them apart: not by an answer, not by the table, not by a byte of an allocated block.
 -- Assumes nothing.
 use mathlib.Core.Path.{_≡_}
-use mathlib.Core.Logic.{_≢_, _⊎_}
+use mathlib.Core.Logic.{_≢_}
 use mathlib.Core.List.{List, [], _∷_}
-use Prim.Native.Nat.{ℕ, _+_, _*_, _/_, _%_, _≤_, _<_}
+use Prim.Native.Nat.{ℕ, _+_, _*_, _<_}
 use lib.ListN.{length, getD}
 use Rattle.rules.specs.Words.{wordsOf}
 use Rattle.rules.specs.Entries.{FREE}
-use Rattle.rules.specs.Tables.{entryAt, blockCount}
+use Rattle.rules.specs.Tables.{entryAt}
 use Rattle.rules.specs.Outcomes.{Heap, Answer, heapOf}
-use Rattle.rules.specs.Reach.{Reachable}
 use Rattle.rules.specs.Runs.{Call, Collect, step, Turn, after, answers}
-
--- ---- what is alike at the start
-
--- two heaps are equal in every byte of the objects reachable from the roots, 16 to a block, whatever their other bytes hold
-abbrev pub AgreeOnReachable : ℕ → Heap → Heap → List ℕ → Type 0
-AgreeOnReachable base h h′ roots =
-    (o : ℕ) → Reachable base h roots o → (i : ℕ) → i < 16 * blockCount (h .entries) o → getD (h .pool) (16 * o + i) 0 ≡ getD (h′ .pool) (16 * o + i) 0
+use Rattle.keeping.specs.Keeping.{Agree, butRescans, GoodStack}
 
 -- ---- calls that are made alike
-
--- a mark stack of 0 to 64 whole entries, four bytes to an entry
-pub record UpTo64 (stack : List ℕ) : Type 0 where
-  pub whole : length stack % 4 ≡ 0
-  pub few : length stack / 4 ≤ 64
 
 -- the two mark stacks of a call, whatever they hold
 pub data SameStacks (stack stack′ : List ℕ) : Type 0 where
   -- they are equally long, of any length at all
   equally-long : length stack ≡ length stack′ → SameStacks stack stack′
   -- or both have 0 to 64 whole entries
-  both-up-to-64 : UpTo64 stack → UpTo64 stack′ → SameStacks stack stack′
+  both-good : GoodStack stack → GoodStack stack′ → SameStacks stack stack′
 
 abbrev pub turn : Call → List ℕ → Turn
 turn call stack = record { call = call; stack = stack }
@@ -45,18 +33,12 @@ pub data Alike : List Turn → List Turn → Type 0 where
 
 -- ---- what is then the same
 
--- the two answers to a call with these mark stacks: every part is the same,
--- but that an accepted call whose stacks are not equally long may report another number of rescans
-pub record SameAnswer (stack stack′ : List ℕ) (a b : Answer) : Type 0 where
-  pub refusal : a .refusal ≡ b .refusal
-  pub block : a .block ≡ b .block
-  pub change : a .change ≡ b .change
-  pub kept : a .kept ≡ b .kept
-  pub rescans : (a .rescans ≡ b .rescans) ⊎ ((a .refusal ≡ 0) × (length stack ≢ length stack′))
-  pub used : a .used ≡ b .used
-  pub objects : a .objects ≡ b .objects
-  pub longest : a .longest ≡ b .longest
-  pub value : a .value ≡ b .value
+-- the two answers to a call with these mark stacks
+pub data SameAnswer (stack stack′ : List ℕ) (a b : Answer) : Type 0 where
+  -- every part is the same
+  equal : a ≡ b → SameAnswer stack stack′ a b
+  -- or the call is accepted, the stacks are not equally long, and every part but the number of rescans is the same
+  but-rescans : a .refusal ≡ 0 → length stack ≢ length stack′ → butRescans a ≡ butRescans b → SameAnswer stack stack′ a b
 
 -- the answers to two lists of calls: as many as calls, and call by call the same
 pub data SameAnswers : List Turn → List Turn → List Answer → List Answer → Type 0 where
@@ -87,8 +69,8 @@ DeadDataHasNoVoice =
     let h′ : Heap = heapOf pool′ table in
     let first : Turn = turn (Collect base roots) stack in
     let first′ : Turn = turn (Collect base roots) stack′ in
-    -- the heaps are equal in every byte of the objects reachable from the root list
-    AgreeOnReachable base h h′ (wordsOf roots)
+    -- the heaps are equal in every byte of the objects reachable from the root list, whatever their other bytes hold
+    Agree base (wordsOf roots) h h′
     -- both are collected from that list, and then called alike, by any calls on any bases, refused ones included
     → Alike (first ∷ ts) (first′ ∷ us)
     -- the collection is accepted on both. So the table is well-formed, and each pool suits it
