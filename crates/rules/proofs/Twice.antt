@@ -18,6 +18,7 @@ use Rattle.rules.specs.Calls.{blocksFor, init, taken, placing, allocate,
 use Rattle.rules.proofs.Tables.{extent-of, extent-used}
 use Rattle.rules.proofs.Changes.{placed-out, extended-out}
 use Rattle.rules.proofs.Refusals.{first-none, Passed, passed, Named, named-object, named-resize}
+use Rattle.rules.proofs.Calls.{blocks-some}
 use Rattle.rules.proofs.Matching.{SameByte, Matching, match-run, match-cleared, match-fewer, match-same}
 
 abbrev pub heap : List ℕ → List ℕ → Heap
@@ -79,10 +80,6 @@ word-inside base h k i e =
     let d = rest (outside h k) _ (omega arith) (rest (illFormed h) _ (omega arith) (rest (badShape base h) _ (omega arith) e)) in
     leb-false _ _ (first-none (noWord h k i) [] (omega arith) (rest (noHead h k) _ (omega arith) d) .0)
 
-some-blocks : (bytes : ℕ) → 0 < bytes → 0 < blocksFor bytes
-unfolding blocksFor
-some-blocks bytes n = omega arith
-
 module _ (base : ℕ) (es p q : List ℕ) (a : Matching es p q) where
   abbrev h : Heap
   h = heap p es
@@ -112,7 +109,7 @@ module _ (base : ℕ) (es p q : List ℕ) (a : Matching es p q) where
   pub twin-allocate : (bytes : ℕ) → Twin (allocate base h bytes) (allocate base h′ bytes)
   unfolding allocate
   twin-allocate bytes =
-      rw shape (unless-both Twin _ refused (λ z. twin-taken _ (blocksFor bytes) (some-blocks bytes (wants-bytes base h′ bytes _ z))))
+      rw shape (unless-both Twin _ refused (λ z. twin-taken _ (blocksFor bytes) (blocks-some bytes (wants-bytes base h′ bytes _ z))))
 
   pub twin-free : (k : ℕ) → Twin (free base h k) (free base h′ k)
   unfolding free placing freed
@@ -170,7 +167,7 @@ module _ (base : ℕ) (es p q : List ℕ) (a : Matching es p q) where
   twin-reallocate k bytes =
       rw shape
       (unless-both Twin _ refused
-      (λ z. let r = named-resize base h′ k bytes _ z in twin-along way k (blocksFor bytes) (some-blocks bytes (r .0)) (passed base h′ _ z) (r .1)))
+      (λ z. let r = named-resize base h′ k bytes _ z in twin-along way k (blocksFor bytes) (blocks-some bytes (r .0)) (passed base h′ _ z) (r .1)))
     where
       way : Way
       way = wayTo es k (blockCount es k) (blocksFor bytes)
