@@ -28,7 +28,7 @@ set-alike p q at v l = go (decLt at (length p))
         ∙ sym (List·getD-eq-default (set q at v) 0 (simp length-set (omega arith)))
 
 -- the same bytes are stored: what matched still matches, and what is stored to matches
-pub sets-alike : (p q : List ℕ) (at : ℕ) (vs : List ℕ) (i : ℕ) → length p ≡ length q → SameByte p q i ⊎ ((at ≤ i) × (i < at + length vs))
+sets-alike : (p q : List ℕ) (at : ℕ) (vs : List ℕ) (i : ℕ) → length p ≡ length q → SameByte p q i ⊎ ((at ≤ i) × (i < at + length vs))
     → SameByte (sets p at vs) (sets q at vs) i
 sets-alike p q at [] i l (inl e) = e
 sets-alike p q at [] i l (inr r) = absurd (omega (arith, r .0, r .1))
