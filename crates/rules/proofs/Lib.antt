@@ -9,3 +9,5 @@ pub mod Marking
 pub mod Calls
 pub mod Marks
 pub mod Pools
+pub mod Matching
+pub mod Twice

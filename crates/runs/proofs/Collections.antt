@@ -1,0 +1,117 @@
+-- A collection made on two heaps that differ in dead bytes alone: the same table, the same answer, and pools that match again.
+-- Only the number of rescans looks at the room of the mark stack.
+-- Assumes nothing.
+use mathlib.Core.Path.{_≡_, refl, sym, _∙_}
+use mathlib.Core.Logic.{_≢_, inl}
+use mathlib.Core.Bool.{true}
+use mathlib.Core.List.{List, []}
+use Prim.Native.Nat.{ℕ, zero, suc, _+_, _*_, _/_, _%_, _<_}
+use native.Mathlib.Omega.{arith}
+use native.Mathlib.Decide.{ℕ-discrete}
+use lib.Dec.{ltb}
+use lib.ListN.{length}
+use borrow.Author.Tests.{le-ltb}
+use Rattle.rules.specs.Words.{wordsOf}
+use Rattle.rules.specs.Entries.{FREE, entriesOf}
+use Rattle.rules.specs.Tables.{entryAt, wellFormed}
+use Rattle.rules.specs.Outcomes.{Heap, Outcome, heapOf, unlessRefused}
+use Rattle.rules.specs.Refusals.{firstOf, wholeWords, badLists, illFormed}
+use Rattle.rules.specs.Calls.{collecting, collect}
+use Rattle.rules.proofs.Refusals.{first-none, both-left, not-false, shape-true}
+use Rattle.rules.proofs.Matching.{SameByte, Matching, match-sets}
+use Rattle.rules.proofs.Twice.{heap, unless-both, shape-same}
+use Rattle.keeping.specs.Keeping.{collected, Agree}
+use Rattle.keeping.proofs.Owners.{table-proper}
+use Rattle.keeping.proofs.Kept.{collected-used}
+use Rattle.keeping.proofs.Alike.{agree-words, marking-alike, collected-alike, collected-bytes}
+use Rattle.keeping.proofs.Collections.{tests, acted, collect-from, collect-is, used-agree}
+use Rattle.runs.specs.DeadData.{SameStacks, equally-long, both-good, SameAnswer, equal, but-rescans}
+use Rattle.runs.proofs.Same.{Same}
+
+-- ---- the mark stacks pass the same tests
+
+stacks-whole : {stack stack′ : List ℕ} → SameStacks stack stack′ → wholeWords stack ≡ wholeWords stack′
+unfolding wholeWords
+stacks-whole (equally-long l) = rw l
+stacks-whole (both-good x y) = rw (x .whole, y .whole)
+
+stacks-short : {stack stack′ : List ℕ} → SameStacks stack stack′ → ltb 64 (length stack / 4) ≡ ltb 64 (length stack′ / 4)
+stacks-short (equally-long l) = rw l
+stacks-short (both-good x y) = le-ltb _ _ (x .short) ∙ sym (le-ltb _ _ (y .short))
+
+-- ---- two collections that act
+
+module _ (base : ℕ) (roots es p q stack stack′ : List ℕ) (well : wellFormed es ≡ true) where
+  abbrev h : Heap
+  h = heap p es
+
+  abbrev h′ : Heap
+  h′ = heap q es
+
+  -- the table that the first leaves
+  abbrev left : List ℕ
+  left = collected base h (wordsOf roots) (length stack / 4)
+
+  same-acted : Agree base (wordsOf roots) h h′ → Matching left p q → Same stack stack′ (acted base h roots stack) (acted base h′ roots stack′)
+  unfolding collecting collected
+  same-acted a match = record { answer = answer (ℕ-discrete (length stack) (length stack′)); table = table; match = match }
+    where
+      table : left ≡ collected base h′ (wordsOf roots) (length stack′ / 4)
+      table = collected-alike base h h′ (wordsOf roots) well (agree-words a) (length stack / 4) (length stack′ / 4)
+
+      answer : Dec (length stack ≡ length stack′) → SameAnswer stack stack′ (acted base h roots stack .answer) (acted base h′ roots stack′ .answer)
+      answer (yes e) = equal (rw (e, marking-alike base h h′ (wordsOf roots) well (agree-words a) (length stack′ / 4)))
+      answer (no e) = but-rescans refl e (rw table)
+
+-- ---- a collection on pools that match
+
+-- a collection that is not refused has a pool that suits the table, and a well-formed table
+suits : (base : ℕ) (h : Heap) (roots stack : List ℕ) → firstOf (tests base h roots stack) ≡ 0
+    → (length (h .pool) ≡ 16 * length (h .entries)) × (wellFormed (h .entries) ≡ true)
+suits base h roots stack z =
+    let a = first-none (badLists base h roots stack) _ (omega arith) z in
+    let b = first-none (illFormed h) _ (omega arith) (a .1) in
+    (shape-true base h (both-left _ _ (not-false _ (a .0))) .pool, not-false _ (b .0))
+
+pub same-collect : (base : ℕ) (roots es p q stack stack′ : List ℕ) → Matching es p q → SameStacks stack stack′
+    → Same stack stack′ (collect base (heap p es) roots stack) (collect base (heap q es) roots stack′)
+same-collect base roots es p q stack stack′ match s =
+    rw (collect-from base g roots stack, collect-from base g′ roots stack′, shape-same base es p q (match .long), stacks-whole s, stacks-short s)
+    (unless-both (Same stack stack′) _ (λ r. record { answer = equal refl; table = refl; match = match })
+    (λ z. let well = suits base g′ roots stack′ z .1 in
+    same-acted base roots es p q stack stack′ well (used-agree base (wordsOf roots) g g′ well refl used)
+    (match-sets _ 0 [] match (λ i u. inl (λ f. u (collected-used base g (wordsOf roots) (length stack / 4) well (i / 16) u ∙ f))))))
+  where
+    g : Heap
+    g = heap p es
+
+    g′ : Heap
+    g′ = heap q es
+
+    used : (k : ℕ) → entryAt es k ≢ FREE → (i : ℕ) → i < 16 → SameByte p q (16 * k + i)
+    used k u i l = let e : (16 * k + i) / 16 ≡ k = omega arith in match .bytes (16 * k + i) (rw e u)
+
+-- ---- the first collection
+
+accepted : (n : ℕ) (h : Heap) (stack : List ℕ) (x : Outcome) → unlessRefused n h stack x .answer .refusal ≡ 0 → n ≡ 0
+unfolding unlessRefused
+accepted zero h stack x e = refl
+accepted (suc r) h stack x e = absurd (omega arith)
+
+pub same-first : (base : ℕ) (roots table p q stack stack′ : List ℕ) → Agree base (wordsOf roots) (heapOf p table) (heapOf q table)
+    → collect base (heapOf p table) roots stack .answer .refusal ≡ 0 → collect base (heapOf q table) roots stack′ .answer .refusal ≡ 0
+    → Same stack stack′ (collect base (heapOf p table) roots stack) (collect base (heapOf q table) roots stack′)
+same-first base roots table p q stack stack′ a x x′ =
+    let h = heapOf p table in
+    let h′ = heapOf q table in
+    let z = accepted _ h stack _ (rw collect-from at x) in
+    let z′ = accepted _ h′ stack′ _ (rw collect-from at x′) in
+    let s = suits base h roots stack z in
+    let s′ = suits base h′ roots stack′ z′ in
+    rw (collect-is base h roots stack x, collect-is base h′ roots stack′ x′)
+    (same-acted base roots (entriesOf table) p q stack stack′ (s .1) a
+    (record {
+      long = s .0 ∙ sym (s′ .0);
+      bytes = λ i u. let e : 16 * (i / 16) + i % 16 ≡ i = omega arith in
+          rw e at (collected-bytes base h h′ (wordsOf roots) (length stack / 4) (table-proper table (s .1)) a (i / 16) u (i % 16) (omega arith));
+    }))

@@ -1,0 +1,4 @@
+pub mod Same
+pub mod Collections
+pub mod NoVoice
+pub mod Samples

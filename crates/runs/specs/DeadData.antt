@@ -1,0 +1,80 @@
+-- Dead data has no voice, as one statement about whole lists of calls.
+-- Two heaps have the same table, and pools that agree on the objects reachable from a root list. Both are collected from that list.
+-- From then on no list of calls, made alike on both, tells them apart: not by an answer, not by the table, not by a byte of an allocated block.
+-- Assumes nothing.
+use mathlib.Core.Path.{_≡_}
+use mathlib.Core.Logic.{_≢_}
+use mathlib.Core.List.{List, [], _∷_}
+use Prim.Native.Nat.{ℕ, _+_, _*_, _<_}
+use lib.ListN.{length, getD}
+use Rattle.rules.specs.Words.{wordsOf}
+use Rattle.rules.specs.Entries.{FREE}
+use Rattle.rules.specs.Tables.{entryAt}
+use Rattle.rules.specs.Outcomes.{Heap, Answer, heapOf}
+use Rattle.rules.specs.Runs.{Call, Collect, step, Turn, after, answers}
+use Rattle.keeping.specs.Keeping.{Agree, butRescans, GoodStack}
+
+-- ---- calls that are made alike
+
+-- the two mark stacks of a call, whatever they hold
+pub data SameStacks (stack stack′ : List ℕ) : Type 0 where
+  -- they are equally long, of any length at all
+  equally-long : length stack ≡ length stack′ → SameStacks stack stack′
+  -- or both have 0 to 64 whole entries
+  both-good : GoodStack stack → GoodStack stack′ → SameStacks stack stack′
+
+abbrev pub turn : Call → List ℕ → Turn
+turn call stack = record { call = call; stack = stack }
+
+-- two lists of calls, made alike: call by call the same call with the same arguments, the base included; only the mark stacks are each heap's own
+pub data Alike : List Turn → List Turn → Type 0 where
+  done : Alike [] []
+  next : (call : Call) {stack stack′ : List ℕ} {ts us : List Turn} → SameStacks stack stack′ → Alike ts us → Alike (turn call stack ∷ ts) (turn call stack′ ∷ us)
+
+-- ---- what is then the same
+
+-- the two answers to a call with these mark stacks
+pub data SameAnswer (stack stack′ : List ℕ) (a b : Answer) : Type 0 where
+  -- every part is the same
+  equal : a ≡ b → SameAnswer stack stack′ a b
+  -- or the call is accepted, the stacks are not equally long, and every part but the number of rescans is the same
+  but-rescans : a .refusal ≡ 0 → length stack ≢ length stack′ → butRescans a ≡ butRescans b → SameAnswer stack stack′ a b
+
+-- the answers to two lists of calls: as many as calls, and call by call the same
+pub data SameAnswers : List Turn → List Turn → List Answer → List Answer → Type 0 where
+  done : SameAnswers [] [] [] []
+  next : {t u : Turn} {ts us : List Turn} {a b : Answer} {xs ys : List Answer} → SameAnswer (t .stack) (u .stack) a b → SameAnswers ts us xs ys
+      → SameAnswers (t ∷ ts) (u ∷ us) (a ∷ xs) (b ∷ ys)
+
+-- the calls ts on the heap h and the calls us on the heap h′, each call on what the one before left, do not tell the heaps apart
+pub record Indistinct (ts us : List Turn) (h h′ : Heap) : Type 0 where
+  -- all answers are the same
+  pub same-answers : SameAnswers ts us (answers ts h) (answers us h′)
+  -- after the list, so are the tables
+  pub same-table : after ts h .entries ≡ after us h′ .entries
+  -- and every byte of an allocated block
+  pub same-bytes : (k : ℕ) → entryAt (after ts h .entries) k ≢ FREE → (j : ℕ) → j < 16 → getD (after ts h .pool) (16 * k + j) 0 ≡ getD (after us h′ .pool) (16 * k + j) 0
+
+-- ---- the statement
+
+-- an accepted call
+abbrev pub IsAccepted : Turn → Heap → Type 0
+IsAccepted t h = step (t .call) (t .stack) h .answer .refusal ≡ 0
+
+abbrev pub DeadDataHasNoVoice : Type 0
+DeadDataHasNoVoice =
+    -- one base, one table and one root list, in bytes, for both heaps; for each heap a pool, a mark stack for the collection, and the calls that follow it
+    (base : ℕ) (table roots pool pool′ stack stack′ : List ℕ) (ts us : List Turn) →
+    let h : Heap = heapOf pool table in
+    let h′ : Heap = heapOf pool′ table in
+    let first : Turn = turn (Collect base roots) stack in
+    let first′ : Turn = turn (Collect base roots) stack′ in
+    -- the heaps are equal in every byte of the objects reachable from the root list, whatever their other bytes hold
+    Agree base (wordsOf roots) h h′
+    -- both are collected from that list, and then called alike, by any calls on any bases, refused ones included
+    → Alike (first ∷ ts) (first′ ∷ us)
+    -- the collection is accepted on both. So the table is well-formed, and each pool suits it
+    → IsAccepted first h
+    → IsAccepted first′ h′
+    -- then the calls, that collection among them, do not tell the heaps apart
+    → Indistinct (first ∷ ts) (first′ ∷ us) h h′

@@ -1,0 +1,2 @@
+pub mod DeadData
+pub mod Samples
