@@ -8,6 +8,6 @@ pub mod Refusals
 pub mod Marking
 pub mod Calls
 pub mod Marks
-pub mod Pools
 pub mod Matching
+pub mod Pools
 pub mod Twice
