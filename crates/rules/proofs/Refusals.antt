@@ -179,6 +179,20 @@ named-object base h k ts e =
     (first-none (illFormed h) (outside h k ∷ noHead h k ∷ ts) (omega arith)
     (first-none (badShape base h) (illFormed h ∷ outside h k ∷ noHead h k ∷ ts) (omega arith) e .1) .1)
 
+pub after-names : (base : ℕ) (h : Heap) (k : ℕ) (ts : List Test) → firstOf (badShape base h ∷ illFormed h ∷ outside h k ∷ noHead h k ∷ ts) ≡ 0 → firstOf ts ≡ 0
+after-names base h k ts e =
+    let a = first-none (badShape base h) (illFormed h ∷ outside h k ∷ noHead h k ∷ ts) (omega arith) e in
+    let b = first-none (illFormed h) (outside h k ∷ noHead h k ∷ ts) (omega arith) (a .1) in
+    first-none (noHead h k) ts (omega arith) (first-none (outside h k) (noHead h k ∷ ts) (omega arith) (b .1) .1) .1
+
+-- a request that is not refused asks for some bytes
+pub asked : (base : ℕ) (h : Heap) (bytes : ℕ) (ts : List Test) → firstOf (badShape base h ∷ illFormed h ∷ noBytes bytes ∷ ts) ≡ 0 → 0 < bytes
+asked base h bytes ts e =
+    let a = first-none (badShape base h) (illFormed h ∷ noBytes bytes ∷ ts) (omega arith) e in
+    let b = first-none (illFormed h) (noBytes bytes ∷ ts) (omega arith) (a .1) in
+    let ne = eqb-false bytes 0 (first-none (noBytes bytes) ts (omega arith) (b .1) .0) in
+    omega arith
+
 pub named-resize : (base : ℕ) (h : Heap) (k bytes : ℕ) (ts : List Test)
     → firstOf (badShape base h ∷ illFormed h ∷ noBytes bytes ∷ outside h k ∷ noHead h k ∷ ts) ≡ 0 → (0 < bytes) × Named h k
 named-resize base h k bytes ts e =

@@ -1,102 +1,118 @@
+-- `heap::allocate` meets its contract. Assumes nothing.
+use mathlib.Core.Path.{_≡_, refl, sym, ap, _∙_}
+use mathlib.Core.Option.{some}
+use native.Mathlib.Omega.{arith}
 use borrow.Author.Needs.{needs}
+use Prim.Native.Nat.{_<_}
+use lib.IntN.{pos}
+use Rattle.rules.specs.Entries.{entriesOf}
+use Rattle.rules.specs.Tables.{firstRun}
+use Rattle.rules.proofs.Tables.{first-run}
+use Rattle.rules.specs.Outcomes.{heapOf}
+use Rattle.rules.proofs.Refusals.{Shape, few-bytes}
+use Rattle.rules.proofs.Calls.{blocks-some, blocks-least, request-nowhere}
+use Rattle.memory.specs.Places.{found}
+use Rattle.heap.proofs.Ends.{signed, gained, allocate-refused, allocate-knows, allocate-full, allocate-done}
 use Rattle.heap.proofs.allocate.Statement.{statement}
 use Rattle.heap.proofs.allocate.Tie as tie
-use Rattle.heap.proofs.allocate.Reads as reads
-use Rattle.heap.proofs.allocate.Lts as lts
-use Rattle.checks.proofs.request.Reads as request-reads
-use Rattle.heap.proofs.take.Reads as take-reads
-use Rattle.heap.proofs.unplaced.Reads as unplaced-reads
-use Rattle.memory.proofs.Bytes.blocks.Reads as blocks-reads
-use Rattle.memory.proofs.difference.Reads as difference-reads
-use Rattle.table.proofs.first_run.Reads as first-run-reads
 
--- src/lib.rt:60:9
+-- what is known once the request is not refused
+knows-at : (c : tie.Else1) → let a = c .before .before .before .before .before .before .args in (0 < a .bytes .0) × Shape (a .base .0) (heapOf (a .pool .now) (a .table .now))
+knows-at c = let a = c .before .before .before .before .before .before .args in allocate-knows (a .base .0) (a .pool .now) (a .table .now) (a .bytes .0) (c .before .request .ensures) (c .if1 .left)
+
+-- and once the start is found
+some-blocks : (c : tie.After-k) → 0 < c .before .before .before .before .blocks2 .result
+some-blocks c = rw (c .before .before .before .before .blocks2 .ensures) (blocks-some _ (knows-at (c .before .before .before .before .before .before .before) .0))
+
+start-at : (c : tie.After-k) → firstRun (entriesOf (c .before .before .before .before .before .before .before .before .before .before .before .before .before .args .table .now)) (c .before .before .before .before .blocks2 .result) ≡ some (c .k .given .0 .0 .0)
+start-at c = sym (c .before .before .first-run .ensures) ∙ ap found (c .k .given .1)
+
 request-requires : tie.Need-request-requires
 request-requires c κs = search needs
 
--- src/lib.rt:62:9
 unplaced-requires : tie.Need-unplaced-requires
 unplaced-requires c κs = search needs
 
--- src/lib.rt:62:9
 same-length : tie.Need-same-length
 same-length c = search needs
 
--- src/lib.rt:62:9
 same-length-2 : tie.Need-same-length-2
 same-length-2 c = search needs
 
--- src/lib.rt:62:9
 returns : tie.Need-returns
-returns c = ?
+returns c = rw (c .unplaced .ensures) (allocate-refused _ _ _ _ (c .before .before .request .ensures) (c .before .if1 .taken))
 
--- src/lib.rt:65:9
 unplaced-requires-2 : tie.Need-unplaced-requires-2
 unplaced-requires-2 c κs = search needs
 
--- src/lib.rt:65:9
 same-length-3 : tie.Need-same-length-3
 same-length-3 c = search needs
 
--- src/lib.rt:65:9
 same-length-4 : tie.Need-same-length-4
 same-length-4 c = search needs
 
--- src/lib.rt:65:9
 returns-2 : tie.Need-returns-2
-returns-2 c = ?
+returns-2 c =
+    let a = c .before .before .before .before .before .before .before .before .before .args in
+    rw (c .unplaced2 .ensures)
+    (allocate-full _ _ _ _ (c .before .before .before .before .request .ensures) (c .before .before .before .if1 .left)
+    (request-nowhere (entriesOf (a .table .now)) (a .pool .now) (a .bytes .0) (knows-at (c .before .before .before) .1 .pool) (c .before .if2 .taken)))
 
--- src/lib.rt:67:9
 blocks-requires : tie.Need-blocks-requires
-blocks-requires c κs = ?
+blocks-requires c κs = let shape = knows-at (c .before .before) .1 in omega (arith, shape .pool, shape .few)
 
--- src/lib.rt:68:11
 first-run-requires : tie.Need-first-run-requires
-first-run-requires c κs = ?
+first-run-requires c κs =
+    let knows = knows-at (c .before .before .before .before) in
+    (few-bytes _ _ _ (knows .1), rw (c .before .blocks2 .ensures) (blocks-some _ (knows .0)))
 
--- src/lib.rt:69:19
 enum-known-k : tie.Need-enum-known-k
 enum-known-k c = search needs
 
--- src/lib.rt:70:13
 take-requires : tie.Need-take-requires
-take-requires c κs = ?
+take-requires c κs =
+    let m = c .before .before .before in
+    let shape = knows-at (c .before .before .before .before .before .before .before .before .before .before) .1 in
+    ((few-bytes _ _ _ shape, some-blocks m), (first-run _ _ _ (some-blocks m) (start-at m) .room, omega (arith, shape .pool)))
 
--- src/lib.rt:74:25
 difference-requires : tie.Need-difference-requires
-difference-requires c κs = ?
+difference-requires c κs =
+    let shape = knows-at (c .before .before .before .before .before .before .before .before .before .before .before .before .before .before .before) .1 in
+    let few = blocks-least (c .before .before .before .before .before .before .before .before .before .before .before .before .before .before .before .before .before .before .before .before .before .args .bytes .0) 4096 (omega (arith, shape .pool, shape .few)) in
+    omega arith
 
--- src/lib.rt:77:27
 enum-told : tie.Need-enum-told
 enum-told c = search needs
 
--- src/lib.rt:77:27
 unplaced-requires-3 : tie.Need-unplaced-requires-3
 unplaced-requires-3 c κs = search needs
 
--- src/lib.rt:57:1
 same-length-5 : tie.Need-same-length-5
 same-length-5 c = search needs
 
--- src/lib.rt:57:1
 same-length-6 : tie.Need-same-length-6
 same-length-6 c = search needs
 
--- src/lib.rt:57:1
 returns-3 : tie.Need-returns-3
-returns-3 c = ?
+returns-3 c =
+    let m = c .before .before .before .before .before .before .before .before .before in
+    let count = m .before .before .before .before .blocks2 .ensures in
+    allocate-done _ _ _ _ (c .before .before .before .before .before .before .before .before .before .before .before .before .before .before .before .before .before .request .ensures) _ _ _ _ (c .before .before .before .before .before .before .before .before .before .before .before .before .before .before .before .before .if1 .left)
+    (rw count at (start-at m))
+    (rw count at (c .before .before .before .before .before .take .ensures))
+    (signed _ (c .difference .ok) ∙ c .difference .ensures ∙ gained _ ∙ ap pos count)
 
--- src/lib.rt:57:1
 same-length-7 : tie.Need-same-length-7
 same-length-7 c = search needs
 
--- src/lib.rt:57:1
 same-length-8 : tie.Need-same-length-8
 same-length-8 c = search needs
 
--- src/lib.rt:57:1
 returns-4 : tie.Need-returns-4
-returns-4 c = ?
+returns-4 c =
+    rw (c .unplaced3 .ensures)
+    (allocate-full _ _ _ _ (c .before .before .before .before .before .before .before .before .before .request .ensures) (c .before .before .before .before .before .before .before .before .if1 .left)
+    (rw (c .before .before .before .before .before .blocks2 .ensures) at (sym (c .before .before .before .first-run .ensures) ∙ ap found (c .before .enum-told .given .1))))
 
 pub allocate-spec : {M : Type 1} → statement M
 allocate-spec =

@@ -1,53 +1,37 @@
+-- `heap::store` meets its contract. Assumes nothing.
+use native.Mathlib.Omega.{arith}
 use borrow.Author.Needs.{needs}
+use Rattle.heap.proofs.Ends.{store-refused, store-done, word-inside}
 use Rattle.heap.proofs.store.Statement.{statement}
 use Rattle.heap.proofs.store.Tie as tie
-use Rattle.heap.proofs.store.Reads as reads
-use Rattle.heap.proofs.store.Lts as lts
-use Rattle.checks.proofs.word.Reads as word-reads
-use Rattle.memory.proofs.Block.first_word.Reads as first-word-reads
-use Rattle.memory.proofs.set_word.Reads as set-word-reads
 
--- src/lib.rt:253:9
 word-requires : tie.Need-word-requires
 word-requires c κs = search needs
 
--- src/lib.rt:255:9
 same-length : tie.Need-same-length
 same-length c = search needs
 
--- src/lib.rt:255:9
 returns : tie.Need-returns
-returns c = ?
+returns c = store-refused _ _ _ _ _ (c .before .word .ensures) _ (c .if1 .taken)
 
--- src/lib.rt:257:28
 first-word-requires : tie.Need-first-word-requires
-first-word-requires c κs = ?
+first-word-requires c κs = omega (arith, word-inside _ _ _ _ _ (c .before .before .word .ensures) (c .before .if1 .left) .0)
 
--- src/lib.rt:257:28
 add-set-word : tie.Need-add-set-word
-add-set-word c = ?
+add-set-word c = let w = word-inside _ _ _ _ _ (c .before .before .before .word .ensures) (c .before .before .if1 .left) in omega arith
 
--- src/lib.rt:257:5
 set-word-requires : tie.Need-set-word-requires
-set-word-requires c κs = ?
+set-word-requires c κs = let w = word-inside _ _ _ _ _ (c .before .before .before .word .ensures) (c .before .before .if1 .left) in omega arith
 
--- src/lib.rt:250:1
 same-length-2 : tie.Need-same-length-2
 same-length-2 c = search needs
 
--- src/lib.rt:250:1
 returns-2 : tie.Need-returns-2
-returns-2 c = ?
+returns-2 c =
+    store-done _ _ _ _ _ (c .before .before .before .before .before .before .word .ensures) _ _ (c .before .before .before .before .before .if1 .left)
+    (c .before .before .before .first-word .ensures) (c .before .before .set-word .ensures)
 
 pub store-spec : {M : Type 1} → statement M
 store-spec =
     tie.close
-    (tie.spec
-    word-requires
-    same-length
-    returns
-    first-word-requires
-    add-set-word
-    set-word-requires
-    same-length-2
-    returns-2)
+    (tie.spec word-requires same-length returns first-word-requires add-set-word set-word-requires same-length-2 returns-2)

@@ -1,59 +1,44 @@
+-- `heap::survey` meets its contract. Assumes nothing.
+use mathlib.Core.Path.{_≡_, sym, _∙_}
+use native.Mathlib.Omega.{arith}
 use borrow.Author.Needs.{needs}
+use Rattle.rules.specs.Entries.{entriesOf}
+use Rattle.rules.proofs.Refusals.{passed, few-bytes}
+use Rattle.rules.proofs.Tables.{used-le, objects-le, longest-says}
+use Rattle.heap.proofs.Ends.{survey-refused, survey-done}
 use Rattle.heap.proofs.survey.Statement.{statement}
 use Rattle.heap.proofs.survey.Tie as tie
-use Rattle.heap.proofs.survey.Reads as reads
-use Rattle.heap.proofs.survey.Lts as lts
-use Rattle.checks.proofs.heap.Reads as heap-reads
-use Rattle.table.proofs.longest.Reads as longest-reads
-use Rattle.table.proofs.objects.Reads as objects-reads
-use Rattle.table.proofs.used.Reads as used-reads
 
--- src/lib.rt:215:9
 heap-requires : tie.Need-heap-requires
 heap-requires c κs = search needs
 
--- src/lib.rt:217:9
 returns : tie.Need-returns
-returns c = ?
+returns c = survey-refused _ _ _ (c .before .heap .ensures) (c .if1 .taken)
 
--- src/lib.rt:226:15
 used-requires : tie.Need-used-requires
-used-requires c κs = ?
+used-requires c κs = few-bytes _ _ _ (passed _ _ _ (sym (c .before .heap .ensures) ∙ c .if1 .left) .shape)
 
--- src/lib.rt:226:15
 cast-t7 : tie.Need-cast-t7
-cast-t7 c = ?
+cast-t7 c = omega (arith, passed _ _ _ (sym (c .before .before .heap .ensures) ∙ c .before .if1 .left) .shape .few, used-le (entriesOf (c .before .before .before .before .before .args .table .now)))
 
--- src/lib.rt:227:18
 objects-requires : tie.Need-objects-requires
-objects-requires c κs = ?
+objects-requires c κs = few-bytes _ _ _ (passed _ _ _ (sym (c .before .before .heap .ensures) ∙ c .before .if1 .left) .shape)
 
--- src/lib.rt:227:18
 cast-t9 : tie.Need-cast-t9
-cast-t9 c = ?
+cast-t9 c = omega (arith, passed _ _ _ (sym (c .before .before .before .heap .ensures) ∙ c .before .before .if1 .left) .shape .few, objects-le (entriesOf (c .before .before .before .before .before .before .args .table .now)))
 
--- src/lib.rt:228:18
 longest-requires : tie.Need-longest-requires
-longest-requires c κs = ?
+longest-requires c κs = few-bytes _ _ _ (passed _ _ _ (sym (c .before .before .before .heap .ensures) ∙ c .before .before .if1 .left) .shape)
 
--- src/lib.rt:228:18
 cast-t11 : tie.Need-cast-t11
-cast-t11 c = ?
+cast-t11 c = omega (arith, passed _ _ _ (sym (c .before .before .before .before .heap .ensures) ∙ c .before .before .before .if1 .left) .shape .few, longest-says (entriesOf (c .before .before .before .before .before .before .before .args .table .now)) .run .room)
 
--- src/lib.rt:212:1
 returns-2 : tie.Need-returns-2
-returns-2 c = ?
+returns-2 c =
+    survey-done _ _ _ (c .before .before .before .before .heap .ensures) _ _ _ (c .before .before .before .if1 .left)
+    (c .before .before .used .ensures) (c .before .objects .ensures) (c .longest .ensures)
 
 pub survey-spec : {M : Type 1} → statement M
 survey-spec =
     tie.close
-    (tie.spec
-    heap-requires
-    returns
-    used-requires
-    cast-t7
-    objects-requires
-    cast-t9
-    longest-requires
-    cast-t11
-    returns-2)
+    (tie.spec heap-requires returns used-requires cast-t7 objects-requires cast-t9 longest-requires cast-t11 returns-2)

@@ -1,31 +1,36 @@
+-- `heap::take` meets its contract. Assumes nothing.
+use mathlib.Core.Path.{_≡_, refl}
+use mathlib.Core.List.{List}
+use Prim.Native.Nat.{ℕ}
+use native.Mathlib.Omega.{arith}
 use borrow.Author.Needs.{needs}
+use Rattle.rules.specs.Entries.{entriesOf}
+use Rattle.rules.specs.Tables.{placed}
+use Rattle.rules.specs.Outcomes.{heapOf, clearedBlocks}
+use Rattle.rules.specs.Calls.{taken}
+use Rattle.rules.proofs.Entries.{length-entriesOf}
 use Rattle.heap.proofs.take.Statement.{statement}
 use Rattle.heap.proofs.take.Tie as tie
-use Rattle.heap.proofs.take.Reads as reads
-use Rattle.heap.proofs.take.Lts as lts
-use Rattle.heap.proofs.clear_blocks.Reads as clear-blocks-reads
-use Rattle.table.proofs.place.Reads as place-reads
 
--- src/lib.rt:98:5
+both : (pool table pool′ table′ : List ℕ) (k b : ℕ) → pool′ ≡ clearedBlocks pool k b → entriesOf table′ ≡ placed (entriesOf table) k b
+    → heapOf pool′ table′ ≡ taken (heapOf pool table) k b
+unfolding taken
+both pool table pool′ table′ k b p t = rw (p, t)
+
 place-requires : tie.Need-place-requires
 place-requires c κs = search needs
 
--- src/lib.rt:99:5
 clear-blocks-requires : tie.Need-clear-blocks-requires
-clear-blocks-requires c κs = ?
+clear-blocks-requires c κs = let l = length-entriesOf (c .before .before .before .before .before .before .before .args .table .now) in omega arith
 
--- src/lib.rt:93:1
 same-length : tie.Need-same-length
 same-length c = search needs
 
--- src/lib.rt:93:1
 same-length-2 : tie.Need-same-length-2
 same-length-2 c = search needs
 
--- src/lib.rt:93:1
 returns : tie.Need-returns
-returns c = ?
+returns c = both _ _ _ _ _ _ (c .before .before .clear-blocks .ensures) (c .before .before .before .before .before .before .place .ensures)
 
 pub take-spec : {M : Type 1} → statement M
-take-spec =
-    tie.close (tie.spec place-requires clear-blocks-requires same-length same-length-2 returns)
+take-spec = tie.close (tie.spec place-requires clear-blocks-requires same-length same-length-2 returns)
