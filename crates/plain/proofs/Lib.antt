@@ -2,3 +2,4 @@ pub mod Sums
 pub mod Laid
 pub mod Gaps
 pub mod Edits
+pub mod Words
