@@ -3,3 +3,4 @@ pub mod Laid
 pub mod Gaps
 pub mod Edits
 pub mod Words
+pub mod Agrees
