@@ -4,3 +4,4 @@ pub mod Gaps
 pub mod Edits
 pub mod Words
 pub mod Agrees
+pub mod Acts

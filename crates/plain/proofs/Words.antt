@@ -9,7 +9,7 @@ use lib.ListN.{length, getD, take, drop, replicate, length-append, length-drop, 
 use lib.Seq.{sets, length-take-le, getD-append-add, getD-take, getD-drop}
 use Rattle.rules.specs.Words.{number, bytesOf, wordAt, withWord}
 use Rattle.rules.proofs.Lists.{sets-out, sets-in}
-use Rattle.rules.proofs.Words.{number-bytesOf, wordAt-same}
+use Rattle.rules.proofs.Words.{number-bytesOf, length-bytesOf, wordAt-same}
 
 -- m words stored from word a on
 module _ (pool vs : List ℕ) (a m : ℕ) (whole : length vs ≡ 4 * m) where
@@ -74,3 +74,10 @@ word-part xs a n i h =
     wordAt-same (take (4 * n) (drop (4 * a) xs)) xs i (a + i)
     (λ c u. let e : 4 * (a + i) + c ≡ 4 * a + (4 * i + c) = omega arith in
     getD-take (4 * n) (drop (4 * a) xs) (4 * i + c) 0 (omega arith) ∙ rw e (getD-drop (4 * a) xs (4 * i + c) 0))
+
+-- one word stored
+pub word-stored : (pool : List ℕ) (a w : ℕ) → 4 * (a + 1) ≤ length pool → wordAt (withWord pool a w) a ≡ w % 2 ^ 32
+unfolding withWord
+word-stored pool a w h =
+    let e : a + 0 ≡ a = omega arith in
+    (rw e at (words-in pool (bytesOf w) a 1 (length-bytesOf w) h 0 (omega arith))) ∙ word-bytes w
