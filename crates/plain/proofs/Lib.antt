@@ -5,3 +5,5 @@ pub mod Edits
 pub mod Words
 pub mod Agrees
 pub mod Acts
+pub mod Places
+pub mod Resizes

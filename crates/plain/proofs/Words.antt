@@ -22,7 +22,7 @@ module _ (pool vs : List ℕ) (a m : ℕ) (whole : length vs ≡ 4 * m) where
       wordAt-same (sets pool (4 * a) vs) vs (a + j) j
       (λ c l. let e : 4 * (a + j) + c ≡ 4 * a + (4 * j + c) = omega arith in rw e (sets-in pool (4 * a) vs (4 * j + c) 0 (omega arith) (omega arith)))
 
-zero-at : (n i : ℕ) → _≡_ {A = ℕ} (getD (replicate n 0) i 0) 0
+pub zero-at : (n i : ℕ) → _≡_ {A = ℕ} (getD (replicate n 0) i 0) 0
 zero-at zero i = refl
 zero-at (suc n) zero = refl
 zero-at (suc n) (suc i) = zero-at n i
@@ -81,3 +81,15 @@ unfolding withWord
 word-stored pool a w h =
     let e : a + 0 ≡ a = omega arith in
     (rw e at (words-in pool (bytesOf w) a 1 (length-bytesOf w) h 0 (omega arith))) ∙ word-bytes w
+
+-- words with zeros after them
+pub padded-front : (ws : List ℕ) (n m j : ℕ) → length ws ≡ n → j < n → getD (ws ++ replicate m 0) j 0 ≡ getD ws j 0
+padded-front ws n m j l h = List·getD-append ws (replicate m 0) 0 j (omega arith)
+
+pub padded-rest : (ws : List ℕ) (n m j : ℕ) → length ws ≡ n → n ≤ j → getD (ws ++ replicate m 0) j 0 ≡ 0
+padded-rest ws n m j l h =
+    let e : j ≡ length ws + (j - n) = omega arith in
+    rw e (getD-append-add ws (replicate m 0) (j - n) 0 ∙ zero-at m (j - n))
+
+pub padded-length : (ws : List ℕ) (n m k : ℕ) → length ws ≡ n → n + m ≡ k → length (ws ++ replicate m 0) ≡ k
+padded-length ws n m k l e = simp (length-append, length-replicate) (omega arith)
