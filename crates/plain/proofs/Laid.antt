@@ -95,19 +95,23 @@ module _ {pool es : List ℕ} where
       go (no p) (no q) (yes u) rest = further (y .tails k (omega arith) u) (k - 1) (omega arith) (lies-used y (k - 1) (omega arith) (omega arith))
       go (no p) (no q) (no u) rest = rest (omega arith)
 
+  -- no block is MARK
+  pub laid-unmarked : {os : List Object} → Laid pool es 0 os → (k : ℕ) → entryAt es k ≢ MARK
+  laid-unmarked d k = go (kind d k (omega arith))
+    where
+      go : Kind es k → entryAt es k ≢ MARK
+      go (unused e) = λ m. omega arith
+      go (first e) = λ m. omega arith
+      go (further e j q u) = λ m. omega arith
+
   -- the table is well-formed
   pub laid-well : {os : List Object} → Laid pool es 0 os → wellFormed es ≡ true
   laid-well {os} d = well-of es (record {
-    no-mark = λ k h. no-mark k (kind d k (omega arith));
+    no-mark = λ k h. laid-unmarked d k;
     first = λ h. laid-start d;
     after = λ k h. after k (kind d (suc k) (omega arith));
   })
     where
-      no-mark : (k : ℕ) → Kind es k → entryAt es k ≢ MARK
-      no-mark k (unused e) = λ m. omega arith
-      no-mark k (first e) = λ m. omega arith
-      no-mark k (further e j q u) = λ m. omega arith
-
       after : (k : ℕ) → Kind es (suc k) → entryAt es (suc k) ≡ TAIL → entryAt es k ≢ FREE
       after k (unused e) t = absurd (omega arith)
       after k (first e) t = absurd (omega arith)

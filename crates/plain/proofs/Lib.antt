@@ -7,3 +7,4 @@ pub mod Agrees
 pub mod Acts
 pub mod Places
 pub mod Resizes
+pub mod Traces
