@@ -85,3 +85,170 @@ module _ (pool es : List ℕ) where
         go true p true q false u = rw (led-none d (rw (p, q, u))) nowhere
         go true p false q c u = rw (led-none d (rw (p, q))) nowhere
         go false p b q c u = rw (led-none d (rw p)) nowhere
+
+-- ---- steps of the marking
+
+abbrev pub starts : List Object → List ℕ
+starts os = map (λ (o : Object). o .start) os
+
+-- the words of an object can also be taken the first last
+walk-front : (c : Scene) (first n : ℕ) (z : State) → walkWords c first (suc n) z ≡ visit c (wordAt (c .pool) first) (walkWords c (suc first) n z)
+unfolding walkWords
+walk-front c first zero z = let e : first + 0 ≡ first = omega arith in rw e
+walk-front c first (suc n) z =
+    let e : first + suc n ≡ suc first + n = omega arith in
+    walk-front c first n (visit c (wordAt (c .pool) (first + suc n)) z) ∙ rw e
+
+drain-empty : (c : Scene) (z : State) → z .stack ≡ [] → drain c z ≡ z
+drain-empty c z e =
+    ap (λ (l : List ℕ). drain c (state (z .entries) l (z .overflow))) e ∙ drain-nil c (z .entries) (z .overflow)
+    ∙ ap (λ (l : List ℕ). state (z .entries) l (z .overflow)) (sym e)
+
+drain-top : (c : Scene) (z : State) (k : ℕ) (st : List ℕ) → z .stack ≡ k ∷ st → drain c z ≡ drain c (walk c k (state (z .entries) st (z .overflow)))
+drain-top c z k st e = ap (λ (l : List ℕ). drain c (state (z .entries) l (z .overflow))) e ∙ drain-pop c (z .entries) k st (z .overflow)
+
+pass-split : (c : Scene) (k a b : ℕ) (z : State) → passFrom c k (a + b) z ≡ passFrom c (k + a) b (passFrom c k a z)
+unfolding passFrom
+pass-split c k zero b z =
+    let e : k + 0 ≡ k = omega arith in
+    let f : 0 + b ≡ b = omega arith in
+    rw (e, f)
+pass-split c k (suc a) b z =
+    let e : k + suc a ≡ suc k + a = omega arith in
+    let f : suc a + b ≡ suc (a + b) = omega arith in
+    rw (e, f) (pass-split c (suc k) a b (passBlock c k z))
+
+module _ (base : ℕ) (pool es₀ : List ℕ) (os : List Object) (room : ℕ) (laid : Laid pool es₀ 0 os) where
+  abbrev c : Scene
+  c = record { base = base; pool = pool; room = room }
+
+  abbrev v : View
+  v = record { base = base; objects = os; room = room }
+
+  -- the state of the table's marking is that of the list's
+  pub record Follows (s : Progress) (z : State) : Type 0 where
+    pub marks : Marks es₀ (z .entries)
+    pub marked : (k : ℕ) → eqb (entryAt (z .entries) k) MARK ≡ isIn k (s .marked)
+    pub few : objects (z .entries) ≤ length os
+    pub stack : z .stack ≡ starts (s .stack)
+    pub known : (o : Object) → List·Memᴰ o (s .stack) → Known pool es₀ o
+    pub overflow : z .overflow ≡ s .overflow
+
+  -- an object that is marked is MARK
+  is-marked : {s : Progress} {z : State} (o : Object) → Follows s z → isIn (o .start) (s .marked) ≡ true → entryAt (z .entries) (o .start) ≡ MARK
+  is-marked o f e = eqb-true _ _ (f .marked (o .start) ∙ e)
+
+  -- and else still HEAD
+  not-marked : {s : Progress} {z : State} (o : Object) → Known pool es₀ o → Follows s z → isIn (o .start) (s .marked) ≡ false → entryAt (z .entries) (o .start) ≡ HEAD
+  not-marked o n f e = ⊎-elim (λ q. q ∙ n .head) (λ q. absurd (eqb-false _ _ (f .marked (o .start) ∙ e) (q .1))) (f .marks .at (o .start))
+
+  mark-follows : {s : Progress} {z : State} (o : Object) → entryAt (z .entries) (o .start) ≡ HEAD → Follows s z → Follows (mark o s) (marked (o .start) z)
+  unfolding isIn
+  mark-follows {s} {z} o h f =
+      record {
+        marks = marks-more es₀ (z .entries) (o .start) (f .marks) h;
+        marked = λ k. go k (ℕ-discrete k (o .start));
+        few = omega (arith, objects-mark (z .entries) (o .start) h, f .few);
+        stack = f .stack;
+        known = f .known;
+        overflow = f .overflow;
+      }
+    where
+      go : (k : ℕ) → Dec (k ≡ o .start) → eqb (entryAt (set (z .entries) (o .start) MARK) k) MARK ≡ either (eqb k (o .start)) (isIn k (s .marked))
+      go k (yes e) = rw (eq-eqb k (o .start) e, e, getD-set-same (z .entries) (o .start) MARK FREE (head-inside (z .entries) (o .start) h))
+      go k (no e) = rw (ne-eqb k (o .start) e, getD-set-other (z .entries) (o .start) k MARK FREE e) (f .marked k)
+
+  push-follows : {s : Progress} {z : State} (o : Object) → Known pool es₀ o → Follows s z → Follows (push v o s) (pushed c (o .start) z)
+  unfolding push pushed
+  push-follows {s} {z} o n f = rw l (go (ltb (length (s .stack)) room))
+    where
+      l : length (z .stack) ≡ length (s .stack)
+      l = ap length (f .stack) ∙ length-map (s .stack) (λ (o : Object). o .start)
+
+      go : (t : Bool) → Follows (pick t (progress (s .marked) (o ∷ s .stack) (s .overflow)) (progress (s .marked) (s .stack) true))
+          (pick t (state (z .entries) (o .start ∷ z .stack) (z .overflow)) (state (z .entries) (z .stack) true))
+      go true =
+          record {
+            marks = f .marks;
+            marked = f .marked;
+            few = f .few;
+            stack = ap (λ (l : List ℕ). o .start ∷ l) (f .stack);
+            known = λ x m. ⊎-elim (λ e. rw e n) (λ t. f .known x t) (List·Memᴰ·cases-cons m);
+            overflow = f .overflow;
+          }
+      go false = record { marks = f .marks; marked = f .marked; few = f .few; stack = f .stack; known = f .known; overflow = refl }
+
+  -- a word leads to the same object while objects are marked
+  leads-now : {s : Progress} {z : State} → Follows s z → (w : ℕ) → Led pool es₀ (ledTo base w os) (leadsTo base (z .entries) w)
+  leads-now {s} {z} f w = rw (marks-leads base es₀ (z .entries) w (f .marks)) (leads-agree pool es₀ base w laid)
+
+  follow-to : {s : Progress} {z : State} → Follows s z → {x : Option Object} {y : Option ℕ} → Led pool es₀ x y → Follows (followTo v s x) (visitTo c z y)
+  unfolding followTo visitTo
+  follow-to f nowhere = f
+  follow-to {s} {z} f (object o n) = go (isIn (o .start) (s .marked)) refl
+    where
+      go : (t : Bool) → isIn (o .start) (s .marked) ≡ t
+          → Follows (pick t s (push v o (mark o s))) (pick (isHead (entryAt (z .entries) (o .start))) (pushed c (o .start) (marked (o .start) z)) z)
+      go true e = rw (is-marked o f e) f
+      go false e = let h = not-marked o n f e in rw h (push-follows o n (mark-follows o h f))
+
+  follow-follows : {s : Progress} {z : State} (w : ℕ) → Follows s z → Follows (follow v w s) (visit c w z)
+  unfolding follow visit
+  follow-follows w f = follow-to f (leads-now f w)
+
+  words-follow : (ws : List ℕ) (first : ℕ) → ((i : ℕ) → i < length ws → getD ws i 0 ≡ wordAt pool (first + i)) → {s : Progress} {z : State} → Follows s z
+      → Follows (followAll v ws s) (walkWords c first (length ws) z)
+  unfolding followAll walkWords
+  words-follow [] first at f = f
+  words-follow (w ∷ ws) first at {z = z} f =
+      let e : first + 0 ≡ first = omega arith in
+      let h : w ≡ wordAt pool first = rw e at (at 0 (omega arith)) in
+      rw (h, walk-front c first (length ws) z)
+      (follow-follows (wordAt pool first)
+      (words-follow ws (suc first) (λ i l. let g : suc first + i ≡ first + suc i = omega arith in rw g (at (suc i) (omega arith))) f))
+
+  walk-follows : {s : Progress} {z : State} (o : Object) → Known pool es₀ o → Follows s z → Follows (followAll v (o .words) s) (walk c (o .start) z)
+  unfolding walk
+  walk-follows {z = z} o n f =
+      let b : 4 * blockCount (z .entries) (o .start) ≡ length (o .words) =
+      ap (λ (m : ℕ). 4 * m) (marks-count es₀ (z .entries) (o .start) (f .marks) ∙ n .count) ∙ sym (n .words .long) in
+      let l = n .words .long in
+      rw b (words-follow (o .words) (4 * o .start) (λ i u. n .words .at i (omega arith)) f)
+
+  -- ---- the stack is emptied
+
+  empty-follows : (m : ℕ) {s : Progress} {z : State} → Follows s z → toDrain z ≤ m → Follows (emptyFor m v s) (drain c z)
+  unfolding emptyFor toDrain
+  empty-follows zero {s} {z} f l = rw (drain-empty c z (nil (z .stack) (omega arith))) f
+    where
+      nil : (st : List ℕ) → length st ≤ 0 → st ≡ []
+      nil [] h = refl
+      nil (k ∷ st) h = absurd (omega arith)
+  empty-follows (suc m) {s} {z} f l = go (s .stack) refl (λ q r u. empty-follows m {s = q} {z = r} u)
+    where
+      go : (st : List Object) → s .stack ≡ st → ((q : Progress) (r : State) → Follows q r → toDrain r ≤ m → Follows (emptyFor m v q) (drain c r))
+          → Follows (elim st [ [] ↦ s | o ∷ rest ↦ emptyFor m v (followAll v (o .words) (progress (s .marked) rest (s .overflow))) ]) (drain c z)
+      go [] e rec = rw (drain-empty c z (f .stack ∙ ap starts e)) f
+      go (o ∷ st) e rec =
+          let t : z .stack ≡ o .start ∷ starts st = f .stack ∙ ap starts e in
+          let g : Follows (progress (s .marked) st (s .overflow)) (state (z .entries) (starts st) (z .overflow)) =
+          record {
+            marks = f .marks;
+            marked = f .marked;
+            few = f .few;
+            stack = refl;
+            known = λ x i. f .known x (rw e (List·Memᴰ·tail i));
+            overflow = f .overflow;
+          } in
+          let n = f .known o (rw e (List·Memᴰ·head refl)) in
+          let p = pop-measure c (z .entries) (o .start) (starts st) (z .overflow) in
+          let q : length (z .stack) ≡ suc (length (starts st)) = ap length t in
+          rw (drain-top c z (o .start) (starts st) t) (rec _ _ (walk-follows o n g) (omega arith))
+
+  subtree-follows : {s : Progress} {z : State} (o : Object) → Known pool es₀ o → Follows s z → Follows (subtree v o s) (trace c (o .start) z)
+  unfolding subtree trace empty toDrain
+  subtree-follows {s} {z} o n f =
+      let g = walk-follows o n f in
+      let q = followAll v (o .words) s in
+      let l : length (walk c (o .start) z .stack) ≡ length (q .stack) = ap length (g .stack) ∙ length-map (q .stack) (λ (o : Object). o .start) in
+      empty-follows (length os + length (q .stack)) g (omega (arith, g .few))
