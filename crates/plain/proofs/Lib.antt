@@ -8,3 +8,4 @@ pub mod Acts
 pub mod Places
 pub mod Resizes
 pub mod Traces
+pub mod Sweeps

@@ -24,6 +24,7 @@ use Rattle.rules.proofs.Marking.{head-inside, objects-mark, toDrain, pop-measur
 use Rattle.rules.proofs.Marks.{Marks, marks-none, marks-more, marks-count, marks-leads}
 use Rattle.plain.specs.Objects.{Object, end, find}
 use Rattle.plain.specs.Tracing.{View, Progress, progress, isIn, ledTo, mark, push, followTo, follow, followAll, emptyFor, empty, subtree, fromRootTo, fromRoots, goThrough, again, Traced, againFor}
+use Rattle.plain.specs.Tracing as list
 use Rattle.plain.proofs.Laid.{Holds, Clear, Lies, Laid, done, next, lies-extent, laid-unmarked, Found, missing, there, finds}
 use Rattle.plain.proofs.Gaps.{laid-objects}
 
@@ -252,3 +253,137 @@ module _ (base : ℕ) (pool es₀ : List ℕ) (os : List Object) (room : ℕ) (l
       let q = followAll v (o .words) s in
       let l : length (walk c (o .start) z .stack) ≡ length (q .stack) = ap length (g .stack) ∙ length-map (q .stack) (λ (o : Object). o .start) in
       empty-follows (length os + length (q .stack)) g (omega (arith, g .few))
+
+  -- ---- the roots
+
+  root-to : {s : Progress} {z : State} → Follows s z → {x : Option Object} {y : Option ℕ} → Led pool es₀ x y → Follows (fromRootTo v s x) (rootTo c z y)
+  unfolding fromRootTo rootTo
+  root-to f nowhere = f
+  root-to {s} {z} f (object o n) = go (isIn (o .start) (s .marked)) refl
+    where
+      go : (t : Bool) → isIn (o .start) (s .marked) ≡ t
+          → Follows (pick t s (subtree v o (mark o s))) (pick (isHead (entryAt (z .entries) (o .start))) (trace c (o .start) (marked (o .start) z)) z)
+      go true e = rw (is-marked o f e) f
+      go false e = let h = not-marked o n f e in rw h (subtree-follows o n (mark-follows o h f))
+
+  roots-follow : (ws : List ℕ) {s : Progress} {z : State} → Follows s z → Follows (fromRoots v ws s) (markRoots c ws z)
+  unfolding fromRoots markRoots markRoot
+  roots-follow [] f = f
+  roots-follow (w ∷ ws) f = roots-follow ws (root-to f (leads-now f w))
+
+  -- ---- a pass
+
+  -- blocks that head no object are passed over
+  pass-over : (m k : ℕ) (z : State) → Marks es₀ (z .entries) → ((j : ℕ) → k ≤ j → j < k + m → entryAt es₀ j ≢ HEAD) → passFrom c k m z ≡ z
+  unfolding passFrom
+  pass-over zero k z g n = refl
+  pass-over (suc m) k z g n =
+      let e : passBlock c k z ≡ z =
+      pass-skips c k z (λ q. ⊎-elim (λ t. laid-unmarked laid k (sym t ∙ q)) (λ t. n k (omega arith) (omega arith) (t .0)) (g .at k)) in
+      rw e (pass-over m (suc k) z g (λ j l u. n j (omega arith) (omega arith)))
+
+  block-follows : {s : Progress} {z : State} (o : Object) → Known pool es₀ o → Follows s z
+      → Follows (pick (isIn (o .start) (s .marked)) (subtree v o s) s) (passBlock c (o .start) z)
+  unfolding passBlock
+  block-follows {s} {z} o n f = rw (f .marked (o .start)) (go (isIn (o .start) (s .marked)))
+    where
+      go : (t : Bool) → Follows (pick t (subtree v o s) s) (pick t (trace c (o .start) z) z)
+      go true = subtree-follows o n f
+      go false = f
+
+  -- an object's blocks: its head is passed, and its other blocks are passed over
+  object-over : (o : Object) → Lies pool es₀ o → (z : State) → Marks es₀ (passBlock c (o .start) z .entries)
+      → passFrom c (o .start) (o .blocks) z ≡ passBlock c (o .start) z
+  unfolding passFrom
+  object-over o y z g =
+      let p : o .blocks ≡ suc (o .blocks - 1) = omega (arith, y .some-block) in
+      ap (λ (i : ℕ). passFrom c (o .start) i z) p
+      ∙ pass-over (o .blocks - 1) (suc (o .start)) (passBlock c (o .start) z) g (λ j k q. let t = y .tails j (omega arith) (omega arith) in λ h. omega arith)
+
+  through-follows : {from : ℕ} {xs : List Object} → Laid pool es₀ from xs → (m : ℕ) → from + m ≡ length es₀ → {s : Progress} {z : State} → Follows s z
+      → Follows (goThrough v xs s) (passFrom c from m z)
+  unfolding goThrough
+  through-follows {from} (done r g) m l {z = z} f =
+      rw (pass-over m from z (f .marks) (λ j p q. let e = g j p (omega arith) in λ h. omega arith)) f
+  through-follows {from} (next {o = o} {os = xs} l g y e r) m u {s = s} {z = z} f =
+      rw (split, gap, object-over o y z (b .marks))
+      (through-follows r (length es₀ - end o) (omega arith) b)
+    where
+      n : Known pool es₀ o
+      n = record { head = y .head; count = count-is es₀ (o .start) (o .blocks) (lies-extent y r); words = y .words }
+
+      b : Follows (pick (isIn (o .start) (s .marked)) (subtree v o s) s) (passBlock c (o .start) z)
+      b = block-follows o n f
+
+      split : passFrom c from m z ≡ passFrom c (end o) (length es₀ - end o) (passFrom c (o .start) (o .blocks) (passFrom c from (o .start - from) z))
+      split =
+          let p : m ≡ (o .start - from) + (o .blocks + (length es₀ - end o)) = omega arith in
+          let q : from + (o .start - from) ≡ o .start = omega arith in
+          ap (λ (i : ℕ). passFrom c from i z) p ∙ pass-split c from (o .start - from) (o .blocks + (length es₀ - end o)) z
+          ∙ ap (λ (i : ℕ). passFrom c i (o .blocks + (length es₀ - end o)) (passFrom c from (o .start - from) z)) q
+          ∙ pass-split c (o .start) (o .blocks) (length es₀ - end o) (passFrom c from (o .start - from) z)
+
+      gap : passFrom c from (o .start - from) z ≡ z
+      gap = pass-over (o .start - from) from z (f .marks) (λ j p q. let t = g j p (omega arith) in λ h. omega arith)
+
+  again-follows : {s : Progress} {z : State} → Follows s z → Follows (again v s) (pass c z)
+  unfolding again pass
+  again-follows {s} {z} f =
+      rw (f .marks .long)
+      (through-follows laid (length es₀) (omega arith)
+      (record { marks = f .marks; marked = f .marked; few = f .few; stack = f .stack; known = f .known; overflow = refl }))
+
+  -- ---- the rescans
+
+  -- the end of the marking
+  pub record Ends (t : Traced) (m : Marked) : Type 0 where
+    pub marks : Marks es₀ (m .last .entries)
+    pub marked : (k : ℕ) → eqb (entryAt (m .last .entries) k) MARK ≡ isIn k (t .reached)
+    pub rescans : m .rescans ≡ t .rescans
+
+  ends-here : {s : Progress} {z : State} (r : ℕ) → Follows s z → z .overflow ≡ false → Ends (record { reached = s .marked; rescans = r }) (rescan c z r)
+  ends-here {s} {z} r f e = rw (rescan-done c z r e) (record { marks = f .marks; marked = f .marked; rescans = refl })
+
+  rescans-follow : (n : ℕ) {s : Progress} {z : State} (r : ℕ) → Follows s z → toRescan z ≤ n → Ends (againFor n v s r) (rescan c z r)
+  unfolding againFor toRescan
+  rescans-follow zero {s} {z} r f l = ends-here r f (go (z .overflow) l)
+    where
+      go : (o : Bool) → pick o (suc (objects (z .entries))) 0 ≤ 0 → o ≡ false
+      go true h = absurd (omega arith)
+      go false h = refl
+  rescans-follow (suc n) {s} {z} r f l = go (s .overflow) refl (λ q y u. rescans-follow n {s = q} {z = y} (suc r) u)
+    where
+      go : (o : Bool) → s .overflow ≡ o → ((q : Progress) (y : State) → Follows q y → toRescan y ≤ n → Ends (againFor n v q (suc r)) (rescan c y (suc r)))
+          → Ends (elim o [ true ↦ againFor n v (again v s) (suc r) | false ↦ record { reached = s .marked; rescans = r } ]) (rescan c z r)
+      go true e rec =
+          let t : z .overflow ≡ true = f .overflow ∙ e in
+          rw (rescan-more c z r t) (rec (again v s) (pass c z) (again-follows f) (omega (arith, pass-measure c z t)))
+      go false e rec = ends-here r f (f .overflow ∙ e)
+
+  -- ---- the whole marking
+
+  none-marked : (k : ℕ) → eqb (entryAt es₀ k) MARK ≡ isIn k []
+  unfolding isIn
+  none-marked k = ne-eqb _ _ (laid-unmarked laid k)
+
+  pub trace-follows : (roots : List ℕ) → Ends (list.trace v roots) (markAll c roots es₀)
+  unfolding list.trace markAll toRescan
+  trace-follows roots =
+      let f : Follows (progress [] [] false) (state es₀ [] false) =
+      record {
+        marks = marks-none es₀;
+        marked = none-marked;
+        few = omega (arith, laid-objects laid);
+        stack = refl;
+        known = λ o m. absurd (List·Memᴰ·not-nil m);
+        overflow = refl;
+      } in
+      let g = roots-follow roots f in
+      rescans-follow (suc (length os)) 0 g (most (markRoots c roots (state es₀ [] false)) (g .few))
+    where
+      most : (z : State) → objects (z .entries) ≤ length os → toRescan z ≤ suc (length os)
+      most z l = go (z .overflow)
+        where
+          go : (o : Bool) → pick o (suc (objects (z .entries))) 0 ≤ suc (length os)
+          go true = omega arith
+          go false = omega arith
