@@ -9,3 +9,4 @@ pub mod Places
 pub mod Resizes
 pub mod Traces
 pub mod Sweeps
+pub mod Refinement
