@@ -1,31 +1,27 @@
--- Each call but collect agrees with the plain list: what it does to pool and table is what the list's rule does to the objects.
+-- Init, survey, load and store agree with the plain list.
 -- Assumes nothing.
 use mathlib.Core.Path.{_≡_, refl, sym, ap, _∙_}
-use mathlib.Core.Logic.{_≢_, _⊎_, inl, inr, ⊎-elim}
-use mathlib.Core.Bool.{Bool, true, false, not}
-use mathlib.Core.List.{List, [], _∷_, _++_}
-use mathlib.Core.Option.{Option, some, none}
-use Prim.Native.Nat.{ℕ, zero, suc, _+_, _-_, _*_, _%_, _^_, _≤_, _<_}
-use native.Mathlib.Decide.{ℕ-discrete, decLt}
+use mathlib.Core.Bool.{not}
+use mathlib.Core.List.{List, [], _∷_}
+use Prim.Native.Nat.{ℕ, _+_, _*_, _%_, _^_, _<_}
+use native.Mathlib.Decide.{ℕ-discrete}
 use native.Mathlib.Omega.{arith}
-use lib.Dec.{eqb, leb, ltb}
-use lib.ListN.{length, getD, set, take, drop, replicate, length-set, length-replicate, getD-replicate}
+use lib.Dec.{leb}
+use lib.ListN.{length, getD, set, replicate, length-set, length-replicate, getD-replicate}
 use lib.Seq.{getD-set-same, getD-set-other}
-use borrow.Author.Tests.{eq-eqb, ne-eqb, le-leb, leb-true, leb-false, ltb-true, ltb-false, eqb-true, eqb-false}
-use Rattle.rules.specs.Words.{wordAt, withWord, bytesOf}
-use Rattle.rules.specs.Entries.{FREE, HEAD, TAIL}
-use Rattle.rules.specs.Tables.{entryAt, blockCount}
-use Rattle.rules.specs.Meaning.{Extent, Run}
-use Rattle.rules.specs.Outcomes.{Heap, Outcome, onlyRefusal, surveyed, loaded, leaves, unlessRefused}
-use Rattle.rules.specs.Refusals.{Test, firstOf, goodShape, badShape, illFormed, noBytes, outside, noHead, noWord, noRoom}
+use borrow.Author.Tests.{leb-false}
+use Rattle.rules.specs.Words.{wordAt, withWord}
+use Rattle.rules.specs.Entries.{FREE}
+use Rattle.rules.specs.Meaning.{Extent}
+use Rattle.rules.specs.Outcomes.{Heap, unlessRefused}
+use Rattle.rules.specs.Refusals.{firstOf, badShape, outside, noHead, noWord}
 use Rattle.rules.specs.Calls.{init, survey, load, store}
-use Rattle.rules.specs.Runs.{Init, Allocate, Free, Reallocate, Survey, Load, Store}
+use Rattle.rules.specs.Runs.{Init, Survey, Load, Store}
 use Rattle.rules.proofs.Words.{length-withWord, wordAt-other}
 use Rattle.rules.proofs.Tables.{count-is}
-use Rattle.rules.proofs.Refusals.{shape-true}
-use Rattle.plain.specs.Objects.{Object, object, Plain, end, find, replace}
-use Rattle.plain.specs.Replies.{Reply, becomes, refuseIf, misplaced, loadedFrom, storedIn, reply}
-use Rattle.plain.proofs.Laid.{Holds, Lies, Laid, done}
+use Rattle.plain.specs.Objects.{Object, object, Plain}
+use Rattle.plain.specs.Replies.{misplaced, loadedFrom, storedIn, reply}
+use Rattle.plain.proofs.Laid.{Lies, Laid, done}
 use Rattle.plain.proofs.Gaps.{laid-used, laid-objects, laid-longest}
 use Rattle.plain.proofs.Words.{word-stored}
 use Rattle.plain.proofs.Edits.{Edit, laid-kept, laid-replace}

@@ -2,26 +2,22 @@
 -- A call's tests are gone through one by one on both sides.
 -- Assumes nothing.
 use mathlib.Core.Path.{_≡_, refl, sym, ap, _∙_}
-use mathlib.Core.Logic.{_≢_}
 use mathlib.Core.Bool.{Bool, true, false, not}
 use mathlib.Core.List.{List, [], _∷_}
 use mathlib.Core.Option.{Option, some, none}
-use Prim.Native.Nat.{ℕ, zero, suc, _*_, _≤_, _<_}
+use Prim.Native.Nat.{ℕ, _*_, _≤_, _<_}
 use native.Mathlib.Omega.{arith}
 use lib.Dec.{leb}
-use lib.IntN.{subℕ}
 use lib.ListN.{length}
-use borrow.Author.Tests.{eq-eqb, ne-eqb, le-leb, leb-false}
-use Rattle.rules.specs.Tests.{both}
+use borrow.Author.Tests.{eq-eqb, ne-eqb, le-leb}
 use Rattle.rules.specs.Pointers.{goodBase}
 use Rattle.rules.specs.Entries.{HEAD}
-use Rattle.rules.specs.Tables.{entryAt, used}
 use Rattle.rules.specs.Meaning.{Extent}
-use Rattle.rules.specs.Outcomes.{Heap, Outcome, onlyRefusal, placedAt, changeFrom, unlessRefused}
+use Rattle.rules.specs.Outcomes.{Heap, Outcome, onlyRefusal, changeFrom, unlessRefused}
 use Rattle.rules.specs.Refusals.{Test, firstOf, goodShape, badShape, illFormed, outside, noHead}
 use Rattle.rules.specs.Calls.{placing}
-use Rattle.rules.proofs.Refusals.{true-not-false, first-yes, first-no, refuses}
-use Rattle.plain.specs.Objects.{Object, Plain, total, find}
+use Rattle.rules.proofs.Refusals.{first-yes, first-no, refuses}
+use Rattle.plain.specs.Objects.{Object, Plain, find}
 use Rattle.plain.specs.Replies.{Reply, refuse, refuseIf, places, onObject, named, misplaced}
 use Rattle.plain.proofs.Laid.{Lies, Laid, laid-well, Found, missing, there, finds}
 use Rattle.plain.proofs.Gaps.{laid-used}

@@ -1,11 +1,10 @@
 -- Changes of a laid list: an object inserted into a gap, removed, or replaced by another at the same start, where pool and table change in its blocks alone.
 -- Assumes nothing.
-use mathlib.Core.Path.{_≡_, refl, sym, ap, _∙_}
-use mathlib.Core.Logic.{_≢_, _⊎_, inl, inr, ⊎-elim}
-use mathlib.Core.Bool.{Bool, true, false}
-use mathlib.Core.List.{List, [], _∷_}
-use mathlib.Core.Option.{Option, some, none}
-use Prim.Native.Nat.{ℕ, zero, suc, _+_, _-_, _*_, _≤_, _<_}
+use mathlib.Core.Path.{_≡_, sym, ap, _∙_}
+use mathlib.Core.Logic.{_⊎_, inl, inr, ⊎-elim}
+use mathlib.Core.List.{List, _∷_}
+use mathlib.Core.Option.{some}
+use Prim.Native.Nat.{ℕ, _+_, _-_, _*_, _≤_, _<_}
 use native.Mathlib.Decide.{ℕ-discrete, decLt}
 use native.Mathlib.Omega.{arith}
 use lib.ListN.{length}
@@ -15,7 +14,7 @@ use Rattle.rules.specs.Entries.{FREE}
 use Rattle.rules.specs.Tables.{entryAt}
 use Rattle.rules.specs.Meaning.{Run}
 use Rattle.plain.specs.Objects.{Object, end, find, insert, remove, replace}
-use Rattle.plain.proofs.Laid.{Holds, Clear, Lies, lies-used, Laid, done, next, laid-room, find-below}
+use Rattle.plain.proofs.Laid.{Clear, Lies, lies-used, Laid, done, next, laid-room, find-below}
 
 -- ---- where a list begins
 

@@ -1,26 +1,26 @@
 -- The gaps and the counts of a laid list are those of its table: the lowest gap with room, the gap after an object, the longest gap, used blocks and objects.
 -- Assumes nothing.
-use mathlib.Core.Path.{_≡_, refl, sym, ap, _∙_}
-use mathlib.Core.Logic.{_≢_, ⊎-elim}
+use mathlib.Core.Path.{_≡_, refl, sym, _∙_}
+use mathlib.Core.Logic.{_≢_}
 use mathlib.Core.Bool.{Bool, true, false, not}
-use mathlib.Core.List.{List, [], _∷_}
-use mathlib.Core.Option.{Option, some, none}
-use Prim.Native.Nat.{ℕ, zero, suc, _+_, _-_, _*_, _≤_, _<_, max}
+use mathlib.Core.List.{List, _∷_}
+use mathlib.Core.Option.{some, none}
+use Prim.Native.Nat.{ℕ, zero, suc, _+_, _-_, _≤_, _<_, max}
 use native.Mathlib.Nat.{zero-max, max-zero}
 use native.Mathlib.Decide.{ℕ-discrete, decLt}
 use native.Mathlib.Omega.{arith}
-use lib.Dec.{eqb, leb}
-use lib.ListN.{length, getD, drop, length-drop, drop-of-length-le}
+use lib.Dec.{leb}
+use lib.ListN.{length, drop, length-drop}
 use lib.Seq.{drop-cons, getD-drop, drop-length}
-use borrow.Author.Tests.{eq-eqb, ne-eqb, lt-ltb, le-ltb, le-leb, leb-true, leb-false, lt-leb}
+use borrow.Author.Tests.{eq-eqb, ne-eqb, lt-ltb, le-ltb, leb-true, leb-false}
 use Rattle.rules.specs.Tests.{pick, count, leading}
-use Rattle.rules.specs.Entries.{FREE, HEAD, TAIL}
+use Rattle.rules.specs.Entries.{FREE}
 use Rattle.rules.specs.Tables.{entryAt, isFree, isHead, freeFrom, firstRun, used, objects, longest}
 use Rattle.rules.specs.Meaning.{Run, Lowest}
 use Rattle.rules.proofs.Lists.{count-cons, leading-is}
 use Rattle.rules.proofs.Tables.{run-le, run-longest, first-is}
 use Rattle.plain.specs.Objects.{Object, end, total, find, lowestGap, longestGap, nextStart}
-use Rattle.plain.proofs.Laid.{Clear, Lies, lies-used, Laid, done, next, laid-room, find-below}
+use Rattle.plain.proofs.Laid.{Clear, Lies, lies-used, Laid, done, next, find-below}
 
 -- ---- the lowest gap with room
 

@@ -1,23 +1,23 @@
 -- How a plain list lies in a pool and a table: the objects one after the other, each a HEAD and its TAILs with its words in the pool, and FREE between them.
 -- Assumes nothing.
-use mathlib.Core.Path.{_≡_, refl, sym, ap, _∙_}
+use mathlib.Core.Path.{_≡_, refl}
 use mathlib.Core.Logic.{_≢_}
-use mathlib.Core.Bool.{Bool, true, false}
+use mathlib.Core.Bool.{true}
 use mathlib.Core.List.{List, [], _∷_}
 use mathlib.Core.Option.{Option, some, none}
-use Prim.Native.Nat.{ℕ, zero, suc, _+_, _-_, _*_, _≤_, _<_}
+use Prim.Native.Nat.{ℕ, suc, _+_, _-_, _*_, _≤_, _<_}
 use native.Mathlib.Decide.{ℕ-discrete, decLt}
 use native.Mathlib.Omega.{arith}
 use lib.Dec.{eqb}
 use lib.ListN.{length, getD}
-use borrow.Author.Tests.{eq-eqb, ne-eqb, lt-ltb, le-ltb, le-leb, leb-true, leb-false, lt-leb}
+use borrow.Author.Tests.{eq-eqb, ne-eqb}
 use Rattle.rules.specs.Tests.{pick}
 use Rattle.rules.specs.Words.{wordAt}
 use Rattle.rules.specs.Entries.{FREE, HEAD, TAIL, MARK}
-use Rattle.rules.specs.Tables.{entryAt, wellFormed, blockCount, freeFrom}
-use Rattle.rules.specs.Meaning.{Well, Extent, Run, Lowest}
-use Rattle.rules.proofs.Tables.{entry-outside, entry-inside, well-of, count-is, run-le, run-longest, first-is}
-use Rattle.plain.specs.Objects.{Object, end, find, lowestGap, nextStart}
+use Rattle.rules.specs.Tables.{entryAt, wellFormed}
+use Rattle.rules.specs.Meaning.{Extent}
+use Rattle.rules.proofs.Tables.{entry-outside, well-of}
+use Rattle.plain.specs.Objects.{Object, end, find}
 
 -- the b blocks from s on hold these words
 pub record Holds (pool : List ℕ) (s b : ℕ) (ws : List ℕ) : Type 0 where

@@ -1,34 +1,31 @@
 -- Free, allocate and reallocate agree with the plain list: an object removed, put into a gap, cut, extended, or moved.
 -- Assumes nothing.
 use mathlib.Core.Path.{_≡_, refl, sym, ap, _∙_}
-use mathlib.Core.Logic.{_≢_, _⊎_, inl, inr, ⊎-elim}
-use mathlib.Core.Bool.{Bool, true, false, not}
-use mathlib.Core.List.{List, [], _∷_, _++_}
+use mathlib.Core.Logic.{_≢_}
+use mathlib.Core.List.{List, [], _∷_}
 use mathlib.Core.Option.{Option, some, none}
-use Prim.Native.Nat.{ℕ, zero, suc, _+_, _-_, _*_, _≤_, _<_}
-use native.Mathlib.Decide.{ℕ-discrete, decLt}
+use Prim.Native.Nat.{ℕ, _+_, _-_, _*_, _≤_, _<_}
 use native.Mathlib.Omega.{arith}
-use lib.Dec.{eqb, leb, ltb}
-use lib.ListN.{length, getD, take, drop, replicate, length-append, length-drop, length-replicate, getD-replicate, List·getD-append}
-use lib.Seq.{sets, length-sets, length-take-le, getD-append-add, getD-take}
-use borrow.Author.Tests.{eq-eqb, ne-eqb, lt-ltb, le-ltb, le-leb, lt-leb, leb-true, leb-false, ltb-true, ltb-false, eqb-true, eqb-false}
-use Rattle.rules.specs.Tests.{pick, isNone, orElse}
+use lib.Dec.{eqb}
+use lib.ListN.{length, getD, replicate, length-replicate}
+use lib.Seq.{sets, length-sets}
+use borrow.Author.Tests.{eqb-false}
+use Rattle.rules.specs.Tests.{isNone, orElse}
 use Rattle.rules.specs.Words.{wordAt}
-use Rattle.rules.specs.Entries.{FREE, HEAD, TAIL}
-use Rattle.rules.specs.Tables.{entryAt, blockCount, freeFrom, firstRun, placed, released, extended}
-use Rattle.rules.specs.Meaning.{Extent, Run}
-use Rattle.rules.specs.Outcomes.{Heap, Outcome, unlessRefused, clearedBlocks}
+use Rattle.rules.specs.Tables.{blockCount, firstRun, placed, released}
+use Rattle.rules.specs.Meaning.{Run}
+use Rattle.rules.specs.Outcomes.{Heap, unlessRefused, clearedBlocks}
 use Rattle.rules.specs.Refusals.{firstOf, noBytes, outside, noHead, noRoom}
-use Rattle.rules.specs.Calls.{blocksFor, taken, placing, allocate, freed, free, Way, stay, shrink, grow, move, noWay, isNoWay, shrunk, grown, moved, movesTo, wayToGrow, wayTo, along, reallocate}
-use Rattle.rules.specs.Runs.{Allocate, Free, Reallocate}
-use Rattle.rules.proofs.Tables.{count-is, first-run, le-run}
-use Rattle.rules.proofs.Changes.{placed-length, released-length, extended-length, placed-head, placed-tail, placed-out, released-in, released-out, extended-in, extended-out}
-use Rattle.plain.specs.Objects.{Object, object, Plain, end, find, lowestGap, nextStart, insert, remove, replace}
-use Rattle.plain.specs.Replies.{places, allocatedAt, movedInto, resized, reply}
-use Rattle.plain.proofs.Laid.{Holds, Clear, Lies, Laid}
-use Rattle.plain.proofs.Gaps.{laid-lowest, Gap, gap-free, next-gap}
-use Rattle.plain.proofs.Words.{words-out, words-in, zero-at, word-zero, word-front, word-behind, word-part}
-use Rattle.plain.proofs.Edits.{Edit, laid-lower, laid-raise, laid-kept, laid-insert, laid-remove, laid-replace}
+use Rattle.rules.specs.Calls.{blocksFor, taken, placing, allocate, freed, free}
+use Rattle.rules.specs.Runs.{Allocate, Free}
+use Rattle.rules.proofs.Tables.{count-is, first-run}
+use Rattle.rules.proofs.Changes.{placed-length, released-length, placed-head, placed-tail, placed-out, released-in, released-out}
+use Rattle.plain.specs.Objects.{Object, object, Plain, end, find, lowestGap, insert, remove}
+use Rattle.plain.specs.Replies.{places, allocatedAt, reply}
+use Rattle.plain.proofs.Laid.{Clear, Lies, Laid}
+use Rattle.plain.proofs.Gaps.{laid-lowest}
+use Rattle.plain.proofs.Words.{words-out, words-in, zero-at, word-zero}
+use Rattle.plain.proofs.Edits.{Edit, laid-insert, laid-remove}
 use Rattle.plain.proofs.Agrees.{Represents, represents-other, Agrees, agree-refused, agree-test, agree-heap, agree-named, agree-placing}
 
 -- ---- free

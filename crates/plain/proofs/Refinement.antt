@@ -1,7 +1,7 @@
 -- The heap is a plain list: an accepted init makes the heap represent the empty list, and each call after it agrees with the list's rule.
 -- Assumes nothing.
 use mathlib.Core.Path.{_≡_, refl, sym, ap, _∙_}
-use mathlib.Core.Bool.{true, not}
+use mathlib.Core.Bool.{true}
 use mathlib.Core.List.{List, [], _∷_}
 use Prim.Native.Nat.{ℕ, _*_}
 use lib.ListN.{length, replicate, length-replicate}
@@ -12,9 +12,9 @@ use Rattle.rules.specs.Outcomes.{Heap, Answer}
 use Rattle.rules.specs.Refusals.{goodShape}
 use Rattle.rules.specs.Calls.{init}
 use Rattle.rules.specs.Runs.{Call, Init, Allocate, Free, Reallocate, Collect, Survey, Load, Store, Turn, step, answers}
-use Rattle.rules.proofs.Refusals.{Shape, shape-true}
+use Rattle.rules.proofs.Refusals.{shape-true}
 use Rattle.plain.specs.Objects.{Plain}
-use Rattle.plain.specs.Replies.{Reply, reply, replies}
+use Rattle.plain.specs.Replies.{reply, replies}
 use Rattle.plain.specs.Refines.{AnswersAsList}
 use Rattle.plain.proofs.Sums.{init-accepted}
 use Rattle.plain.proofs.Agrees.{Represents, Agrees}

@@ -1,27 +1,27 @@
 -- Reallocate agrees with the plain list, each of its ways by itself: as it is, fewer blocks, more in place, a move, no room.
 -- Assumes nothing.
-use mathlib.Core.Path.{_≡_, refl, sym, ap, _∙_}
+use mathlib.Core.Path.{_≡_, refl, sym, _∙_}
 use mathlib.Core.Logic.{_≢_}
 use mathlib.Core.Bool.{Bool, true, false}
 use mathlib.Core.List.{List, [], _∷_, _++_}
 use mathlib.Core.Option.{Option, some, none}
-use Prim.Native.Nat.{ℕ, zero, suc, _+_, _-_, _*_, _≤_, _<_}
-use native.Mathlib.Decide.{ℕ-discrete, decLt}
+use Prim.Native.Nat.{ℕ, _+_, _-_, _*_, _≤_, _<_}
+use native.Mathlib.Decide.{decLt}
 use native.Mathlib.Omega.{arith}
 use lib.Dec.{eqb, leb, ltb}
-use lib.ListN.{length, getD, take, drop, replicate, length-append, length-drop, length-replicate}
+use lib.ListN.{length, getD, take, drop, replicate, length-drop, length-replicate}
 use lib.Seq.{sets, length-sets, length-take-le, getD-take}
-use borrow.Author.Tests.{eq-eqb, ne-eqb, lt-ltb, le-ltb, le-leb, lt-leb, leb-true, leb-false, ltb-true, ltb-false, eqb-true, eqb-false}
+use borrow.Author.Tests.{ne-eqb, le-leb, lt-leb, leb-true, ltb-true, ltb-false, eqb-false}
 use Rattle.rules.specs.Tests.{pick}
 use Rattle.rules.specs.Words.{wordAt}
-use Rattle.rules.specs.Entries.{FREE, HEAD, TAIL}
-use Rattle.rules.specs.Tables.{entryAt, blockCount, freeFrom, firstRun, placed, released, extended}
+use Rattle.rules.specs.Entries.{TAIL}
+use Rattle.rules.specs.Tables.{entryAt, freeFrom, firstRun, placed, released, extended}
 use Rattle.rules.specs.Meaning.{Extent, Run}
-use Rattle.rules.specs.Outcomes.{Heap, Outcome, unlessRefused, clearedBlocks}
-use Rattle.rules.specs.Refusals.{firstOf, noBytes, outside, noHead, noRoom}
-use Rattle.rules.specs.Calls.{blocksFor, placing, Way, stay, shrink, grow, move, noWay, isNoWay, shrunk, grown, moved, movesTo, wayToGrow, wayTo, along, reallocate}
+use Rattle.rules.specs.Outcomes.{Heap, unlessRefused, clearedBlocks}
+use Rattle.rules.specs.Refusals.{firstOf, noBytes, noRoom}
+use Rattle.rules.specs.Calls.{blocksFor, Way, stay, shrink, grow, isNoWay, shrunk, grown, moved, movesTo, wayToGrow, wayTo, along, reallocate}
 use Rattle.rules.specs.Runs.{Reallocate}
-use Rattle.rules.proofs.Tables.{count-is, first-run, le-run}
+use Rattle.rules.proofs.Tables.{count-is, first-run}
 use Rattle.rules.proofs.Changes.{placed-length, released-length, extended-length, released-in, released-out, extended-in, extended-out}
 use Rattle.plain.specs.Objects.{Object, object, Plain, end, find, lowestGap, nextStart, insert, remove, replace}
 use Rattle.plain.specs.Replies.{Reply, places, movedInto, resized, reply}

@@ -4,27 +4,26 @@ use mathlib.Core.Path.{_≡_, refl, sym, ap, _∙_}
 use mathlib.Core.Logic.{_≢_, ⊎-elim}
 use mathlib.Core.Bool.{Bool, true, false, not}
 use mathlib.Core.List.{List, [], _∷_}
-use Prim.Native.Nat.{ℕ, zero, suc, _+_, _-_, _/_, _≤_, _<_}
+use Prim.Native.Nat.{ℕ, _+_, _-_, _/_, _≤_, _<_}
 use native.Mathlib.Decide.{ℕ-discrete, decLt}
 use native.Mathlib.Omega.{arith}
-use lib.Dec.{eqb, ltb}
+use lib.Dec.{eqb}
 use lib.ListN.{length}
 use borrow.Author.Tests.{eqb-true, eqb-false}
 use Rattle.rules.specs.Tests.{pick, both}
 use Rattle.rules.specs.Words.{wordsOf}
 use Rattle.rules.specs.Entries.{FREE, HEAD, TAIL, MARK}
 use Rattle.rules.specs.Tables.{entryAt}
-use Rattle.rules.specs.Pointers.{goodBase}
 use Rattle.rules.specs.Outcomes.{Heap, changeFrom, unlessRefused}
 use Rattle.rules.specs.Refusals.{firstOf, wholeWords, badLists, illFormed, manyRoots, longStack}
-use Rattle.rules.specs.Marking.{Marked, markAll, sweep}
+use Rattle.rules.specs.Marking.{Marked, sweep}
 use Rattle.rules.specs.Calls.{collecting, collect}
 use Rattle.rules.specs.Runs.{Collect}
 use Rattle.rules.proofs.Marking.{sweep-length}
 use Rattle.rules.proofs.Marks.{Marks}
 use Rattle.keeping.proofs.Swept.{Swept, kept, tail, freed, swept, swept-mark, tail-kept, tail-freed}
 use Rattle.plain.specs.Objects.{Object, Plain, end}
-use Rattle.plain.specs.Tracing.{isIn, Traced, trace, among}
+use Rattle.plain.specs.Tracing.{isIn, Traced, among}
 use Rattle.plain.specs.Replies.{collectedBy, reply}
 use Rattle.plain.proofs.Laid.{Clear, Lies, Laid, done, next}
 use Rattle.plain.proofs.Gaps.{laid-used, laid-objects}

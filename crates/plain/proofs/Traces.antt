@@ -1,20 +1,20 @@
 -- The marking of a table follows the marking of the plain list step by step: the same objects marked, the same on the stack, the same flag.
 -- Assumes nothing.
 use mathlib.Core.Path.{_≡_, refl, sym, ap, _∙_}
-use mathlib.Core.Logic.{_≢_, _⊎_, inl, inr, ⊎-elim}
+use mathlib.Core.Logic.{_≢_, ⊎-elim}
 use mathlib.Core.Bool.{Bool, true, false}
 use mathlib.Core.List.{List, [], _∷_, map, List·Memᴰ, List·Memᴰ·head, List·Memᴰ·tail, List·Memᴰ·cases-cons, List·Memᴰ·not-nil}
 use mathlib.Core.Option.{Option, some, none}
 use Prim.Native.Nat.{ℕ, zero, suc, _+_, _-_, _*_, _/_, _%_, _≤_, _<_}
-use native.Mathlib.Decide.{ℕ-discrete, decLt}
+use native.Mathlib.Decide.{ℕ-discrete}
 use native.Mathlib.Omega.{arith}
 use lib.Dec.{eqb, leb, ltb}
 use lib.ListN.{length, getD, set, length-map}
 use lib.Seq.{getD-set-same, getD-set-other}
-use borrow.Author.Tests.{eq-eqb, ne-eqb, lt-ltb, le-ltb, le-leb, lt-leb, leb-true, leb-false, ltb-true, ltb-false, eqb-true, eqb-false}
+use borrow.Author.Tests.{eq-eqb, ne-eqb, lt-ltb, le-leb, leb-true, eqb-true, eqb-false}
 use Rattle.rules.specs.Tests.{pick, both, either}
 use Rattle.rules.specs.Words.{wordAt}
-use Rattle.rules.specs.Entries.{FREE, HEAD, TAIL, MARK}
+use Rattle.rules.specs.Entries.{FREE, HEAD, MARK}
 use Rattle.rules.specs.Tables.{entryAt, isHead, blockCount, objects}
 use Rattle.rules.specs.Pointers.{targetOf, headsObject, headAt, leadsTo}
 use Rattle.rules.specs.Marking.{Scene, State, state, marked, pushed, visitTo, visit, walkWords, walk, drain, trace, rootTo, markRoot, markRoots, passBlock, passFrom, pass, Marked, rescan, markAll}
@@ -25,7 +25,7 @@ use Rattle.rules.proofs.Marks.{Marks, marks-none, marks-more, marks-count, mark
 use Rattle.plain.specs.Objects.{Object, end, find}
 use Rattle.plain.specs.Tracing.{View, Progress, progress, isIn, ledTo, mark, push, followTo, follow, followAll, emptyFor, empty, subtree, fromRootTo, fromRoots, goThrough, again, Traced, againFor}
 use Rattle.plain.specs.Tracing as list
-use Rattle.plain.proofs.Laid.{Holds, Clear, Lies, Laid, done, next, lies-extent, laid-unmarked, Found, missing, there, finds}
+use Rattle.plain.proofs.Laid.{Holds, Lies, Laid, done, next, lies-extent, laid-unmarked, Found, missing, there, finds}
 use Rattle.plain.proofs.Gaps.{laid-objects}
 
 -- ---- where a word leads

@@ -1,12 +1,11 @@
 -- Words of a pool after a run of stores of whole words: outside it as they were, in it those of the stored bytes.
 -- Assumes nothing.
-use mathlib.Core.Path.{_≡_, refl, sym, ap, _∙_}
-use mathlib.Core.List.{List, [], _∷_, _++_}
+use mathlib.Core.Path.{_≡_, refl, ap, _∙_}
+use mathlib.Core.List.{List, _++_}
 use Prim.Native.Nat.{ℕ, zero, suc, _+_, _-_, _*_, _/_, _%_, _^_, _≤_, _<_}
-use native.Mathlib.Decide.{decLt}
 use native.Mathlib.Omega.{arith}
-use lib.ListN.{length, getD, take, drop, replicate, length-append, length-drop, length-replicate, List·getD-append}
-use lib.Seq.{sets, length-take-le, getD-append-add, getD-take, getD-drop}
+use lib.ListN.{length, getD, take, drop, replicate, length-append, length-replicate, List·getD-append}
+use lib.Seq.{sets, getD-append-add, getD-take, getD-drop}
 use Rattle.rules.specs.Words.{number, bytesOf, wordAt, withWord}
 use Rattle.rules.proofs.Lists.{sets-out, sets-in}
 use Rattle.rules.proofs.Words.{number-bytesOf, length-bytesOf, wordAt-same}

@@ -15,7 +15,7 @@ use Rattle.rules.specs.Runs.{Allocate, Free, Reallocate, Collect}
 use Rattle.rules.specs.Examples.{minus}
 use Rattle.plain.specs.Objects.{Object, object, Plain, total, find, lowestGap, nextStart, insert, remove, replace}
 use Rattle.plain.specs.Tracing.{isIn, ledTo, push, followTo, follow, followAll, emptyFor, empty, subtree, fromRootTo, fromRoots, goThrough, again, againFor, trace, among}
-use Rattle.plain.specs.Replies.{Reply, becomes, places, allocatedAt, onObject, named, movedInto, resized, collectedBy, reply}
+use Rattle.plain.specs.Replies.{Reply, places, allocatedAt, onObject, named, movedInto, resized, collectedBy, reply}
 
 -- a call's reply, and what it should be
 pub record Example : Type 0 where

@@ -1,6 +1,5 @@
 -- A heap as a plain list: the objects in rising order of their starts, each a start, a block count and its words. No table, no bits.
 -- Assumes nothing.
-use mathlib.Core.Bool.{Bool, true, false}
 use mathlib.Core.List.{List, [], _∷_}
 use mathlib.Core.Option.{Option, some, none}
 use Prim.Native.Nat.{ℕ, _+_, _-_, max}
