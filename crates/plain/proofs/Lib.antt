@@ -10,3 +10,4 @@ pub mod Resizes
 pub mod Traces
 pub mod Sweeps
 pub mod Refinement
+pub mod Reached

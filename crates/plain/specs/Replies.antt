@@ -114,3 +114,8 @@ reply (Store base k i w) stack p = refuseIf (misplaced base p) 1 p (named p k (s
 unfoldable pub replies : List Turn → Plain → List Answer
 replies [] p = []
 replies (t ∷ ts) p = reply (t .call) (t .stack) p .answer ∷ replies ts (reply (t .call) (t .stack) p .heap)
+
+-- the list after the calls
+unfoldable pub left : List Turn → Plain → Plain
+left [] p = p
+left (t ∷ ts) p = left ts (reply (t .call) (t .stack) p .heap)
