@@ -23,7 +23,7 @@ use Rattle.rules.specs.Calls.{blocksFor, Way, stay, shrink, grow, isNoWay, shru
 use Rattle.rules.specs.Runs.{Reallocate}
 use Rattle.rules.proofs.Tables.{count-is, first-run}
 use Rattle.rules.proofs.Changes.{placed-length, released-length, extended-length, released-in, released-out, extended-in, extended-out}
-use Rattle.plain.specs.Objects.{Object, object, Plain, end, find, lowestGap, nextStart, insert, remove, replace}
+use Rattle.plain.specs.Objects.{Object, object, Plain, end, padded, find, lowestGap, nextStart, insert, remove, replace}
 use Rattle.plain.specs.Replies.{Reply, places, movedInto, resized, reply}
 use Rattle.plain.proofs.Laid.{Clear, Lies, Laid}
 use Rattle.plain.proofs.Gaps.{Gap, gap-free, next-gap}
@@ -82,10 +82,7 @@ module _ (pool es : List ℕ) (sized : length pool ≡ 16 * length es) (o : Obje
   -- ---- more blocks
 
   module _ (more : o .blocks < c) where
-    abbrev pad : List ℕ
-    pad = o .words ++ replicate (4 * (c - o .blocks)) 0
-
-    pad-long : length pad ≡ 4 * c
+    pad-long : length (padded o c) ≡ 4 * c
     pad-long = padded-length (o .words) (4 * o .blocks) (4 * (c - o .blocks)) (4 * c) (y .words .long) (omega arith)
 
     -- in place
@@ -121,7 +118,7 @@ module _ (pool es : List ℕ) (sized : length pool ≡ 16 * length es) (o : Obje
           let e : end o + (k - end o) ≡ k = omega arith in
           rw e at (extended-in es (end o) (c - o .blocks) (k - end o) (omega arith) (omega arith))
 
-      grow-words : (j : ℕ) → j < 4 * c → Dec (j < 4 * o .blocks) → getD pad j 0 ≡ wordAt wiped (4 * o .start + j)
+      grow-words : (j : ℕ) → j < 4 * c → Dec (j < 4 * o .blocks) → getD (padded o c) j 0 ≡ wordAt wiped (4 * o .start + j)
       grow-words j l (yes h) =
           padded-front (o .words) (4 * o .blocks) (4 * (c - o .blocks)) j (y .words .long) h ∙ y .words .at j h
           ∙ sym (wiped-out (4 * o .start + j) (λ p q. omega arith))
@@ -130,7 +127,7 @@ module _ (pool es : List ℕ) (sized : length pool ≡ 16 * length es) (o : Obje
           padded-rest (o .words) (4 * o .blocks) (4 * (c - o .blocks)) j (y .words .long) (omega arith)
           ∙ rw e (sym (wiped-in (j - 4 * o .blocks) (omega arith)))
 
-      grow-lies : Lies wiped (extended es (end o) (c - o .blocks)) (object (o .start) c pad)
+      grow-lies : Lies wiped (extended es (end o) (c - o .blocks)) (object (o .start) c (padded o c))
       grow-lies =
           let b = y .some-block in
           record {
@@ -144,8 +141,8 @@ module _ (pool es : List ℕ) (sized : length pool ≡ 16 * length es) (o : Obje
       grow-tail os t = laid-kept grow-edit (laid-raise t (o .start + c) (omega arith) fits clear) (omega arith)
 
       pub grow-laid : {os : List Object} → Laid pool es 0 os → find (o .start) os ≡ some o
-          → Laid wiped (extended es (end o) (c - o .blocks)) 0 (replace (object (o .start) c pad) os)
-      grow-laid d q = laid-replace grow-edit o (object (o .start) c pad) refl refl grow-lies grow-tail d q
+          → Laid wiped (extended es (end o) (c - o .blocks)) 0 (replace (object (o .start) c (padded o c)) os)
+      grow-laid d q = laid-replace grow-edit o (object (o .start) c (padded o c)) refl refl grow-lies grow-tail d q
 
     -- by a move
     module _ (s : ℕ) (run : Run es c s) where
@@ -167,7 +164,7 @@ module _ (pool es : List ℕ) (sized : length pool ≡ 16 * length es) (o : Obje
           let f : 16 * o .start ≡ 4 * (4 * o .start) = omega arith in
           rw (e, f) (word-part pool (4 * o .start) (4 * o .blocks) j h)
 
-      move-words : (j : ℕ) → j < 4 * c → Dec (j < 4 * o .blocks) → getD pad j 0 ≡ wordAt copied j
+      move-words : (j : ℕ) → j < 4 * c → Dec (j < 4 * o .blocks) → getD (padded o c) j 0 ≡ wordAt copied j
       move-words j l (yes h) =
           padded-front (o .words) (4 * o .blocks) (4 * (c - o .blocks)) j (y .words .long) h ∙ y .words .at j h ∙ sym (front-words j h)
           ∙ sym (word-front front (replicate (16 * (c - o .blocks)) 0) (4 * o .blocks) j (front-long ∙ omega arith) h)
@@ -184,11 +181,11 @@ module _ (pool es : List ℕ) (sized : length pool ≡ 16 * length es) (o : Obje
           omega (arith, rw (f, e) at (run .free 0 (omega arith)))
 
       pub move-laid : {os : List Object} → Laid pool es 0 os → find (o .start) os ≡ some o
-          → Laid (sets pool (16 * s) copied) (released (placed es s c) (o .start) (o .blocks)) 0 (remove (o .start) (insert (object s c pad) os))
+          → Laid (sets pool (16 * s) copied) (released (placed es s c) (o .start) (o .blocks)) 0 (remove (o .start) (insert (object s c (padded o c)) os))
       move-laid {os} d q =
           release-laid (sets pool (16 * s) copied) (placed es s c) o (rw (placed-length es s c) room)
-          (put-laid pool es s c copied sized copied-long (omega arith) run pad pad-long (λ j l. move-words j l (decLt j (4 * o .blocks))) d)
-          (find-insert (object s c pad) (o .start) apart os ∙ q)
+          (put-laid pool es s c copied sized copied-long (omega arith) run (padded o c) pad-long (λ j l. move-words j l (decLt j (4 * o .blocks))) d)
+          (find-insert (object s c (padded o c)) (o .start) apart os ∙ q)
 
 -- ---- the ways
 
@@ -216,7 +213,7 @@ module _ {p : Plain} {h : Heap} (r : Represents p h) (o : Object) (q : find (o .
   cutBack = places p (o .start) (replace (object (o .start) c (take (4 * c) (o .words))) (p .objects))
 
   abbrev extendedBy : Reply
-  extendedBy = places p (o .start) (replace (object (o .start) c (o .words ++ replicate (4 * (c - o .blocks)) 0)) (p .objects))
+  extendedBy = places p (o .start) (replace (object (o .start) c (padded o c)) (p .objects))
 
   abbrev movedAway : Reply
   movedAway = movedInto p o c (lowestGap (p .size) c 0 (p .objects))

@@ -1,6 +1,7 @@
--- The worked examples 1 to 11 of a heap of 8 blocks at base 4,096, computed on the plain list: each call's answer and the list it leaves.
+-- The worked examples 1 to 11 of a heap of 8 blocks at base 4,096, computed on the plain list: each call's answer and the list it leaves. And calls in a row.
 -- Assumes nothing.
 use mathlib.Core.Path.{_≡_, refl}
+use mathlib.Core.Bool.{true}
 use mathlib.Core.List.{List, [], _∷_, map}
 use Prim.Native.Nat.{ℕ, _*_}
 use lib.IntN.{pos}
@@ -8,14 +9,16 @@ use lib.ListN.{replicate, set}
 use Rattle.rules.specs.Tests.{tabulate}
 use Rattle.rules.specs.Words.{number, bytesOf, wordAt, wordsOf}
 use Rattle.rules.specs.Pointers.{addressOf, goodBase}
-use Rattle.rules.specs.Outcomes.{Answer, onlyRefusal, placedAt, collectedTo}
-use Rattle.rules.specs.Refusals.{wholeWords}
+use Rattle.rules.specs.Entries.{entryOf, entriesOf}
+use Rattle.rules.specs.Outcomes.{Answer, onlyRefusal, placedAt, collectedTo, surveyed, loaded}
+use Rattle.rules.specs.Refusals.{goodShape, wholeWords}
 use Rattle.rules.specs.Calls.{blocksFor}
-use Rattle.rules.specs.Runs.{Allocate, Free, Reallocate, Collect}
-use Rattle.rules.specs.Examples.{minus}
-use Rattle.plain.specs.Objects.{Object, object, Plain, total, find, lowestGap, nextStart, insert, remove, replace}
+use Rattle.rules.specs.Runs.{Call, Init, Allocate, Free, Reallocate, Collect, Survey, Load, Store, Turn}
+use Rattle.rules.specs.Examples.{small, minus}
+use Rattle.plain.specs.Objects.{Object, object, Plain, total, find, lowestGap, longestGap, nextStart, insert, remove, replace}
 use Rattle.plain.specs.Tracing.{isIn, ledTo, push, followTo, follow, followAll, emptyFor, empty, subtree, fromRootTo, fromRoots, goThrough, again, againFor, trace, among}
-use Rattle.plain.specs.Replies.{Reply, places, allocatedAt, onObject, named, movedInto, resized, collectedBy, reply}
+use Rattle.plain.specs.Replies.{Reply, places, allocatedAt, onObject, named, movedInto, resized, collectedBy, loadedFrom, storedIn, reply, replies}
+use Rattle.plain.specs.Refines.{fromInit}
 
 -- a call's reply, and what it should be
 pub record Example : Type 0 where
@@ -72,3 +75,20 @@ examples =
 pub examples-hold : map (λ (x : Example). x .is) examples ≡ map (λ (x : Example). x .ought) examples
 unfolding examples tabulate number bytesOf wordAt wordsOf addressOf goodBase wholeWords blocksFor total find lowestGap nextStart insert remove replace isIn ledTo push followTo follow followAll emptyFor empty subtree fromRootTo fromRoots goThrough again againFor trace among places allocatedAt onObject named movedInto resized collectedBy reply
 examples-hold = refl
+
+-- calls in a row, from a table that is not even well-formed: the init is accepted, and the plain list answers what follows
+unfoldable pub run : List Turn
+run =
+    fromInit 4096
+    (map (λ (c : Call). record { call = c; stack = [] })
+    (Allocate 4096 1 ∷ Allocate 4096 33 ∷ Allocate 4096 64 ∷ Store 4096 4 0 4096 ∷ Init 0 ∷ Collect 4096 (bytesOf 4160) ∷ Survey 4096 ∷ Load 4096 4 0 ∷ Load 4096 1 0 ∷ Init 4096 ∷ Survey 4096 ∷ []))
+
+pub run-accepted : goodShape 4096 (small 7 7) ≡ true
+unfolding goodShape goodBase addressOf entriesOf entryOf
+run-accepted = refl
+
+pub run-answers : replies run (eight full)
+    ≡ onlyRefusal 0 ∷ placedAt 0 (pos 1) ∷ placedAt 1 (pos 3) ∷ placedAt 4 (pos 4) ∷ onlyRefusal 0 ∷ onlyRefusal 1 ∷ collectedTo 2 1 (minus 3)
+    ∷ surveyed 5 2 3 ∷ loaded 4096 ∷ onlyRefusal 7 ∷ onlyRefusal 0 ∷ surveyed 0 0 8 ∷ []
+unfolding run tabulate number bytesOf wordAt wordsOf addressOf goodBase wholeWords blocksFor total find lowestGap longestGap nextStart insert remove replace isIn ledTo push followTo follow followAll emptyFor empty subtree fromRootTo fromRoots goThrough again againFor trace among places allocatedAt onObject named movedInto resized collectedBy loadedFrom storedIn reply replies
+run-answers = refl

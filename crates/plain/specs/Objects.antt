@@ -1,9 +1,10 @@
 -- A heap as a plain list: the objects in rising order of their starts, each a start, a block count and its words. No table, no bits.
 -- Assumes nothing.
-use mathlib.Core.List.{List, [], _∷_}
+use mathlib.Core.List.{List, [], _∷_, _++_}
 use mathlib.Core.Option.{Option, some, none}
-use Prim.Native.Nat.{ℕ, _+_, _-_, max}
+use Prim.Native.Nat.{ℕ, _+_, _-_, _*_, max}
 use lib.Dec.{eqb, leb, ltb}
+use lib.ListN.{replicate}
 use Rattle.rules.specs.Tests.{pick}
 
 -- an object of b blocks has 4b words
@@ -23,6 +24,10 @@ pub record Plain : Type 0 where
 -- the block directly after an object
 abbrev pub end : Object → ℕ
 end o = o .start + o .blocks
+
+-- an object's words with zeros after them, up to c blocks
+abbrev pub padded : Object → ℕ → List ℕ
+padded o c = o .words ++ replicate (4 * (c - o .blocks)) 0
 
 -- used blocks: the blocks of all objects
 unfoldable pub total : List Object → ℕ

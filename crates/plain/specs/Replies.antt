@@ -1,9 +1,9 @@
 -- The rules applied to a plain list: what each call answers, and the list it leaves.
 -- Assumes nothing.
 use mathlib.Core.Bool.{Bool, true, false, not}
-use mathlib.Core.List.{List, [], _∷_, _++_}
+use mathlib.Core.List.{List, [], _∷_}
 use mathlib.Core.Option.{Option, some, none}
-use Prim.Native.Nat.{ℕ, _+_, _-_, _*_, _/_, _%_, _^_}
+use Prim.Native.Nat.{ℕ, _+_, _*_, _/_, _%_, _^_}
 use lib.Dec.{eqb, leb, ltb}
 use lib.IntN.{subℕ}
 use lib.ListN.{length, getD, set, take, replicate}
@@ -14,7 +14,7 @@ use Rattle.rules.specs.Outcomes.{Answer, onlyRefusal, placedAt, collectedTo, su
 use Rattle.rules.specs.Refusals.{wholeWords}
 use Rattle.rules.specs.Calls.{blocksFor}
 use Rattle.rules.specs.Runs.{Call, Init, Allocate, Free, Reallocate, Collect, Survey, Load, Store, Turn}
-use Rattle.plain.specs.Objects.{Object, object, Plain, total, find, lowestGap, longestGap, nextStart, insert, remove, replace}
+use Rattle.plain.specs.Objects.{Object, object, Plain, padded, total, find, lowestGap, longestGap, nextStart, insert, remove, replace}
 use Rattle.plain.specs.Tracing.{Traced, trace, among}
 
 -- an answer, and the heap that is left
@@ -55,7 +55,7 @@ named p k f = refuseIf (leb (p .size) k) 6 p (onObject p (find k (p .objects)) f
 -- Reallocate by a move: the object, with zeros after its words, in the lowest gap found while the old one is still there
 unfoldable pub movedInto : Plain → Object → ℕ → Option ℕ → Reply
 movedInto p o c none = refuse 9 p
-movedInto p o c (some s) = places p s (remove (o .start) (insert (object s c (o .words ++ replicate (4 * (c - o .blocks)) 0)) (p .objects)))
+movedInto p o c (some s) = places p s (remove (o .start) (insert (object s c (padded o c)) (p .objects)))
 
 -- Reallocate to c blocks: as it is, fewer blocks, more in place, or by a move
 unfoldable pub resized : Plain → Object → ℕ → Reply
@@ -63,7 +63,7 @@ resized p o c =
     pick (eqb c (o .blocks)) (places p (o .start) (p .objects))
     (pick (ltb c (o .blocks)) (places p (o .start) (replace (object (o .start) c (take (4 * c) (o .words))) (p .objects)))
     (pick (leb (o .start + c) (nextStart (p .size) (o .start) (p .objects)))
-    (places p (o .start) (replace (object (o .start) c (o .words ++ replicate (4 * (c - o .blocks)) 0)) (p .objects)))
+    (places p (o .start) (replace (object (o .start) c (padded o c)) (p .objects)))
     (movedInto p o c (lowestGap (p .size) c 0 (p .objects)))))
 
 -- Collect: the objects that the marking reached are kept
@@ -72,7 +72,7 @@ collectedBy p t =
     let kept : List Object = among (t .reached) (p .objects) in
     becomes (collectedTo (length kept) (t .rescans) (subℕ (total kept) (total (p .objects)))) p kept
 
--- Load and store: word i of the object, 32 bits; 8 if the object has no such word
+-- Load and store: word i of the object, of which 32 bits are stored; 8 if the object has no such word
 unfoldable pub loadedFrom : Plain → ℕ → Object → Reply
 loadedFrom p i o = refuseIf (leb (4 * o .blocks) i) 8 p (becomes (loaded (getD (o .words) i 0)) p (p .objects))
 
