@@ -1,35 +1,59 @@
+-- `heap::shrink` meets its contract: the released blocks are the object's last, and the change is the difference of the counts.
+-- Assumes nothing.
+use mathlib.Core.Path.{_≡_, sym, _∙_}
+use mathlib.Core.List.{List}
+use Prim.Native.Nat.{ℕ, _+_, _-_, _≤_, _<_}
+use native.Mathlib.Omega.{arith}
+use lib.IntN.{ℤ, subℕ}
+use lib.ListN.{length}
+use mir.Syntax.{w32}
+use mir.Val.{toZ, ofZ}
 use borrow.Author.Needs.{needs}
+use Rattle.rules.specs.Entries.{entriesOf}
+use Rattle.rules.specs.Tables.{released}
+use Rattle.rules.specs.Outcomes.{Outcome, heapOf, placedAt, leaves}
+use Rattle.rules.specs.Calls.{placing, shrunk}
+use Rattle.rules.proofs.Calls.{shrink-change}
+use Rattle.heap.specs.Held.{Held}
+use Rattle.heap.proofs.Held.{held-few, held-room, change-is}
 use Rattle.heap.proofs.shrink.Statement.{statement}
 use Rattle.heap.proofs.shrink.Tie as tie
-use Rattle.heap.proofs.shrink.Reads as reads
-use Rattle.heap.proofs.shrink.Lts as lts
-use Rattle.memory.proofs.Block.plus.Reads as plus-reads
-use Rattle.memory.proofs.difference.Reads as difference-reads
-use Rattle.table.proofs.release.Reads as release-reads
 
--- src/lib.rt:165:27
+shrinks : (pool table after : List ℕ) (k old new end : ℕ) (d : ℤ) → Held pool table k old → (0 < new) × (new ≤ old) → end ≡ k + new
+    → entriesOf after ≡ released (entriesOf table) end (old - new) → d ≡ subℕ new old
+    → leaves (placedAt k (toZ w32 (ofZ w32 d))) (heapOf pool after) ≡ placing (heapOf pool table) k (shrunk (heapOf pool table) k old new)
+unfolding placing shrunk
+shrinks pool table after k old new end d held (some, fewer) e q p =
+    let room = held-room held in
+    let few = held-few held in
+    let change = shrink-change (entriesOf table) k new (held .head) some (rw (held .count) at fewer) in
+    rw (change-is new old d (omega arith) (omega arith) p, q, e, rw (sym (held .count)) at change)
+
 plus-requires : tie.Need-plus-requires
-plus-requires c κs = ?
+plus-requires c κs =
+    let held = c .before .before .before .pre .0 in
+    omega (arith, held-room held, held-few held)
 
--- src/lib.rt:165:40
 sub-release : tie.Need-sub-release
 sub-release c = search needs
 
--- src/lib.rt:165:5
 release-requires : tie.Need-release-requires
-release-requires c κs = ?
+release-requires c κs = omega (arith, held-room (c .before .before .before .before .pre .0))
 
--- src/lib.rt:169:17
 difference-requires : tie.Need-difference-requires
-difference-requires c κs = ?
+difference-requires c κs =
+    let held = c .before .before .before .before .before .before .before .pre .0 in
+    let room = held-room held in
+    let few = held-few held in
+    (omega arith, omega arith)
 
--- src/lib.rt:160:1
 same-length : tie.Need-same-length
 same-length c = search needs
 
--- src/lib.rt:160:1
 returns : tie.Need-returns
-returns c = ?
+returns c =
+    let s = c .before .before .before .before .before .before .before .before in
+    shrinks _ _ _ _ _ _ _ _ (s .pre .0) (s .pre .1) (c .before .before .before .before .plus .ensures) (c .before .before .before .release .ensures) (c .difference .ensures)
 
 pub shrink-spec : {M : Type 1} → statement M
 shrink-spec =
