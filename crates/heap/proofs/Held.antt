@@ -1,8 +1,8 @@
--- What follows of an object that is held: its blocks lie in the table, the table has at most 4,096, and a change in used blocks fits the answer.
+-- What follows of an object that is held: its blocks lie in a table of at most 4,096. And the change in used blocks as the answer holds it.
 -- Assumes nothing.
 use mathlib.Core.Path.{_≡_, ap, _∙_}
 use mathlib.Core.List.{List}
-use Prim.Native.Nat.{ℕ, _+_, _≤_, _<_}
+use Prim.Native.Nat.{ℕ, _+_, _≤_}
 use native.Mathlib.Omega.{arith}
 use lib.IntN.{ℤ, subℕ}
 use lib.ListN.{length}
@@ -26,9 +26,6 @@ module _ {pool table : List ℕ} {k b : ℕ} (held : Held pool table k b) where
 
   pub held-room : k + b ≤ length (entriesOf table)
   held-room = extent .room
-
-  pub held-some : 0 < b
-  held-some = extent .some-block
 
   -- free blocks directly after the object
   pub held-run : (n : ℕ) → n ≤ freeFrom (entriesOf table) (k + b) → Run (entriesOf table) n (k + b)

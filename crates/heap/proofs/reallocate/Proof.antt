@@ -113,7 +113,7 @@ same-length-6 c = search needs
 returns-3 : tie.Need-returns-3
 returns-3 c =
     let n = c .before .before .before .before .before in
-    c .before .before .shrink .ensures ∙ reallocate-shrinks _ _ _ _ (accepted (n .before .before .before)) _ _ (n .before .before .block-count .ensures .0) (n .before .blocks2 .ensures) (n .if3 .taken)
+    rw (c .before .before .shrink .ensures) (reallocate-shrinks _ _ _ _ (accepted (n .before .before .before)) _ _ (n .before .before .block-count .ensures .0) (n .before .blocks2 .ensures) (n .if3 .taken))
 
 plus-requires : tie.Need-plus-requires
 plus-requires c κs = omega (arith, held-room (held (c .before .before .before)), held-few (held (c .before .before .before)))
@@ -141,7 +141,7 @@ returns-4 : tie.Need-returns-4
 returns-4 c =
     let n = c .before .before .before .before .before .before .before .before .before .before .before in
     let run = held-run (held (n .before .before)) _ (free _ _ _ _ _ (c .before .before .before .before .before .before .before .before .is-free .ensures) (c .before .before .before .before .before .before .before .before .before .plus .ensures) (c .before .before .before .before .before .before .before .if4 .taken)) in
-    c .before .before .before .before .grow .ensures ∙ reallocate-grows _ _ _ _ (accepted (n .before .before .before)) _ _ (n .before .before .block-count .ensures .0) (n .before .blocks2 .ensures) (omega arith) run
+    rw (c .before .before .before .before .grow .ensures) (reallocate-grows _ _ _ _ (accepted (n .before .before .before)) _ _ (n .before .before .block-count .ensures .0) (n .before .blocks2 .ensures) (omega arith) run)
 
 relocate-requires : tie.Need-relocate-requires
 relocate-requires c κs =
@@ -158,7 +158,7 @@ returns-5 : tie.Need-returns-5
 returns-5 c =
     let n = c .before .before .before .before .before .before .before .before .before .before .before in
     let no-run = full _ _ _ _ _ (c .before .before .before .before .before .before .before .before .is-free .ensures) (c .before .before .before .before .before .before .before .before .before .plus .ensures) (c .before .before .before .before .before .before .before .if4 .left) in
-    c .before .before .before .before .relocate .ensures ∙ reallocate-moves _ _ _ _ (accepted (n .before .before .before)) _ _ (n .before .before .block-count .ensures .0) (n .before .blocks2 .ensures) (held-room (held (n .before .before))) (omega arith) no-run
+    rw (c .before .before .before .before .relocate .ensures) (reallocate-moves _ _ _ _ (accepted (n .before .before .before)) _ _ (n .before .before .block-count .ensures .0) (n .before .blocks2 .ensures) (held-room (held (n .before .before))) (omega arith) no-run)
 
 pub reallocate-spec : {M : Type 1} → statement M
 reallocate-spec =

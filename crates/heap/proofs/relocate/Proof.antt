@@ -15,7 +15,7 @@ use mir.Val.{toZ, ofZ}
 use borrow.Author.Needs.{needs}
 use Rattle.rules.specs.Entries.{entriesOf}
 use Rattle.rules.specs.Tables.{firstRun, placed, released}
-use Rattle.rules.specs.Outcomes.{Outcome, heapOf, placedAt, leaves, clearedBlocks}
+use Rattle.rules.specs.Outcomes.{heapOf, placedAt, leaves, clearedBlocks}
 use Rattle.rules.specs.Meaning.{Run}
 use Rattle.rules.specs.Calls.{placing, moved, movesTo, along}
 use Rattle.rules.proofs.Tables.{first-run}
@@ -58,6 +58,13 @@ nowhere : (pool table : List ℕ) (k old new : ℕ) → firstRun (entriesOf tabl
 unfolding along movesTo
 nowhere pool table k old new e = rw e
 
+-- the same, at the place where the start is known
+start-at : (c : tie.After-s) → let a = c .before .before .before .before .before .before .args in firstRun (entriesOf (a .table .now)) (a .new) ≡ some (c .s .given .0 .0 .0)
+start-at c = sym (c .before .before .first-run .ensures) ∙ ap found (c .s .given .1)
+
+room-at : (c : tie.After-s) → let a = c .before .before .before .before .before .before .args in c .s .given .0 .0 .0 + a .new ≤ length (entriesOf (a .table .now))
+room-at c = run (c .before .before .before .before .before .before .pre .0) (c .before .before .before .before .before .before .pre .1) (start-at c) .room
+
 first-run-requires : tie.Need-first-run-requires
 first-run-requires c κs = search needs
 
@@ -65,11 +72,7 @@ enum-known-s : tie.Need-enum-known-s
 enum-known-s c = search needs
 
 place-requires : tie.Need-place-requires
-place-requires c κs =
-    let m = c .before .before in
-    let s = m .before .before .before .before .before .before in
-    let r = run (s .pre .0) (s .pre .1) (sym (m .before .before .first-run .ensures) ∙ ap found (m .s .given .1)) in
-    (s .pre .0 .few, (omega arith, r .room))
+place-requires c κs = (c .before .before .before .before .before .before .before .before .pre .0 .few, (omega arith, room-at (c .before .before)))
 
 offset-requires : tie.Need-offset-requires
 offset-requires c κs =
@@ -79,9 +82,7 @@ offset-requires c κs =
 offset-requires-2 : tie.Need-offset-requires-2
 offset-requires-2 c κs =
     let m = c .before .before .before .before .before .before .before in
-    let s = m .before .before .before .before .before .before in
-    let r = run (s .pre .0) (s .pre .1) (sym (m .before .before .first-run .ensures) ∙ ap found (m .s .given .1)) in
-    omega (arith, r .room, held-few (s .pre .0))
+    omega (arith, room-at m, held-few (m .before .before .before .before .before .before .pre .0))
 
 of-blocks-requires : tie.Need-of-blocks-requires
 of-blocks-requires c κs = search needs
@@ -90,20 +91,19 @@ copy-requires : tie.Need-copy-requires
 copy-requires c κs =
     let m = c .before .before .before .before .before .before .before .before .before in
     let s = m .before .before .before .before .before .before in
-    let start = sym (m .before .before .first-run .ensures) ∙ ap found (m .s .given .1) in
-    let room = run (s .pre .0) (s .pre .1) start .room in
-    let old = held-room (s .pre .0) in
+    let long = s .pre .0 .long in
     let from = c .before .before .offset .ensures in
     let to = c .before .offset2 .ensures in
-    let count = c .of-blocks .ensures in
-    ((omega (arith, s .pre .0 .long), omega (arith, s .pre .0 .long)), apart (s .pre .0) (s .pre .1) start _ _ _ from to count)
+    let count = c .of-blocks .ensures in (
+      (omega (arith, held-room (s .pre .0)), omega (arith, room-at m)),
+      apart (s .pre .0) (s .pre .1) (start-at m) _ _ _ from to count,
+    )
 
 plus-requires : tie.Need-plus-requires
 plus-requires c κs =
     let m = c .before .before .before .before .before .before .before .before .before .before .before .before .before in
     let s = m .before .before .before .before .before .before in
-    let r = run (s .pre .0) (s .pre .1) (sym (m .before .before .first-run .ensures) ∙ ap found (m .s .given .1)) in
-    omega (arith, r .room, s .pre .1, held-few (s .pre .0))
+    omega (arith, room-at m, s .pre .1, held-few (s .pre .0))
 
 sub-clear-blocks : tie.Need-sub-clear-blocks
 sub-clear-blocks c = search needs
@@ -112,7 +112,7 @@ clear-blocks-requires : tie.Need-clear-blocks-requires
 clear-blocks-requires c κs =
     let m = c .before .before .before .before .before .before .before .before .before .before .before .before .before .before in
     let s = m .before .before .before .before .before .before in
-    let room = run (s .pre .0) (s .pre .1) (sym (m .before .before .first-run .ensures) ∙ ap found (m .s .given .1)) .room in
+    let room = room-at m in
     let few = held-few (s .pre .0) in
     let end = c .plus .ensures in
     let more = s .pre .1 in
@@ -121,8 +121,7 @@ clear-blocks-requires c κs =
 release-requires : tie.Need-release-requires
 release-requires c κs =
     let p = c .before .before .before .before .before .before .before .before .before .before .before .before .before .before .before in
-    let s = p .before .before .before .before .before .before .before .before .before in
-    omega (arith, held-room (s .pre .0), ap length (p .place .ensures) ∙ placed-length _ _ _)
+    omega (arith, held-room (p .before .before .before .before .before .before .before .before .before .pre .0), ap length (p .place .ensures) ∙ placed-length _ _ _)
 
 difference-requires : tie.Need-difference-requires
 difference-requires c κs =
@@ -149,7 +148,7 @@ returns c =
     let place = copy .before .before .before .before .before .before .before in
     let m = place .before .before .before in
     let s = m .before .before .before .before .before .before in
-    moves (s .pre .0) (s .pre .1) (sym (m .before .before .first-run .ensures) ∙ ap found (m .s .given .1)) _ _ _ _ _ _ _ _ _
+    moves (s .pre .0) (s .pre .1) (start-at m) _ _ _ _ _ _ _ _ _
     (place .place .ensures)
     (copy .before .before .before .offset .ensures) (copy .before .before .offset2 .ensures) (copy .before .of-blocks .ensures) (copy .copy .ensures)
     (clear .before .plus .ensures) (clear .clear-blocks .ensures)

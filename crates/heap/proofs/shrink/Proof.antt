@@ -1,17 +1,16 @@
 -- `heap::shrink` meets its contract: the released blocks are the object's last, and the change is the difference of the counts.
 -- Assumes nothing.
-use mathlib.Core.Path.{_≡_, sym, _∙_}
+use mathlib.Core.Path.{_≡_, sym}
 use mathlib.Core.List.{List}
 use Prim.Native.Nat.{ℕ, _+_, _-_, _≤_, _<_}
 use native.Mathlib.Omega.{arith}
 use lib.IntN.{ℤ, subℕ}
-use lib.ListN.{length}
 use mir.Syntax.{w32}
 use mir.Val.{toZ, ofZ}
 use borrow.Author.Needs.{needs}
 use Rattle.rules.specs.Entries.{entriesOf}
 use Rattle.rules.specs.Tables.{released}
-use Rattle.rules.specs.Outcomes.{Outcome, heapOf, placedAt, leaves}
+use Rattle.rules.specs.Outcomes.{heapOf, placedAt, leaves}
 use Rattle.rules.specs.Calls.{placing, shrunk}
 use Rattle.rules.proofs.Calls.{shrink-change}
 use Rattle.heap.specs.Held.{Held}
