@@ -1,9 +1,9 @@
--- Laws of the calls' acts: the change in used blocks of each, how many blocks a request takes, and the ways to reallocate.
+-- Laws of the calls' acts: the change in used blocks of each, how many blocks a request takes, the ways to reallocate and what each leaves.
 -- Assumes nothing.
-use mathlib.Core.Path.{_≡_, refl, ap, _∙_}
+use mathlib.Core.Path.{_≡_, refl, sym, ap, _∙_}
 use mathlib.Core.Logic.{_⊎_, inl, inr, ⊎-elim}
 use mathlib.Core.Bool.{Bool, true, false}
-use mathlib.Core.List.{List}
+use mathlib.Core.List.{List, [], _∷_}
 use mathlib.Core.Option.{Option, some, none}
 use Prim.Native.Nat.{ℕ, zero, suc, _+_, _-_, _*_, _≤_, _<_}
 use native.Mathlib.Decide.{ℕ-discrete, decLt}
@@ -15,10 +15,12 @@ use borrow.Author.Tests.{lt-ltb, le-ltb, eq-eqb, ne-eqb, le-leb, leb-true}
 use Rattle.rules.specs.Tests.{pick}
 use Rattle.rules.specs.Entries.{HEAD}
 use Rattle.rules.specs.Tables.{entryAt, blockCount, freeFrom, firstRun, placed, released, extended, used}
-use Rattle.rules.specs.Outcomes.{changeFrom}
+use Rattle.rules.specs.Outcomes.{Heap, onlyRefusal, changeFrom, leaves, unlessRefused}
 use Rattle.rules.specs.Meaning.{Run, Lowest}
-use Rattle.rules.specs.Calls.{Way, stay, shrink, grow, move, noWay, movesTo, wayToGrow, wayTo, blocksFor}
+use Rattle.rules.specs.Refusals.{Test, firstOf, badShape, illFormed, noBytes, outside, noHead, noRoom}
+use Rattle.rules.specs.Calls.{Way, stay, shrink, grow, move, noWay, movesTo, wayToGrow, wayTo, blocksFor, placing, shrunk, grown, isNoWay, along, reallocate}
 use Rattle.rules.proofs.Tables.{entry-inside, extent-of, run-apart, run-le, le-run, first-lowest, first-is, none-first}
+use Rattle.rules.proofs.Refusals.{first-yes, first-last, first-more, refused-first, refuses, accepts}
 use Rattle.rules.proofs.Changes.{placed-used, extended-used, freed-used, shrunk-used, moved-used}
 
 -- ---- differences
@@ -176,3 +178,56 @@ request-no-way es pool k bytes e l head =
 pub run-beside : (es : List ℕ) (c s k : ℕ) → 0 < c → Run es c s → entryAt es k ≡ HEAD → (s + c ≤ k) ⊎ (k + blockCount es k ≤ s)
 run-beside es c s k h run head =
     ⊎-elim inr inl (run-apart es k (blockCount es k) s c (extent-of es k (entry-inside es k (λ f. omega arith))) h run head)
+
+-- ---- reallocate
+
+-- the tests of a reallocation that come before the room
+abbrev resizes : ℕ → Heap → ℕ → ℕ → List Test
+resizes base h k bytes = badShape base h ∷ illFormed h ∷ noBytes bytes ∷ outside h k ∷ noHead h k ∷ []
+
+module _ (base : ℕ) (h : Heap) (k bytes : ℕ) where
+  -- one of them holds
+  pub reallocate-refused : {r : ℕ} → r ≡ firstOf (resizes base h k bytes) → (r ≡ 0 → ⊥) → leaves (onlyRefusal r) h ≡ reallocate base h k bytes
+  unfolding reallocate
+  reallocate-refused {r} e ne = sym (refuses r h [] _ (sym (refused-first (resizes base h k bytes) _ e ne)) (omega arith))
+
+  -- none does: the way decides, and no way is refusal 9
+  reallocate-goes : firstOf (resizes base h k bytes) ≡ 0
+      → along (wayTo (h .entries) k (blockCount (h .entries) k) (blocksFor bytes)) h k (blockCount (h .entries) k) (blocksFor bytes) ≡ reallocate base h k bytes
+  unfolding reallocate along
+  reallocate-goes e =
+      sym (rw (first-more (resizes base h k bytes) _ refl e) (go (wayTo (h .entries) k (blockCount (h .entries) k) (blocksFor bytes)) (blockCount (h .entries) k) (blocksFor bytes)))
+    where
+      go : (w : Way) (b c : ℕ) → unlessRefused (firstOf (noRoom (isNoWay w) ∷ [])) h [] (along w h k b c) ≡ along w h k b c
+      go stay b c = accepts _ _ _ (first-last _ refl)
+      go shrink b c = accepts _ _ _ (first-last _ refl)
+      go grow b c = accepts _ _ _ (first-last _ refl)
+      go (move s) b c = accepts _ _ _ (first-last _ refl)
+      go noWay b c = refuses 9 _ _ _ (first-yes _ _ refl) (omega arith)
+
+  module _ (e : firstOf (resizes base h k bytes) ≡ 0) where
+    pub reallocate-stuck : wayTo (h .entries) k (blockCount (h .entries) k) (blocksFor bytes) ≡ noWay → leaves (onlyRefusal 9) h ≡ reallocate base h k bytes
+    unfolding along
+    reallocate-stuck w = ap (λ (way : Way). along way h k (blockCount (h .entries) k) (blocksFor bytes)) (sym w) ∙ reallocate-goes e
+
+    -- from b blocks to c
+    module _ (b c : ℕ) (old : b ≡ blockCount (h .entries) k) (new : c ≡ blocksFor bytes) where
+      goes : {w : Way} → wayTo (h .entries) k b c ≡ w → along w h k b c ≡ reallocate base h k bytes
+      goes p = ap (λ (w : Way). along w h k b c) (sym p) ∙ rw (old, new) (reallocate-goes e)
+
+      -- no blocks given back is no change
+      pub reallocate-shrinks : c ≤ b → placing h k (shrunk h k b c) ≡ reallocate base h k bytes
+      unfolding along shrunk released
+      reallocate-shrinks l = go (ℕ-discrete c b)
+        where
+          go : Dec (c ≡ b) → placing h k (shrunk h k b c) ≡ reallocate base h k bytes
+          go (yes s) = let z : b - c ≡ 0 = omega arith in rw z (goes (way-stay (h .entries) k b c s))
+          go (no s) = goes (way-shrink (h .entries) k b c (omega arith))
+
+      pub reallocate-grows : b < c → Run (h .entries) (c - b) (k + b) → placing h k (grown h k b c) ≡ reallocate base h k bytes
+      unfolding along
+      reallocate-grows l run = goes (way-grow (h .entries) k b c l run)
+
+      pub reallocate-moves : k + b ≤ length (h .entries) → b < c → (Run (h .entries) (c - b) (k + b) → ⊥)
+          → along (movesTo (firstRun (h .entries) c)) h k b c ≡ reallocate base h k bytes
+      reallocate-moves inside l full = goes (way-elsewhere (h .entries) k b c inside l full)

@@ -59,12 +59,16 @@ sets-below l at (v ∷ vs) d m small stored = sets-below (set l at v) (suc at) v
     go i (yes e) (no h) = rw (set-out l at v (omega arith)) (small i)
     go i (no e) _ = rw (getD-set-other l at i v d e) (small i)
 
+-- a run of stores in two parts
+pub sets-append : (l : List ℕ) (at : ℕ) (vs ws : List ℕ) → sets l at (vs ++ ws) ≡ sets (sets l at vs) (at + length vs) ws
+sets-append l at [] ws = let e : at + 0 ≡ at = omega arith in rw e
+sets-append l at (v ∷ vs) ws =
+    let e : at + suc (length vs) ≡ suc at + length vs = omega arith in
+    rw e (sets-append (set l at v) (suc at) vs ws)
+
 -- one store more at the end of the run
 pub sets-snoc : (l : List ℕ) (at : ℕ) (vs : List ℕ) (v : ℕ) → sets l at (vs ++ (v ∷ [])) ≡ set (sets l at vs) (at + length vs) v
-sets-snoc l at [] v = let e : at + 0 ≡ at = omega arith in rw e
-sets-snoc l at (u ∷ vs) v =
-    let e : at + suc (length vs) ≡ suc at + length vs = omega arith in
-    rw e (sets-snoc (set l at u) (suc at) vs v)
+sets-snoc l at vs v = sets-append l at vs (v ∷ [])
 
 pub replicate-snoc : (n v : ℕ) → replicate (suc n) v ≡ replicate n v ++ (v ∷ [])
 replicate-snoc zero v = refl

@@ -5,10 +5,10 @@ use mathlib.Core.List.{List, _++_}
 use Prim.Native.Nat.{ℕ, _+_, _-_, _*_, _≤_, _<_}
 use native.Mathlib.Omega.{arith}
 use lib.ListN.{length, getD, take, drop, replicate, length-append, length-drop, length-replicate, getD-replicate, List·getD-append}
-use lib.Seq.{length-sets, length-take-le, getD-take, getD-drop, getD-append-add}
+use lib.Seq.{sets, length-sets, length-take-le, getD-take, getD-drop, getD-append-add}
 use Rattle.rules.specs.Outcomes.{Heap, clearedBlocks}
 use Rattle.rules.specs.Calls.{moved}
-use Rattle.rules.proofs.Lists.{sets-in, sets-out}
+use Rattle.rules.proofs.Lists.{sets-append, sets-in, sets-out}
 
 zeros-length : (n : ℕ) → length {A = ℕ} (replicate n 0) ≡ n
 zeros-length n = length-replicate n 0
@@ -50,6 +50,13 @@ module _ (h : Heap) (k b c s : ℕ) where
     stored-length : length stored ≡ 16 * c
     unfolding stored
     stored-length = omega (arith, length-append front (replicate (16 * (c - b)) 0), front-length, zeros-length (16 * (c - b)))
+
+    -- copying the front and then clearing the rest
+    pub moved-steps : clearedBlocks (sets (h .pool) (16 * s) (take (16 * b) (drop (16 * k) (h .pool)))) (s + b) (c - b) ≡ moved h k b c s .pool
+    unfolding moved clearedBlocks front
+    moved-steps =
+        let e : 16 * (s + b) ≡ 16 * s + length (take (16 * b) (drop (16 * k) (h .pool))) = omega (arith, front-length) in
+        rw (e, sets-append (h .pool) (16 * s) (take (16 * b) (drop (16 * k) (h .pool))) (replicate (16 * (c - b)) 0))
 
     pub moved-out : (i : ℕ) → (16 * s ≤ i → i < 16 * (s + c) → ⊥) → getD (moved h k b c s .pool) i 0 ≡ getD (h .pool) i 0
     unfolding moved front stored

@@ -1,0 +1,86 @@
+-- `heap::grow` meets its contract: the blocks after the object are a run, which is extended and cleared.
+-- Assumes nothing.
+use mathlib.Core.Path.{_≡_}
+use mathlib.Core.List.{List}
+use Prim.Native.Nat.{ℕ, _+_, _-_, _≤_, _<_}
+use native.Mathlib.Omega.{arith}
+use lib.IntN.{ℤ, subℕ}
+use mir.Syntax.{w32}
+use mir.Val.{toZ, ofZ}
+use borrow.Author.Needs.{needs}
+use Rattle.rules.specs.Entries.{entriesOf}
+use Rattle.rules.specs.Tables.{freeFrom, extended}
+use Rattle.rules.specs.Outcomes.{heapOf, placedAt, leaves, clearedBlocks}
+use Rattle.rules.specs.Calls.{placing, grown}
+use Rattle.rules.proofs.Calls.{grow-change}
+use Rattle.heap.specs.Held.{Held}
+use Rattle.heap.proofs.Held.{held-few, held-room, held-run, change-is}
+use Rattle.heap.proofs.grow.Statement.{statement}
+use Rattle.heap.proofs.grow.Tie as tie
+
+grows : (pool table pool' table' : List ℕ) (k old new end : ℕ) (d : ℤ) → Held pool table k old → (old < new) × (new - old ≤ freeFrom (entriesOf table) (k + old))
+    → end ≡ k + old → pool' ≡ clearedBlocks pool end (new - old) → entriesOf table' ≡ extended (entriesOf table) end (new - old) → d ≡ subℕ new old
+    → leaves (placedAt k (toZ w32 (ofZ w32 d))) (heapOf pool' table') ≡ placing (heapOf pool table) k (grown (heapOf pool table) k old new)
+unfolding placing grown
+grows pool table pool' table' k old new end d held (more, free) e p q r =
+    let few = held-few held in
+    let run = held-run held (new - old) free in
+    let room = run .room in
+    rw (change-is new old d (omega arith) (omega arith) r, p, q, e, grow-change (entriesOf table) k old new (omega arith) run)
+
+plus-requires : tie.Need-plus-requires
+plus-requires c κs =
+    let held = c .before .before .pre .0 in
+    omega (arith, held-room held, held-few held)
+
+sub-extend : tie.Need-sub-extend
+sub-extend c = search needs
+
+extend-requires : tie.Need-extend-requires
+extend-requires c κs =
+    let s = c .before .before .before .before in
+    omega (arith, held-run (s .pre .0) _ (s .pre .1 .1) .room)
+
+sub-clear-blocks : tie.Need-sub-clear-blocks
+sub-clear-blocks c = search needs
+
+clear-blocks-requires : tie.Need-clear-blocks-requires
+clear-blocks-requires c κs =
+    let s = c .before .before .before .before .before .before .before .before in
+    let room = held-run (s .pre .0) _ (s .pre .1 .1) .room in
+    let few = held-few (s .pre .0) in
+    (omega arith, omega arith)
+
+difference-requires : tie.Need-difference-requires
+difference-requires c κs =
+    let s = c .before .before .before .before .before .before .before .before .before .before .before in
+    let room = held-run (s .pre .0) _ (s .pre .1 .1) .room in
+    let few = held-few (s .pre .0) in
+    (omega arith, omega arith)
+
+same-length : tie.Need-same-length
+same-length c = search needs
+
+same-length-2 : tie.Need-same-length-2
+same-length-2 c = search needs
+
+returns : tie.Need-returns
+returns c =
+    let clear = c .before .before .before in
+    let extend = clear .before .before .before .before in
+    let s = extend .before .before .before .before .before in
+    grows _ _ _ _ _ _ _ _ _ (s .pre .0) (s .pre .1) (extend .before .before .plus .ensures) (clear .clear-blocks .ensures) (extend .extend .ensures) (c .difference .ensures)
+
+pub grow-spec : {M : Type 1} → statement M
+grow-spec =
+    tie.close
+    (tie.spec
+    plus-requires
+    sub-extend
+    extend-requires
+    sub-clear-blocks
+    clear-blocks-requires
+    difference-requires
+    same-length
+    same-length-2
+    returns)

@@ -1,0 +1,192 @@
+-- `heap::reallocate` meets its contract: where the check refuses, nothing was written; else the object is held, and the act that the
+-- counts of blocks choose leaves what the definition's way leaves.
+-- Assumes nothing.
+use mathlib.Core.Path.{_≡_, refl, sym, _∙_}
+use mathlib.Core.Bool.{Bool, true, false}
+use mathlib.Core.List.{List, []}
+use Prim.Native.Nat.{ℕ, _+_, _≤_, _<_}
+use native.Mathlib.Omega.{arith}
+use lib.Dec.{leb}
+use lib.ListN.{length}
+use borrow.Author.Needs.{needs}
+use borrow.Author.Tests.{leb-true, leb-false}
+use Rattle.rules.specs.Entries.{entriesOf}
+use Rattle.rules.specs.Tables.{blockCount, freeFrom}
+use Rattle.rules.specs.Outcomes.{heapOf, onlyRefusal, leaves}
+use Rattle.rules.specs.Refusals.{firstOf}
+use Rattle.rules.specs.Calls.{blocksFor, reallocate}
+use Rattle.rules.specs.Meaning.{Run}
+use Rattle.rules.proofs.Tables.{run-le}
+use Rattle.rules.proofs.Refusals.{passed, named-resize, few-bytes}
+use Rattle.rules.proofs.Calls.{blocks-some, blocks-least, request-no-way, reallocate-refused, reallocate-stuck, reallocate-shrinks, reallocate-grows, reallocate-moves}
+use Rattle.checks.specs.Checks.{resizeTests}
+use Rattle.heap.specs.Held.{Held}
+use Rattle.heap.proofs.Held.{held-few, held-room, held-run}
+use Rattle.heap.proofs.reallocate.Statement.{statement}
+use Rattle.heap.proofs.reallocate.Tie as tie
+
+-- none of the tests holds
+module _ (base : ℕ) (pool table : List ℕ) (k bytes : ℕ) (e : firstOf (resizeTests base (heapOf pool table) k bytes) ≡ 0) where
+  object : (b : ℕ) → b ≡ blockCount (entriesOf table) k → Held pool table k b
+  object b count =
+      let p = passed base (heapOf pool table) _ e in
+      let n = named-resize base (heapOf pool table) k bytes [] e .1 in
+      record { few = few-bytes base pool table (p .shape); long = p .shape .pool; well = p .well; inside = n .inside; head = n .head; count = count }
+
+  too-long : length pool < bytes → leaves (onlyRefusal 9) (heapOf pool table) ≡ reallocate base (heapOf pool table) k bytes
+  too-long l =
+      let o = object _ refl in
+      reallocate-stuck base (heapOf pool table) k bytes e (request-no-way (entriesOf table) pool k bytes (o .long) l (o .head))
+
+  -- the blocks that hold the bytes
+  module _ (c : ℕ) (new : c ≡ blocksFor bytes) where
+    wanted : 0 < c
+    wanted = rw new (blocks-some bytes (named-resize base (heapOf pool table) k bytes [] e .0))
+
+    within : bytes ≤ length pool → c ≤ 4096
+    within l =
+        let o = object _ refl in
+        omega (arith, new, blocks-least bytes (length (entriesOf table)) (omega (arith, o .long)), held-few o)
+
+-- the answer whether the blocks directly after the object are free
+module _ (table : List ℕ) (k b n end : ℕ) {r : Bool} (e : r ≡ leb n (freeFrom (entriesOf table) end)) (at : end ≡ k + b) where
+  free : r ≡ true → n ≤ freeFrom (entriesOf table) (k + b)
+  free t = rw at at (leb-true n (freeFrom (entriesOf table) end) (sym e ∙ t))
+
+  full : r ≡ false → Run (entriesOf table) n (k + b) → ⊥
+  full f run = omega (arith, rw at at (leb-false n (freeFrom (entriesOf table) end) (sym e ∙ f)), run-le (entriesOf table) n (k + b) run)
+
+-- where the check has passed, the object is held
+accepted : (c : tie.After-block-count-arg) → let a = c .before .before .before .before .before .before .before .before .before .args in firstOf (resizeTests (a .base .0) (heapOf (a .pool .now) (a .table .now)) (a .k .0) (a .bytes .0)) ≡ 0
+accepted c = sym (c .before .before .before .before .resize .ensures) ∙ c .before .before .before .if1 .left
+
+held : (c : tie.After-block-count) → let a = c .before .before .before .before .before .before .before .before .before .before .args in Held (a .pool .now) (a .table .now) (a .k .0) (c .block-count .result)
+held c = let a = c .before .before .before .before .before .before .before .before .before .before .args in object (a .base .0) _ _ _ (a .bytes .0) (accepted (c .before)) _ (c .block-count .ensures .0)
+
+resize-requires : tie.Need-resize-requires
+resize-requires c κs = tt
+
+unplaced-requires : tie.Need-unplaced-requires
+unplaced-requires c κs = tt
+
+same-length : tie.Need-same-length
+same-length c = search needs
+
+same-length-2 : tie.Need-same-length-2
+same-length-2 c = search needs
+
+returns : tie.Need-returns
+returns c = rw (c .unplaced .ensures) (reallocate-refused _ _ _ _ (c .before .before .resize .ensures) (c .before .if1 .taken))
+
+unplaced-requires-2 : tie.Need-unplaced-requires-2
+unplaced-requires-2 c κs = tt
+
+same-length-3 : tie.Need-same-length-3
+same-length-3 c = search needs
+
+same-length-4 : tie.Need-same-length-4
+same-length-4 c = search needs
+
+returns-2 : tie.Need-returns-2
+returns-2 c = rw (c .unplaced2 .ensures) (too-long _ _ _ _ _ (sym (c .before .before .before .before .resize .ensures) ∙ c .before .before .before .if1 .left) (c .before .if2 .taken))
+
+block-count-requires : tie.Need-block-count-requires
+block-count-requires c κs =
+    let a = c .before .before .before .before .before .before .before .before .before .args in
+    let o = object (a .base .0) _ _ _ (a .bytes .0) (accepted c) _ refl in
+    (o .few, o .inside)
+
+blocks-requires : tie.Need-blocks-requires
+blocks-requires c κs = omega (arith, held c .long, held-few (held c), c .before .before .if2 .left)
+
+shrink-requires : tie.Need-shrink-requires
+shrink-requires c κs =
+    let n = c .before .before in
+    (held (n .before .before), (wanted _ _ _ _ _ (accepted (n .before .before .before)) _ (n .before .blocks2 .ensures), n .if3 .taken))
+
+same-length-5 : tie.Need-same-length-5
+same-length-5 c = search needs
+
+same-length-6 : tie.Need-same-length-6
+same-length-6 c = search needs
+
+returns-3 : tie.Need-returns-3
+returns-3 c =
+    let n = c .before .before .before .before .before in
+    rw (c .before .before .shrink .ensures) (reallocate-shrinks _ _ _ _ (accepted (n .before .before .before)) _ _ (n .before .before .block-count .ensures .0) (n .before .blocks2 .ensures) (n .if3 .taken))
+
+plus-requires : tie.Need-plus-requires
+plus-requires c κs = omega (arith, held-room (held (c .before .before .before)), held-few (held (c .before .before .before)))
+
+sub-is-free : tie.Need-sub-is-free
+sub-is-free c = search needs
+
+is-free-requires : tie.Need-is-free-requires
+is-free-requires c κs =
+    let h = held (c .before .before .before .before) in
+    (h .few, omega (arith, c .plus .ensures, held-room h))
+
+grow-requires : tie.Need-grow-requires
+grow-requires c κs =
+    let n = c .before .before .before .before .before .before in
+    (held (n .before .before), (omega arith, free _ _ _ _ _ (c .before .before .before .is-free .ensures) (c .before .before .before .before .plus .ensures) (c .before .before .if4 .taken)))
+
+same-length-7 : tie.Need-same-length-7
+same-length-7 c = search needs
+
+same-length-8 : tie.Need-same-length-8
+same-length-8 c = search needs
+
+returns-4 : tie.Need-returns-4
+returns-4 c =
+    let n = c .before .before .before .before .before .before .before .before .before .before .before in
+    let run = held-run (held (n .before .before)) _ (free _ _ _ _ _ (c .before .before .before .before .before .before .before .before .is-free .ensures) (c .before .before .before .before .before .before .before .before .before .plus .ensures) (c .before .before .before .before .before .before .before .if4 .taken)) in
+    rw (c .before .before .before .before .grow .ensures) (reallocate-grows _ _ _ _ (accepted (n .before .before .before)) _ _ (n .before .before .block-count .ensures .0) (n .before .blocks2 .ensures) (omega arith) run)
+
+relocate-requires : tie.Need-relocate-requires
+relocate-requires c κs =
+    let n = c .before .before .before .before .before .before in
+    (held (n .before .before), (omega arith, within _ _ _ _ _ (accepted (n .before .before .before)) _ (n .before .blocks2 .ensures) (n .before .before .before .before .if2 .left)))
+
+same-length-9 : tie.Need-same-length-9
+same-length-9 c = search needs
+
+same-length-10 : tie.Need-same-length-10
+same-length-10 c = search needs
+
+returns-5 : tie.Need-returns-5
+returns-5 c =
+    let n = c .before .before .before .before .before .before .before .before .before .before .before in
+    let no-run = full _ _ _ _ _ (c .before .before .before .before .before .before .before .before .is-free .ensures) (c .before .before .before .before .before .before .before .before .before .plus .ensures) (c .before .before .before .before .before .before .before .if4 .left) in
+    rw (c .before .before .before .before .relocate .ensures) (reallocate-moves _ _ _ _ (accepted (n .before .before .before)) _ _ (n .before .before .block-count .ensures .0) (n .before .blocks2 .ensures) (held-room (held (n .before .before))) (omega arith) no-run)
+
+pub reallocate-spec : {M : Type 1} → statement M
+reallocate-spec =
+    tie.close
+    (tie.spec
+    resize-requires
+    unplaced-requires
+    same-length
+    same-length-2
+    returns
+    unplaced-requires-2
+    same-length-3
+    same-length-4
+    returns-2
+    block-count-requires
+    blocks-requires
+    shrink-requires
+    same-length-5
+    same-length-6
+    returns-3
+    plus-requires
+    sub-is-free
+    is-free-requires
+    grow-requires
+    same-length-7
+    same-length-8
+    returns-4
+    relocate-requires
+    same-length-9
+    same-length-10
+    returns-5)

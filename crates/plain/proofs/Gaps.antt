@@ -1,0 +1,222 @@
+-- The gaps and the counts of a laid list are those of its table: the lowest gap with room, the gap after an object, the longest gap, used blocks and objects.
+-- Assumes nothing.
+use mathlib.Core.Path.{_≡_, refl, sym, _∙_}
+use mathlib.Core.Logic.{_≢_}
+use mathlib.Core.Bool.{Bool, true, false, not}
+use mathlib.Core.List.{List, _∷_}
+use mathlib.Core.Option.{some, none}
+use Prim.Native.Nat.{ℕ, zero, suc, _+_, _-_, _≤_, _<_, max}
+use native.Mathlib.Nat.{zero-max, max-zero}
+use native.Mathlib.Decide.{ℕ-discrete, decLt}
+use native.Mathlib.Omega.{arith}
+use lib.Dec.{leb}
+use lib.ListN.{length, drop, length-drop}
+use lib.Seq.{drop-cons, getD-drop, drop-length}
+use borrow.Author.Tests.{eq-eqb, ne-eqb, lt-ltb, le-ltb, leb-true, leb-false}
+use Rattle.rules.specs.Tests.{pick, count, leading}
+use Rattle.rules.specs.Entries.{FREE}
+use Rattle.rules.specs.Tables.{entryAt, isFree, isHead, freeFrom, firstRun, used, objects, longest}
+use Rattle.rules.specs.Meaning.{Run, Lowest}
+use Rattle.rules.proofs.Lists.{count-cons, leading-is}
+use Rattle.rules.proofs.Tables.{run-le, run-longest, first-is}
+use Rattle.plain.specs.Objects.{Object, end, total, find, lowestGap, longestGap, nextStart}
+use Rattle.plain.proofs.Laid.{Clear, Lies, lies-used, Laid, done, next, find-below}
+
+-- ---- the lowest gap with room
+
+module _ {pool es : List ℕ} (b : ℕ) (some-block : 0 < b) where
+  -- no run reaches into an object
+  run-before : {from : ℕ} {o : Object} → Lies pool es o → ((q : ℕ) → q < from → Run es b q → ⊥) → o .start < from + b → (q : ℕ) → q < end o → Run es b q → ⊥
+  run-before {from} {o} y lower l q h r = go (decLt q from) (decLt (o .start) q)
+    where
+      go : Dec (q < from) → Dec (o .start < q) → ⊥
+      go (yes u) _ = lower q u r
+      go (no u) (yes v) = let e : q + 0 ≡ q = omega arith in lies-used y q (omega arith) h (rw e at (r .free 0 some-block))
+      go (no u) (no v) =
+          let e : q + (o .start - q) ≡ o .start = omega arith in
+          let p = y .some-block in
+          lies-used y (o .start) (omega arith) (omega arith) (rw e at (r .free (o .start - q) (omega arith)))
+
+  gap-lowest : {from : ℕ} {os : List Object} → Laid pool es from os → ((q : ℕ) → q < from → Run es b q → ⊥) → Lowest es b (lowestGap (length es) b from os)
+  unfolding lowestGap Lowest
+  gap-lowest {from} (done r g) lower = go (leb (from + b) (length es)) refl
+    where
+      go : (t : Bool) → leb (from + b) (length es) ≡ t → Lowest es b (pick t (some from) none)
+      go true e =
+          let l = leb-true (from + b) (length es) e in
+          (record { room = l; free = λ j h. g (from + j) (omega arith) (omega arith) }, lower)
+      go false e =
+          let l = leb-false (from + b) (length es) e in
+          λ q u. let m = u .room in lower q (omega arith) u
+  gap-lowest {from} (next {o = o} {os = os} l g y e r) lower = go (leb (from + b) (o .start)) refl (gap-lowest r)
+    where
+      go : (t : Bool) → leb (from + b) (o .start) ≡ t → (((q : ℕ) → q < end o → Run es b q → ⊥) → Lowest es b (lowestGap (length es) b (end o) os))
+          → Lowest es b (pick t (some from) (lowestGap (length es) b (end o) os))
+      go true q rest =
+          let u = leb-true (from + b) (o .start) q in
+          (record { room = omega arith; free = λ j h. g (from + j) (omega arith) (omega arith) }, lower)
+      go false q rest = rest (run-before {from = from} y lower (leb-false (from + b) (o .start) q))
+
+  pub laid-lowest : {os : List Object} → Laid pool es 0 os → firstRun es b ≡ lowestGap (length es) b 0 os
+  laid-lowest {os} d = first-is es b (lowestGap (length es) b 0 os) some-block (gap-lowest d (λ q h. absurd (omega arith)))
+
+-- ---- the gap after an object
+
+-- from block a up to block m there is room, and no further
+pub record Gap (es : List ℕ) (a m : ℕ) : Type 0 where
+  pub from : a ≤ m
+  pub room : m ≤ length es
+  pub clear : Clear es a m
+  pub stop : m < length es → entryAt es m ≢ FREE
+
+pub gap-free : (es : List ℕ) (a m : ℕ) → Gap es a m → freeFrom es a ≡ m - a
+gap-free es a m g =
+    let f = g .from in
+    let l = g .room in
+    let r = run-longest es a (omega arith) in
+    let u = r .room in
+    let le = run-le es (m - a) a (record { room = omega arith; free = λ j h. g .clear (a + j) (omega arith) (omega arith) }) in
+    go (decLt (m - a) (freeFrom es a)) r le
+  where
+    go : Dec (m - a < freeFrom es a) → Run es (freeFrom es a) a → m - a ≤ freeFrom es a → freeFrom es a ≡ m - a
+    go (yes h) r le =
+        let f = g .from in
+        let u = r .room in
+        let e : a + (m - a) ≡ m = omega arith in
+        absurd (g .stop (omega arith) (rw e at (r .free (m - a) h)))
+    go (no h) r le = omega arith
+
+module _ {pool es : List ℕ} where
+  -- the gap before the first object
+  first-gap : {from : ℕ} {os : List Object} → Laid pool es from os → (k : ℕ) → k < from → Gap es from (nextStart (length es) k os)
+  unfolding nextStart
+  first-gap (done r g) k h = record { from = r; room = omega arith; clear = g; stop = λ l. absurd (omega arith) }
+  first-gap (next {o = o} l g y e r) k h =
+      let b = y .some-block in
+      let p = y .head in
+      rw (lt-ltb k (o .start) (omega arith)) (record { from = l; room = omega arith; clear = g; stop = λ i f. omega arith })
+
+  pub next-gap : {from : ℕ} {os : List Object} → Laid pool es from os → (o : Object) → find (o .start) os ≡ some o → Gap es (end o) (nextStart (length es) (o .start) os)
+  unfolding nextStart find
+  next-gap (done r g) x q = let z : _≡_ {A = ℕ} 0 1 = cc in absurd (omega arith)
+  next-gap {from} (next {o = o} {os = os} l g y e r) x q = go (ℕ-discrete (o .start) (x .start)) (decLt (x .start) (end o)) (next-gap r x)
+    where
+      go : Dec (o .start ≡ x .start) → Dec (x .start < end o) → (find (x .start) os ≡ some x → Gap es (end x) (nextStart (length es) (x .start) os))
+          → Gap es (end x) (nextStart (length es) (x .start) (o ∷ os))
+      go (yes p) _ rest =
+          let s : some o ≡ some x = rw (eq-eqb (o .start) (x .start) p) at q in
+          let i : o ≡ x = cc in
+          let b = y .some-block in
+          rw (le-ltb (x .start) (o .start) (omega arith)) (rw i at (first-gap r (x .start) (omega arith)))
+      go (no p) (yes u) rest =
+          let s : find (x .start) os ≡ some x = rw (ne-eqb (o .start) (x .start) p) at q in
+          let n = find-below r (x .start) u in
+          let z : _≡_ {A = ℕ} 0 1 = cc in
+          absurd (omega arith)
+      go (no p) (no u) rest =
+          let b = y .some-block in
+          rw (le-ltb (x .start) (o .start) (omega arith)) (rest (rw (ne-eqb (o .start) (x .start) p) at q))
+
+-- ---- counts
+
+module _ (f : ℕ → Bool) (es : List ℕ) where
+  count-none-from : (a m : ℕ) → a + m ≤ length es → ((k : ℕ) → a ≤ k → k < a + m → f (entryAt es k) ≡ false) → count f (drop a es) ≡ count f (drop (a + m) es)
+  count-none-from a zero h g = let e : a + 0 ≡ a = omega arith in rw e
+  count-none-from a (suc m) h g =
+      let e : a + suc m ≡ suc a + m = omega arith in
+      let i = count-none-from (suc a) m (omega arith) (λ k l u. g k (omega arith) (omega arith)) in
+      rw (e, drop-cons es a FREE (omega arith), count-cons f (entryAt es a) (drop (suc a) es), g a (omega arith) (omega arith)) (omega arith)
+
+  count-all-from : (a m : ℕ) → a + m ≤ length es → ((k : ℕ) → a ≤ k → k < a + m → f (entryAt es k) ≡ true) → count f (drop a es) ≡ m + count f (drop (a + m) es)
+  count-all-from a zero h g = let e : a + 0 ≡ a = omega arith in rw e (omega arith)
+  count-all-from a (suc m) h g =
+      let e : a + suc m ≡ suc a + m = omega arith in
+      let i = count-all-from (suc a) m (omega arith) (λ k l u. g k (omega arith) (omega arith)) in
+      rw (e, drop-cons es a FREE (omega arith), count-cons f (entryAt es a) (drop (suc a) es), g a (omega arith) (omega arith)) (omega arith)
+
+module _ {pool es : List ℕ} where
+  used-from : {from : ℕ} {os : List Object} → Laid pool es from os → count (λ (e : ℕ). not (isFree e)) (drop from es) ≡ total os
+  unfolding total count
+  used-from {from} (done r g) =
+      let e : from + (length es - from) ≡ length es = omega arith in
+      let i = count-none-from (λ (e : ℕ). not (isFree e)) es from (length es - from) (omega arith) (λ k l u. rw (g k l (omega arith))) in
+      i ∙ rw (e, drop-length es)
+  used-from {from} (next {o = o} l g y e r) =
+      let p : from + (o .start - from) ≡ o .start = omega arith in
+      let i = count-none-from (λ (e : ℕ). not (isFree e)) es from (o .start - from) (omega arith) (λ k l u. rw (g k l (omega arith))) in
+      let j = count-all-from (λ (e : ℕ). not (isFree e)) es (o .start) (o .blocks) e (λ k l u. rw (ne-eqb (entryAt es k) FREE (lies-used y k l u))) in
+      omega (arith, rw p at i, used-from r)
+
+  pub laid-used : {os : List Object} → Laid pool es 0 os → used es ≡ total os
+  unfolding used
+  laid-used d = used-from d
+
+  objects-from : {from : ℕ} {os : List Object} → Laid pool es from os → count isHead (drop from es) ≡ length os
+  unfolding count
+  objects-from {from} (done r g) =
+      let e : from + (length es - from) ≡ length es = omega arith in
+      let i = count-none-from isHead es from (length es - from) (omega arith) (λ k l u. rw (g k l (omega arith))) in
+      i ∙ rw (e, drop-length es)
+  objects-from {from} (next {o = o} l g y e r) =
+      let p : from + (o .start - from) ≡ o .start = omega arith in
+      let q : suc (o .start) + (o .blocks - 1) ≡ end o = omega (arith, y .some-block) in
+      let b = y .some-block in
+      let i = count-none-from isHead es from (o .start - from) (omega arith) (λ k l u. rw (g k l (omega arith))) in
+      let h = count-all-from isHead es (o .start) 1 (omega arith) (λ k l u. let s : k ≡ o .start = omega arith in rw (s, y .head)) in
+      let j = count-none-from isHead es (o .start + 1) (o .blocks - 1) (omega arith) (λ k l u. rw (y .tails k (omega arith) (omega arith))) in
+      let m : o .start + 1 + (o .blocks - 1) ≡ end o = omega arith in
+      omega (arith, rw p at i, rw m at j, objects-from r)
+
+  pub laid-objects : {os : List Object} → Laid pool es 0 os → objects es ≡ length os
+  unfolding objects
+  laid-objects d = objects-from d
+
+-- ---- the longest gap
+
+max-again : (m x : ℕ) → max (suc m) (max m x) ≡ max (suc m) x
+max-again m x = omega arith
+
+module _ (es : List ℕ) where
+  longest-here : (a : ℕ) → a < length es → longest (drop a es) ≡ max (leading isFree (drop a es)) (longest (drop (suc a) es))
+  unfolding longest
+  longest-here a h = rw (drop-cons es a FREE h)
+
+  -- a used block ends a gap
+  longest-used : (a : ℕ) → a < length es → entryAt es a ≢ FREE → longest (drop a es) ≡ longest (drop (suc a) es)
+  unfolding longest leading
+  longest-used a h u = rw (drop-cons es a FREE h, ne-eqb (entryAt es a) FREE u) (zero-max (longest (drop (suc a) es)))
+
+  longest-over : (a m : ℕ) → a + m ≤ length es → ((k : ℕ) → a ≤ k → k < a + m → entryAt es k ≢ FREE) → longest (drop a es) ≡ longest (drop (a + m) es)
+  longest-over a zero h g = let e : a + 0 ≡ a = omega arith in rw e
+  longest-over a (suc m) h g =
+      let e : a + suc m ≡ suc a + m = omega arith in
+      rw e (longest-used a (omega arith) (g a (omega arith) (omega arith)) ∙ longest-over (suc a) m (omega arith) (λ k l u. g k (omega arith) (omega arith)))
+
+  longest-gap : (a m : ℕ) → a + m ≤ length es → Clear es a (a + m) → (a + m < length es → entryAt es (a + m) ≢ FREE)
+      → longest (drop a es) ≡ max m (longest (drop (a + m) es))
+  longest-gap a zero h g stop = let e : a + 0 ≡ a = omega arith in rw e (sym (zero-max (longest (drop a es))))
+  longest-gap a (suc m) h g stop =
+      let e : a + suc m ≡ suc a + m = omega arith in
+      let l : leading isFree (drop a es) ≡ suc m = leading-is isFree (drop a es) (suc m) FREE (simp length-drop (omega arith))
+      (λ i u. rw (getD-drop a es i FREE) (eq-eqb _ _ (g (a + i) (omega arith) (omega arith))))
+      (λ u. rw (getD-drop a es (suc m) FREE) (ne-eqb _ _ (stop (omega (arith, length-drop a es))))) in
+      let i : longest (drop (suc a) es) ≡ max m (longest (drop (suc a + m) es)) =
+      longest-gap (suc a) m (omega arith) (λ k p q. g k (omega arith) (omega arith)) (rw (← e) stop) in
+      longest-here a (omega arith) ∙ rw (l, i, e) (max-again m (longest (drop (suc a + m) es)))
+
+module _ {pool es : List ℕ} where
+  longest-from : {from : ℕ} {os : List Object} → Laid pool es from os → longest (drop from es) ≡ longestGap (length es) from os
+  unfolding longestGap longest
+  longest-from {from} (done r g) =
+      let e : from + (length es - from) ≡ length es = omega arith in
+      let i = longest-gap es from (length es - from) (omega arith) (λ k l u. g k l (omega arith)) (λ l. absurd (omega arith)) in
+      i ∙ rw (e, drop-length es) (max-zero (length es - from))
+  longest-from {from} (next {o = o} l g y e r) =
+      let p : from + (o .start - from) ≡ o .start = omega arith in
+      let b = y .some-block in
+      let i = longest-gap es from (o .start - from) (omega arith) (λ k l u. g k l (omega arith)) (λ u. rw p (lies-used y (o .start) (omega arith) (omega arith))) in
+      let j = longest-over es (o .start) (o .blocks) e (λ k l u. lies-used y k l u) in
+      i ∙ rw (p, j, longest-from r)
+
+  pub laid-longest : {os : List Object} → Laid pool es 0 os → longest es ≡ longestGap (length es) 0 os
+  laid-longest d = longest-from d

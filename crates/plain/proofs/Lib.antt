@@ -1,0 +1,13 @@
+pub mod Sums
+pub mod Laid
+pub mod Gaps
+pub mod Edits
+pub mod Words
+pub mod Agrees
+pub mod Acts
+pub mod Places
+pub mod Resizes
+pub mod Traces
+pub mod Sweeps
+pub mod Refinement
+pub mod Reached

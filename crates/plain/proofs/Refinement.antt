@@ -1,0 +1,66 @@
+-- The heap is a plain list: an accepted init makes the heap represent the empty list, and each call after it agrees with the list's rule.
+-- Assumes nothing.
+use mathlib.Core.Path.{_≡_, refl, sym, ap, _∙_}
+use mathlib.Core.Bool.{true}
+use mathlib.Core.List.{List, [], _∷_}
+use Prim.Native.Nat.{ℕ, _*_}
+use lib.ListN.{length, replicate, length-replicate}
+use borrow.Author.Tests.{eq-eqb, le-leb}
+use Rattle.rules.specs.Entries.{FREE}
+use Rattle.rules.specs.Pointers.{addressOf, goodBase}
+use Rattle.rules.specs.Outcomes.{Heap, Answer}
+use Rattle.rules.specs.Refusals.{goodShape}
+use Rattle.rules.specs.Calls.{init}
+use Rattle.rules.specs.Runs.{Call, Init, Allocate, Free, Reallocate, Collect, Survey, Load, Store, Turn, step, answers}
+use Rattle.rules.proofs.Refusals.{shape-true}
+use Rattle.plain.specs.Objects.{Plain}
+use Rattle.plain.specs.Replies.{reply, replies}
+use Rattle.plain.specs.Refines.{AnswersAsList}
+use Rattle.plain.proofs.Sums.{init-accepted}
+use Rattle.plain.proofs.Agrees.{Represents, Agrees}
+use Rattle.plain.proofs.Acts.{empty-laid, init-agrees, survey-agrees, load-agrees, store-agrees}
+use Rattle.plain.proofs.Places.{free-agrees, allocate-agrees}
+use Rattle.plain.proofs.Resizes.{reallocate-agrees}
+use Rattle.plain.proofs.Sweeps.{collect-agrees}
+
+-- each call
+pub step-agrees : (c : Call) (stack : List ℕ) {p : Plain} {h : Heap} → Represents p h → Agrees (reply c stack p) (step c stack h)
+unfolding step
+step-agrees (Init base) stack r = init-agrees r base stack
+step-agrees (Allocate base bytes) stack r = allocate-agrees r base bytes stack
+step-agrees (Free base k) stack r = free-agrees r base k stack
+step-agrees (Reallocate base k bytes) stack r = reallocate-agrees r base k bytes stack
+step-agrees (Collect base roots) stack r = collect-agrees r base roots stack
+step-agrees (Survey base) stack r = survey-agrees r base stack
+step-agrees (Load base k i) stack r = load-agrees r base k i stack
+step-agrees (Store base k i w) stack r = store-agrees r base k i w stack
+
+-- an answer and those after it
+both-same : {a b : Answer} {xs ys : List Answer} → a ≡ b → xs ≡ ys → a ∷ xs ≡ b ∷ ys
+both-same e f = cc
+
+-- calls in a row
+pub all-agree : (ts : List Turn) {p : Plain} {h : Heap} → Represents p h → answers ts h ≡ replies ts p
+unfolding answers replies
+all-agree [] r = refl
+all-agree (t ∷ ts) r =
+    let a = step-agrees (t .call) (t .stack) r in
+    both-same (a .answer) (all-agree ts (a .heap))
+
+-- an accepted init, whatever was there before
+first-init : (base : ℕ) (h : Heap) (p : Plain) → goodShape base h ≡ true → p .size ≡ length (h .entries) → Agrees (reply (Init base) [] p) (init base h)
+unfolding reply goodBase addressOf
+first-init base h p good same =
+    let s = shape-true base h good in
+    let l : length (replicate (length (h .entries)) FREE) ≡ length (h .entries) = length-replicate (length (h .entries)) FREE in
+    rw (same, init-accepted base h good, eq-eqb _ _ (s .aligned), le-leb _ _ (s .above), le-leb _ _ (s .below))
+    (record {
+      answer = refl;
+      heap = record { size = sym l; some = rw l (s .some); few = rw l (s .few); pool = s .pool ∙ ap (λ (n : ℕ). 16 * n) (sym l); laid = empty-laid (h .pool) (length (h .entries)) };
+    })
+
+pub answers-as-list : AnswersAsList
+unfolding AnswersAsList answers replies step
+answers-as-list base h p ts good same =
+    let a = first-init base h p good same in
+    both-same (a .answer) (all-agree ts (a .heap))

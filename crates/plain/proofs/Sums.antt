@@ -1,0 +1,109 @@
+-- Used blocks are the sum of the answered changes: each call answers the change that it makes, a refused one none.
+-- Assumes nothing.
+use mathlib.Core.Path.{_≡_, refl, sym, ap, _∙_}
+use mathlib.Core.Bool.{Bool, true, false, not, cond}
+use mathlib.Core.List.{List, [], _∷_}
+use Prim.Native.Nat.{ℕ, zero, suc, _-_, _≤_}
+use native.Mathlib.Omega.{arith}
+use lib.Dec.{ltb}
+use lib.IntN.{ℤ, pos, negsuc, subℕ, _+ℤ_, +ℤ-idr}
+use lib.ListN.{length, replicate}
+use borrow.Author.Tests.{ltb-true, ltb-false, le-ltb}
+use Rattle.rules.specs.Tables.{used, isFree}
+use Rattle.rules.specs.Entries.{FREE}
+use Rattle.rules.specs.Outcomes.{Heap, Outcome, onlyRefusal, changeFrom, leaves, unlessRefused}
+use Rattle.rules.specs.Refusals.{goodShape, badShape}
+use Rattle.rules.specs.Calls.{Way, stay, shrink, grow, move, noWay, init, placing, allocate, free, along, reallocate, collecting, collect, survey, load, store}
+use Rattle.rules.specs.Runs.{Call, Init, Allocate, Free, Reallocate, Collect, Survey, Load, Store, Turn, step, after}
+use Rattle.rules.proofs.Lists.{count-none}
+use Rattle.rules.proofs.Refusals.{first-last, accepts}
+use Rattle.plain.specs.Refines.{counted, changes, UsedIsSum}
+
+-- ---- whole numbers
+
+pub sub-le : (a b : ℕ) → b ≤ a → subℕ a b ≡ pos (a - b)
+sub-le a b h = rw (le-ltb a b h)
+
+-- a change added to what was used before gives what is used after
+change-adds : (a b : ℕ) → pos b +ℤ subℕ a b ≡ pos a
+change-adds a b = go (ltb a b) refl
+  where
+    go : (t : Bool) → ltb a b ≡ t → pos b +ℤ cond t (negsuc (b - suc a)) (pos (a - b)) ≡ pos a
+    go true e =
+        let l = ltb-true a b e in
+        let m : b - suc (b - suc a) ≡ a = omega arith in
+        sub-le b (suc (b - suc a)) (omega arith) ∙ ap pos m
+    go false e = let l = ltb-false a b e in ap pos (omega arith)
+
+-- ---- one call
+
+-- the sum d is the used blocks
+abbrev Sums : Heap → ℤ → Type 0
+Sums h d = d ≡ pos (used (h .entries))
+
+-- an outcome answers the change that it makes
+record Honest (h : Heap) (o : Outcome) : Type 0 where
+  sums : (d : ℤ) → Sums h d → Sums (o .heap) (d +ℤ o .answer .change)
+
+honest-same : (h : Heap) (o : Outcome) → o .heap .entries ≡ h .entries → o .answer .change ≡ pos 0 → Honest h o
+honest-same h o e c = record { sums = λ d s. rw (c, e) (+ℤ-idr d ∙ s) }
+
+honest-change : (h : Heap) (o : Outcome) → o .answer .change ≡ changeFrom (h .entries) (o .heap .entries) → Honest h o
+unfolding changeFrom
+honest-change h o c = record { sums = λ d s. rw (c, s) (change-adds (used (o .heap .entries)) (used (h .entries))) }
+
+honest-refused : (r : ℕ) (h : Heap) (stack : List ℕ) (acted : Outcome) → Honest h acted → Honest h (unlessRefused r h stack acted)
+unfolding unlessRefused
+honest-refused zero h stack acted p = p
+honest-refused (suc r) h stack acted p = honest-same h (unlessRefused (suc r) h stack acted) refl refl
+
+honest-along : (w : Way) (h : Heap) (k b c : ℕ) → Honest h (along w h k b c)
+unfolding along placing
+honest-along stay h k b c = honest-change h (along stay h k b c) refl
+honest-along shrink h k b c = honest-change h (along shrink h k b c) refl
+honest-along grow h k b c = honest-change h (along grow h k b c) refl
+honest-along (move s) h k b c = honest-change h (along (move s) h k b c) refl
+honest-along noWay h k b c = honest-same h (along noWay h k b c) refl refl
+
+none-used : (n : ℕ) → used (replicate n FREE) ≡ 0
+unfolding used
+none-used n = count-none (λ (e : ℕ). not (isFree e)) n FREE refl
+
+-- an init starts the sum anew if it is accepted, and leaves all as it was if not
+init-sums : (r : ℕ) (base : ℕ) (h : Heap) (acted : Outcome) (d : ℤ) → used (acted .heap .entries) ≡ 0 → acted .answer .refusal ≡ 0 → Sums h d
+    → Sums (unlessRefused r h [] acted .heap) (counted (Init base) (unlessRefused r h [] acted .answer) d)
+unfolding unlessRefused counted
+init-sums zero base h acted d e a s = rw (a, e)
+init-sums (suc r) base h acted d e a s = s
+
+step-sums : (c : Call) (stack : List ℕ) (h : Heap) (d : ℤ) → Sums h d → Sums (step c stack h .heap) (counted c (step c stack h .answer) d)
+unfolding step counted init allocate free reallocate collect survey load store placing collecting
+step-sums (Init base) stack h d s = init-sums _ base h _ d (none-used (length (h .entries))) refl s
+step-sums (Allocate base bytes) stack h d s = honest-refused _ h [] _ (honest-change h _ refl) .sums d s
+step-sums (Free base k) stack h d s = honest-refused _ h [] _ (honest-change h _ refl) .sums d s
+step-sums (Reallocate base k bytes) stack h d s = honest-refused _ h [] _ (honest-along _ h k _ _) .sums d s
+step-sums (Collect base roots) stack h d s = honest-refused _ h stack _ (honest-change h _ refl) .sums d s
+step-sums (Survey base) stack h d s = honest-refused _ h [] _ (honest-same h _ refl refl) .sums d s
+step-sums (Load base k i) stack h d s = honest-refused _ h [] _ (honest-same h _ refl refl) .sums d s
+step-sums (Store base k i w) stack h d s = honest-refused _ h [] _ (honest-same h _ refl refl) .sums d s
+
+-- ---- calls in a row
+
+all-sums : (ts : List Turn) (h : Heap) (d : ℤ) → Sums h d → changes ts h d ≡ pos (used (after ts h .entries))
+unfolding changes after
+all-sums [] h d s = s
+all-sums (t ∷ ts) h d s =
+    let o = step (t .call) (t .stack) h in
+    all-sums ts (o .heap) (counted (t .call) (o .answer) d) (step-sums (t .call) (t .stack) h d s)
+
+-- an init of a heap of good shape is accepted
+pub init-accepted : (base : ℕ) (h : Heap) → goodShape base h ≡ true
+    → init base h ≡ leaves (onlyRefusal 0) (record { pool = h .pool; entries = replicate (length (h .entries)) FREE })
+unfolding init
+init-accepted base h good = accepts h [] _ (first-last (badShape base h) (rw good))
+
+-- after it nothing is used
+pub used-is-sum : UsedIsSum
+unfolding UsedIsSum changes after step counted
+used-is-sum base h ts d good =
+    all-sums ts (init base h .heap) (counted (Init base) (init base h .answer) d) (rw (init-accepted base h good) (ap pos (sym (none-used (length (h .entries))))))

@@ -1,0 +1,58 @@
+-- What the theorems of this crate say. From an accepted init on, any calls in a row, refused ones among them, are answered as the plain list
+-- answers them; what the list's collection keeps is what is reachable in it; and the used blocks are the sum of the changes that were answered
+-- since the latest accepted init.
+-- Assumes nothing.
+use mathlib.Core.Path.{_≡_}
+use mathlib.Core.Bool.{true}
+use mathlib.Core.List.{List, [], _∷_}
+use Prim.Native.Nat.{ℕ, zero, suc, _≤_}
+use lib.IntN.{ℤ, pos, _+ℤ_}
+use lib.ListN.{length}
+use Rattle.rules.specs.Tables.{used}
+use Rattle.rules.specs.Outcomes.{Heap, Answer}
+use Rattle.rules.specs.Refusals.{goodShape}
+use Rattle.rules.specs.Runs.{Call, Init, Allocate, Free, Reallocate, Collect, Survey, Load, Store, Turn, step, after, answers}
+use Rattle.plain.specs.Objects.{Object, Plain}
+use Rattle.plain.specs.Tracing.{trace, among}
+use Rattle.plain.specs.Reaching.{Keeps}
+use Rattle.plain.specs.Replies.{replies, left}
+
+-- an init, and then the calls
+abbrev pub fromInit : ℕ → List Turn → List Turn
+fromInit base ts = record { call = Init base; stack = [] } ∷ ts
+
+-- The heap is a plain list: an init that is accepted, and then any calls with any bases, are answered alike on pool and table and on the list.
+-- What pool, table and list held before the init does not matter.
+unfoldable pub AnswersAsList : Type 0
+AnswersAsList =
+    (base : ℕ) (h : Heap) (p : Plain) (ts : List Turn) → goodShape base h ≡ true → p .size ≡ length (h .entries)
+    → answers (fromInit base ts) h ≡ replies (fromInit base ts) p
+
+-- A collection of a plain list keeps exactly the reachable objects, whatever calls have made the list of an empty one, and with any mark stack.
+unfoldable pub ListKeepsReachable : Type 0
+ListKeepsReachable =
+    (n : ℕ) (ts : List Turn) (base room : ℕ) (roots : List ℕ) → 1 ≤ n → n ≤ 4096
+    → let os : List Object = left ts (record { size = n; objects = [] }) .objects in
+    Keeps base os roots (among (trace (record { base = base; objects = os; room = room }) roots .reached) os)
+
+-- the sum d of the changes, one answer further; an accepted init starts it anew
+unfoldable pub counted : Call → Answer → ℤ → ℤ
+counted (Init base) a d = elim (a .refusal) [ zero ↦ pos 0 | suc r ↦ d ]
+counted (Allocate base bytes) a d = d +ℤ a .change
+counted (Free base k) a d = d +ℤ a .change
+counted (Reallocate base k bytes) a d = d +ℤ a .change
+counted (Collect base roots) a d = d +ℤ a .change
+counted (Survey base) a d = d +ℤ a .change
+counted (Load base k i) a d = d +ℤ a .change
+counted (Store base k i w) a d = d +ℤ a .change
+
+-- the sum of all changes that the calls answer since the latest accepted init, or since d before them
+unfoldable pub changes : List Turn → Heap → ℤ → ℤ
+changes [] h d = d
+changes (t ∷ ts) h d = changes ts (step (t .call) (t .stack) h .heap) (counted (t .call) (step (t .call) (t .stack) h .answer) d)
+
+-- Used blocks are the sum of the answered changes since the latest accepted init, whatever came before it.
+unfoldable pub UsedIsSum : Type 0
+UsedIsSum =
+    (base : ℕ) (h : Heap) (ts : List Turn) (d : ℤ) → goodShape base h ≡ true
+    → changes (fromInit base ts) h d ≡ pos (used (after (fromInit base ts) h .entries))
