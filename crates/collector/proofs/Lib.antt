@@ -1,0 +1,4 @@
+pub mod Pointing
+pub mod Stacking
+pub mod Turning
+pub mod Sweeping
