@@ -9,3 +9,4 @@ pub mod Marking
 pub mod Calls
 pub mod Marks
 pub mod Pools
+pub mod Used
