@@ -1,6 +1,6 @@
 -- What a word leads to, and what a visit and a root do with it.
 -- Assumes nothing.
-use mathlib.Core.Path.{_≡_, refl, sym, ap, _∙_}
+use mathlib.Core.Path.{_≡_, refl, sym}
 use mathlib.Core.Bool.{Bool, true, false}
 use mathlib.Core.List.{List}
 use mathlib.Core.Option.{Option, some, none}
@@ -8,10 +8,10 @@ use Prim.Native.Nat.{ℕ, _-_, _/_, _%_, _<_}
 use native.Mathlib.Omega.{arith}
 use lib.Dec.{eqb, leb, ltb}
 use lib.ListN.{length}
-use borrow.Author.Tests.{eq-eqb, ne-eqb, eqb-true, eqb-false, ltb-true}
-use Rattle.rules.specs.Tests.{pick, both, either}
+use borrow.Author.Tests.{eq-eqb, ne-eqb, eqb-true, ltb-true}
+use Rattle.rules.specs.Tests.{pick, both}
 use Rattle.rules.specs.Entries.{HEAD, MARK}
-use Rattle.rules.specs.Tables.{entryAt, isHead}
+use Rattle.rules.specs.Tables.{entryAt}
 use Rattle.rules.specs.Pointers.{targetOf, headsObject, headAt, leadsTo}
 use Rattle.rules.specs.Marking.{Scene, State, marked, pushed, visitTo, visit, trace, rootTo, markRoot}
 use Rattle.rules.proofs.Marking.{head-inside}
@@ -61,6 +61,7 @@ module _ (base : ℕ) (es : List ℕ) (w : ℕ) where
       at : (j : ℕ) (t : Bool) → eqb (entryAt es j) HEAD ≡ t → some k ≡ pick t (some j) none → (some j ≡ some k) × (entryAt es k ≡ HEAD)
       at j true p q = (sym q, rw (some-same q) (eqb-true _ _ p))
       at j false p q = absurd (not-some (sym q))
+
       to : (o : Option ℕ) → some k ≡ ifHead es o → (o ≡ some k) × (entryAt es k ≡ HEAD)
       to none q = absurd (not-some (sym q))
       to (some j) q = at j (eqb (entryAt es j) HEAD) refl q

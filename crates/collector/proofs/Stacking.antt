@@ -1,9 +1,9 @@
 -- The lent stack: what a push and a pop do to the words that are in use, and what a visit leaves.
 -- Assumes nothing.
-use mathlib.Core.Path.{_≡_, refl, sym, ap, _∙_}
-use mathlib.Core.Bool.{Bool, true}
-use mathlib.Core.List.{List, [], _∷_}
-use mathlib.Core.Option.{Option, some, none}
+use mathlib.Core.Path.{_≡_, refl, sym, ap}
+use mathlib.Core.Bool.{true}
+use mathlib.Core.List.{List, _∷_}
+use mathlib.Core.Option.{some, none}
 use Prim.Native.Nat.{ℕ, zero, suc, _+_, _-_, _*_, _/_, _^_, _≤_, _<_}
 use native.Mathlib.Numerals.{add-one}
 use native.Mathlib.Omega.{arith}
@@ -11,7 +11,7 @@ use lib.ListN.{length, set}
 use borrow.Author.Tests.{lt-ltb, le-ltb}
 use Rattle.rules.specs.Words.{wordAt, withWord}
 use Rattle.rules.specs.Entries.{entriesOf, MARK}
-use Rattle.rules.specs.Marking.{Scene, State, state, marked, pushed, visit}
+use Rattle.rules.specs.Marking.{pushed, visit}
 use Rattle.rules.proofs.Words.{length-withWord, wordAt-withWord, wordAt-other}
 use Rattle.collector.specs.declared.Marking.{Marking}
 use Rattle.collector.specs.Variables.{unmarkedTo, stacked, sceneOf, stateOf, Came}
@@ -49,7 +49,7 @@ module _ (base : ℕ) (table stack : List ℕ) (m : Marking) (w : ℕ) (deep : m
       record {
         same =
             rw (visit-takes (sceneOf base pool stack) w (stateOf table stack m) k q, stacked-length stack (m .depth), lt-ltb (m .depth) (length stack / 4) r, e, f, stacked-push stack k (m .depth) (omega arith) b);
-        deep = rw (f, length-withWord stack (m .depth) k) (omega arith)
+        deep = rw (f, length-withWord stack (m .depth) k) (omega arith);
       }
 
   pub came-loses : (k : ℕ) {table′ : List ℕ} → some k ≡ unmarkedTo base (entriesOf table) w → length stack / 4 ≤ m .depth
@@ -59,5 +59,5 @@ module _ (base : ℕ) (table stack : List ℕ) (m : Marking) (w : ℕ) (deep : m
   came-loses k q r e =
       record {
         same = rw (visit-takes (sceneOf base pool stack) w (stateOf table stack m) k q, stacked-length stack (m .depth), le-ltb (m .depth) (length stack / 4) r, e);
-        deep = deep
+        deep = deep;
       }

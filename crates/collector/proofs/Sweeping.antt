@@ -1,20 +1,18 @@
 -- The sweep of a block and of the table, with what they count.
 -- Assumes nothing.
-use mathlib.Core.Path.{_≡_, refl, sym, ap, _∙_}
+use mathlib.Core.Path.{_≡_, refl, sym, _∙_}
 use mathlib.Core.Bool.{Bool, true, false, not}
 use mathlib.Core.List.{List, [], _∷_, _++_}
-use Prim.Native.Nat.{ℕ, zero, suc, _+_, _≤_, _<_}
+use Prim.Native.Nat.{ℕ, suc, _+_, _≤_, _<_}
 use native.Mathlib.Numerals.{add-one}
 use native.Mathlib.Omega.{arith}
-use lib.Dec.{eqb}
 use lib.ListN.{length, set, take, drop}
 use lib.Seq.{set-getD, length-take-le, take-suc-set, take-all}
-use borrow.Author.Tests.{eq-eqb, ne-eqb}
 use Rattle.rules.specs.Tests.{pick, count}
 use Rattle.rules.specs.Entries.{FREE, HEAD, TAIL, MARK}
 use Rattle.rules.specs.Tables.{entryAt, isFree, isHead, used, objects}
 use Rattle.rules.specs.Marking.{sweptEntry, freeingAfter, sweepFrom, sweep}
-use Rattle.rules.proofs.Lists.{one, count-cons, count-append, count-set}
+use Rattle.rules.proofs.Lists.{one, count-append, count-set}
 use Rattle.rules.proofs.Tables.{used-le, objects-le}
 use Rattle.rules.proofs.Marking.{sweep-start, sweep-turn, sweep-end}
 use Rattle.collector.specs.declared.Swept.{Swept}

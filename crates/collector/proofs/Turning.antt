@@ -2,8 +2,8 @@
 -- Assumes nothing.
 use mathlib.Core.Path.{_≡_, refl, sym, ap, _∙_}
 use mathlib.Core.Bool.{Bool, true, false}
-use mathlib.Core.Option.{Option, some}
-use mathlib.Core.List.{List, [], _∷_, List·Memᴰ, List·Memᴰ·head}
+use mathlib.Core.Option.{some}
+use mathlib.Core.List.{List, _∷_, List·Memᴰ·head}
 use Prim.Native.Nat.{ℕ, _+_, _-_, _*_, _/_, _≤_, _<_}
 use native.Mathlib.Omega.{arith}
 use native.Mathlib.Numerals.{add-one}
@@ -11,10 +11,10 @@ use lib.ListN.{length, getD, set, drop}
 use Rattle.rules.specs.Words.{wordAt, wordsOf}
 use Rattle.rules.specs.Tables.{entryAt, blockCount}
 use Rattle.rules.specs.Entries.{entriesOf, MARK}
-use Rattle.rules.specs.Marking.{Scene, State, state, Marked, markedIn, marked, visit, walkWords, walk, drain, trace, markRoot, markRoots, passBlock, passFrom, pass, rescan, markAll}
+use Rattle.rules.specs.Marking.{Scene, State, state, markedIn, visit, walkWords, walk, drain, trace, markRoot, markRoots, passBlock, passFrom, pass, rescan, markAll}
 use Rattle.rules.proofs.Words.{length-wordsOf, getD-wordsOf}
 use Rattle.rules.proofs.Entries.{length-entriesOf}
-use Rattle.rules.proofs.Marking.{words-turn, words-end, roots-turn, pass-walks, pass-turn, pass-end, toDrain, pop-measure, drain-pop, drain-nil, toRescan, pass-measure, rescan-most, rescan-more, rescan-done, markAll-from, Sane, sane-start, sane-pop, sane-walk}
+use Rattle.rules.proofs.Marking.{words-turn, words-end, roots-turn, pass-walks, pass-turn, pass-end, toDrain, pop-measure, drain-pop, drain-nil, toRescan, pass-measure, rescan-more, rescan-done, markAll-from, Sane, sane-start, sane-pop, sane-walk}
 use Rattle.collector.specs.declared.Marking.{Marking}
 use Rattle.collector.specs.Variables.{unmarkedTo, stacked, sceneOf, stateOf, idle, Shape, Came, CanDrain}
 use Rattle.collector.proofs.Pointing.{root-marks}

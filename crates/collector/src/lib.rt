@@ -82,7 +82,14 @@ fn visit(base: Address, table: &mut [u8], stack: &mut [u8], m: Marking, w: u32) 
 }
 
 // All the words of the object with head k, from the last to the first.
-fn walk(base: Address, pool: &[u8], table: &mut [u8], stack: &mut [u8], m: Marking, k: Block) -> Marking
+fn walk(
+    base: Address,
+    pool: &[u8],
+    table: &mut [u8],
+    stack: &mut [u8],
+    m: Marking,
+    k: Block,
+) -> Marking
     requires { ⌜ Shape (now pool) (now table) ⌝ }
     requires { ⌜ (m .depth ≤ length (now stack) / 4) × (k .0 < length (entriesOf (now table))) ⌝ }
     ensures { λ r. ⌜ Came (walkOf (sceneOf (base .0) (now (pool .entry)) (now (stack .entry))) (k .0) (stateOf (now (table .entry)) (now (stack .entry)) m))
@@ -93,7 +100,13 @@ fn walk(base: Address, pool: &[u8], table: &mut [u8], stack: &mut [u8], m: Marki
     let mut walked = m;
     while 0 < i {
         i -= 1;
-        walked = visit(base, &mut *table, &mut *stack, walked, memory::word(pool, first + i));
+        walked = visit(
+            base,
+            &mut *table,
+            &mut *stack,
+            walked,
+            memory::word(pool, first + i),
+        );
     }
     walked
 }
@@ -118,7 +131,14 @@ fn drain(base: Address, pool: &[u8], table: &mut [u8], stack: &mut [u8], m: Mark
 }
 
 // The object with head k is walked, and then what that pushed. Returns the overflow.
-fn trace(base: Address, pool: &[u8], table: &mut [u8], stack: &mut [u8], overflow: bool, k: Block) -> bool
+fn trace(
+    base: Address,
+    pool: &[u8],
+    table: &mut [u8],
+    stack: &mut [u8],
+    overflow: bool,
+    k: Block,
+) -> bool
     requires { ⌜ Shape (now pool) (now table) ⌝ }
     requires { ⌜ k .0 < length (entriesOf (now table)) ⌝ }
     ensures { λ r. ⌜ idle (now (table .exit)) r
@@ -130,7 +150,14 @@ fn trace(base: Address, pool: &[u8], table: &mut [u8], stack: &mut [u8], overflo
 }
 
 // A root: an unmarked block that it leads to becomes MARK and is traced. Returns the overflow.
-fn mark_root(base: Address, pool: &[u8], table: &mut [u8], stack: &mut [u8], overflow: bool, w: u32) -> bool
+fn mark_root(
+    base: Address,
+    pool: &[u8],
+    table: &mut [u8],
+    stack: &mut [u8],
+    overflow: bool,
+    w: u32,
+) -> bool
     requires { ⌜ Shape (now pool) (now table) ⌝ }
     ensures { λ r. ⌜ idle (now (table .exit)) r
         ≡ markRoot (sceneOf (base .0) (now (pool .entry)) (now (stack .entry))) w (idle (now (table .entry)) overflow) ⌝ }
@@ -152,14 +179,28 @@ fn mark_roots(base: Address, pool: &[u8], table: &mut [u8], stack: &mut [u8], ro
     let mut overflow = false;
     let mut i = 0;
     while i < roots.len() / 4 {
-        overflow = mark_root(base, pool, &mut *table, &mut *stack, overflow, memory::word(roots, i));
+        overflow = mark_root(
+            base,
+            pool,
+            &mut *table,
+            &mut *stack,
+            overflow,
+            memory::word(roots, i),
+        );
         i += 1;
     }
     overflow
 }
 
 // Block k of a rescan: it is traced if it is MARK. Returns the overflow.
-fn rescan_block(base: Address, pool: &[u8], table: &mut [u8], stack: &mut [u8], overflow: bool, k: Block) -> bool
+fn rescan_block(
+    base: Address,
+    pool: &[u8],
+    table: &mut [u8],
+    stack: &mut [u8],
+    overflow: bool,
+    k: Block,
+) -> bool
     requires { ⌜ Shape (now pool) (now table) ⌝ }
     requires { ⌜ k .0 < length (entriesOf (now table)) ⌝ }
     ensures { λ r. ⌜ idle (now (table .exit)) r
@@ -262,7 +303,7 @@ fn run(base: Address, pool: &[u8], table: &mut [u8], roots: &[u8], stack: &mut [
     requires { ⌜ Shape (now pool) (now table) ⌝ }
     ensures { λ r. ⌜ outcomeOf r (now (pool .entry)) (now (table .exit)) (now (stack .exit))
         ≡ collecting (heapOf (now (pool .entry)) (now (table .entry))) (now (stack .entry))
-            (markAll (sceneOf (base .0) (now (pool .entry)) (now (stack .entry))) (wordsOf (now (roots .entry))) (entriesOf (now (table .entry)))) ⌝ }
+        (markAll (sceneOf (base .0) (now (pool .entry)) (now (stack .entry))) (wordsOf (now (roots .entry))) (entriesOf (now (table .entry)))) ⌝ }
 {
     let rescans = mark(base, pool, &mut *table, &mut *stack, roots);
     let swept = sweep(&mut *table);
@@ -277,7 +318,13 @@ fn run(base: Address, pool: &[u8], table: &mut [u8], roots: &[u8], stack: &mut [
 
 // A collection: the objects that are reachable from the roots are kept, all others become FREE. The pool is not written, and every
 // entry of the mark stack is then zero.
-pub fn collect(base: Address, pool: &[u8], table: &mut [u8], roots: &[u8], stack: &mut [u8]) -> Collected
+pub fn collect(
+    base: Address,
+    pool: &[u8],
+    table: &mut [u8],
+    roots: &[u8],
+    stack: &mut [u8],
+) -> Collected
     ensures { λ r. ⌜ outcomeOf r (now (pool .entry)) (now (table .exit)) (now (stack .exit))
         ≡ collectOf (base .0) (heapOf (now (pool .entry)) (now (table .entry))) (now (roots .entry)) (now (stack .entry)) ⌝ }
 {

@@ -1,12 +1,10 @@
 -- Draining the present state ends where draining the first one ends. The measure is the HEADs and the depth.
 -- Assumes nothing.
-use mathlib.Core.Path.{_≡_, refl, sym, ap, _∙_}
-use Prim.Native.Nat.{_+_, _*_, _/_, _≤_}
+use mathlib.Core.Path.{_≡_, refl, _∙_}
 use native.Mathlib.Omega.{arith}
 use borrow.Author.Needs.{needs}
 use lib.ListN.{length}
 use Rattle.rules.specs.Marking.{drain}
-use Rattle.rules.proofs.Entries.{length-entriesOf}
 use Rattle.rules.proofs.Marking.{toDrain}
 use Rattle.collector.specs.Variables.{sceneOf, stateOf, CanDrain}
 use Rattle.collector.proofs.Turning.{Popped, top-below, popped, drain-end}
@@ -16,9 +14,9 @@ use Rattle.collector.proofs.drain.Tie as tie
 abbrev Inv-loop : tie.InvT-loop
 Inv-loop base pool table₀ stack₀ left₀ table stack left =
     CanDrain pool table stack left
-        × (length table ≡ length table₀)
-        × (length stack ≡ length stack₀)
-        × (drain (sceneOf (base .0) pool stack₀) (stateOf table stack left) ≡ drain (sceneOf (base .0) pool stack₀) (stateOf table₀ stack₀ left₀))
+    × (length table ≡ length table₀)
+    × (length stack ≡ length stack₀)
+    × (drain (sceneOf (base .0) pool stack₀) (stateOf table stack left) ≡ drain (sceneOf (base .0) pool stack₀) (stateOf table₀ stack₀ left₀))
 
 abbrev μ-loop : tie.MeasureT-loop
 μ-loop base pool table₀ stack₀ left₀ table stack left = toDrain (stateOf table stack left)

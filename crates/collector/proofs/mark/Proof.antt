@@ -1,6 +1,6 @@
 -- The rescans that are left, from the present state, end where all end from the state after the roots; a rescan lowers how many there can be.
 -- Assumes nothing.
-use mathlib.Core.Path.{_≡_, refl, sym, ap, _∙_}
+use mathlib.Core.Path.{_≡_, refl, _∙_}
 use Prim.Native.Nat.{_+_, _≤_}
 use native.Mathlib.Omega.{arith}
 use borrow.Author.Needs.{needs}
@@ -16,9 +16,9 @@ use Rattle.collector.proofs.mark.Tie as tie
 abbrev Inv-loop : tie.InvT-loop
 Inv-loop base pool table₀ stack₀ roots overflow₀ rescans₀ table stack overflow rescans =
     (rescans + toRescan (idle table overflow) ≤ toRescan (idle table₀ overflow₀))
-        × (length table ≡ length table₀)
-        × (length stack ≡ length stack₀)
-        × (rescan (sceneOf (base .0) pool stack₀) (idle table overflow) rescans ≡ rescan (sceneOf (base .0) pool stack₀) (idle table₀ overflow₀) 0)
+    × (length table ≡ length table₀)
+    × (length stack ≡ length stack₀)
+    × (rescan (sceneOf (base .0) pool stack₀) (idle table overflow) rescans ≡ rescan (sceneOf (base .0) pool stack₀) (idle table₀ overflow₀) 0)
 
 abbrev μ-loop : tie.MeasureT-loop
 μ-loop base pool table₀ stack₀ roots overflow₀ rescans₀ table stack overflow rescans = toRescan (idle table overflow)

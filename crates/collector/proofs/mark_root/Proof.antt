@@ -1,7 +1,7 @@
 -- The root leads to no HEAD, or to one that is marked and traced.
 -- Assumes nothing.
 use mathlib.Core.Path.{_≡_, sym, ap, _∙_}
-use mathlib.Core.Option.{some, none}
+use mathlib.Core.Option.{some}
 use Prim.Native.Nat.{_<_}
 use native.Mathlib.Omega.{arith}
 use borrow.Author.Needs.{needs}
@@ -46,9 +46,10 @@ set-entry-requires c κs = (inside (c .before .before), search needs)
 trace-requires : tie.Need-trace-requires
 trace-requires c κs =
     let a = c .before .before .before .before .before .before .before .before .before .before .before .before .before .before .args in
-    let e = c .before .before .before .before .set-entry in
-    (shape-same (a .pool .now) (a .table .now) (e .last .0) (c .before .before .before .before .before .before .before .before .before .before .before .before .before .before .pre) (e .kept .0),
-    omega (arith, inside (c .before .before .before .before .before .before .before), e .kept .0, length-entriesOf (e .last .0), length-entriesOf (a .table .now)))
+    let e = c .before .before .before .before .set-entry in (
+      shape-same (a .pool .now) (a .table .now) (e .last .0) (c .before .before .before .before .before .before .before .before .before .before .before .before .before .before .pre) (e .kept .0),
+      omega (arith, inside (c .before .before .before .before .before .before .before), e .kept .0, length-entriesOf (e .last .0), length-entriesOf (a .table .now)),
+    )
 
 same-length-2 : tie.Need-same-length-2
 same-length-2 c = search needs

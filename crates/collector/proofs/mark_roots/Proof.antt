@@ -1,8 +1,8 @@
 -- The roots that are left, from the present state, end where all the roots end from the first. The measure is how many are left.
 -- Assumes nothing.
-use mathlib.Core.Path.{_≡_, refl, sym, ap, _∙_}
+use mathlib.Core.Path.{_≡_, refl, _∙_}
 use mathlib.Core.Bool.{false}
-use Prim.Native.Nat.{_+_, _-_, _*_, _/_, _≤_}
+use Prim.Native.Nat.{_-_, _/_}
 use native.Mathlib.Omega.{arith}
 use borrow.Author.Needs.{needs}
 use lib.ListN.{length, drop}
@@ -18,8 +18,8 @@ use Rattle.collector.proofs.mark_roots.Tie as tie
 abbrev Inv-loop : tie.InvT-loop
 Inv-loop base pool table₀ stack₀ roots overflow₀ i₀ table stack overflow i =
     (length table ≡ length table₀)
-        × (length stack ≡ length stack₀)
-        × (markRoots (sceneOf (base .0) pool stack₀) (drop i (wordsOf roots)) (idle table overflow) ≡ markRoots (sceneOf (base .0) pool stack₀) (wordsOf roots) (idle table₀ false))
+    × (length stack ≡ length stack₀)
+    × (markRoots (sceneOf (base .0) pool stack₀) (drop i (wordsOf roots)) (idle table overflow) ≡ markRoots (sceneOf (base .0) pool stack₀) (wordsOf roots) (idle table₀ false))
 
 abbrev μ-loop : tie.MeasureT-loop
 μ-loop base pool table₀ stack₀ roots overflow₀ i₀ table stack overflow i = length roots / 4 - i
@@ -43,10 +43,12 @@ loop-again : tie.Need-loop-again Inv-loop μ-loop
 loop-again c =
     let a = c .before .before .before .before .before .before .before .before .before .before .before .before .before .before .args in
     let l = c .before .before .before .before .before .before .before .before .before .loop in
-    let r = c .before .before .before .before .mark-root in
-    (r .kept .1 .1 .0 ∙ l .inv .0, r .kept .1 .1 .1 .0 ∙ l .inv .1,
-    roots-next (a .base .0) (a .pool .now) (a .stack .now) (a .roots .now) (l .i) (c .before .before .before .before .before .word .result) (l .stack) (idle (l .table) (l .overflow))
-    (c .before .before .before .before .before .before .before .before .loop-test .taken) (l .inv .1) (c .before .before .before .before .before .word .ensures) (r .ensures) (l .inv .2))
+    let r = c .before .before .before .before .mark-root in (
+      r .kept .1 .1 .0 ∙ l .inv .0,
+      r .kept .1 .1 .1 .0 ∙ l .inv .1,
+      roots-next (a .base .0) (a .pool .now) (a .stack .now) (a .roots .now) (l .i) (c .before .before .before .before .before .word .result) (l .stack) (idle (l .table) (l .overflow))
+          (c .before .before .before .before .before .before .before .before .loop-test .taken) (l .inv .1) (c .before .before .before .before .before .word .ensures) (r .ensures) (l .inv .2),
+    )
 
 same-length : tie.Need-same-length Inv-loop μ-loop
 same-length c = search needs

@@ -1,6 +1,6 @@
 -- What is not MARK is passed over, what is MARK is traced.
 -- Assumes nothing.
-use mathlib.Core.Path.{_≡_, sym, _∙_}
+use mathlib.Core.Path.{sym, _∙_}
 use borrow.Author.Needs.{needs}
 use Rattle.rules.proofs.Marking.{pass-skips}
 use Rattle.collector.specs.Variables.{sceneOf, idle}

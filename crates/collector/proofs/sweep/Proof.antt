@@ -1,6 +1,6 @@
 -- What is swept so far, and what is left, make the sweep of the table at the start. The measure is how many blocks are left.
 -- Assumes nothing.
-use mathlib.Core.Path.{_≡_, refl, sym, ap, _∙_}
+use mathlib.Core.Path.{_≡_, refl, _∙_}
 use Prim.Native.Nat.{_-_, _≤_}
 use native.Mathlib.Omega.{arith}
 use borrow.Author.Needs.{needs}
@@ -31,10 +31,13 @@ sweep-block-requires c κs =
     let n = length-entriesOf (c .before .before .before .before .before .before .args .table .now) in
     let m = length-entriesOf (l .table) in
     let k = c .before .before .before .blocks2 .ensures in
-    let p = c .before .before .before .before .before .before .pre in
-    (omega (arith, l .inv .1, c .before .loop-test .taken),
-    (omega (arith, c .before .loop-test .taken, kept-few es₀ (entriesOf (l .table)) (l .i) (l .swept) (omega (arith, l .inv .1, c .before .loop-test .taken)) (l .inv .2)),
-    omega (arith, freed-few es₀ (entriesOf (l .table)) (l .i) (l .swept) (l .inv .2))))
+    let p = c .before .before .before .before .before .before .pre in (
+      omega (arith, l .inv .1, c .before .loop-test .taken),
+      (
+        omega (arith, c .before .loop-test .taken, kept-few es₀ (entriesOf (l .table)) (l .i) (l .swept) (omega (arith, l .inv .1, c .before .loop-test .taken)) (l .inv .2)),
+        omega (arith, freed-few es₀ (entriesOf (l .table)) (l .i) (l .swept) (l .inv .2)),
+      ),
+    )
 
 add-i : tie.Need-add-i Inv-loop μ-loop
 add-i c = search needs
@@ -46,10 +49,12 @@ loop-again : tie.Need-loop-again Inv-loop μ-loop
 loop-again c =
     let a = c .before .before .before .before .before .before .before .before .before .args in
     let l = c .before .before .before .before .before .loop in
-    let b = c .before .before .sweep-block in
-    (omega arith, b .kept .0 ∙ l .inv .1,
-    sweep-more (entriesOf (a .table .now)) (entriesOf (l .table)) (entriesOf (b .last .0)) (l .i) (l .swept) (b .result)
-    (omega (arith, c .before .before .before .before .loop-test .taken, c .before .before .before .before .before .before .blocks2 .ensures, l .inv .1, length-entriesOf (a .table .now), length-entriesOf (l .table))) (l .inv .2) (b .ensures))
+    let b = c .before .before .sweep-block in (
+      omega arith,
+      b .kept .0 ∙ l .inv .1,
+      sweep-more (entriesOf (a .table .now)) (entriesOf (l .table)) (entriesOf (b .last .0)) (l .i) (l .swept) (b .result)
+          (omega (arith, c .before .before .before .before .loop-test .taken, c .before .before .before .before .before .before .blocks2 .ensures, l .inv .1, length-entriesOf (a .table .now), length-entriesOf (l .table))) (l .inv .2) (b .ensures),
+    )
 
 same-length : tie.Need-same-length Inv-loop μ-loop
 same-length c = search needs

@@ -1,7 +1,6 @@
 -- The five ways: a HEAD, a MARK, a TAIL that is freed, a TAIL that stays, and what is FREE.
 -- Assumes nothing.
-use mathlib.Core.Path.{_≡_, sym, _∙_}
-use native.Mathlib.Omega.{arith}
+use mathlib.Core.Path.{sym, _∙_}
 use borrow.Author.Needs.{needs}
 use Rattle.rules.specs.Entries.{entriesOf}
 use Rattle.rules.proofs.Entries.{entriesOf-lt}

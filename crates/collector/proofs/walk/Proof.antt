@@ -1,12 +1,11 @@
 -- What is left to walk from the present state ends where all the words end from the state at the start. The measure is the words left.
 -- Assumes nothing.
-use mathlib.Core.Path.{_≡_, refl, sym, ap, _∙_}
+use mathlib.Core.Path.{_≡_, refl, _∙_}
 use Prim.Native.Nat.{_+_, _*_, _/_, _≤_}
 use native.Mathlib.Omega.{arith}
 use borrow.Author.Needs.{needs}
 use lib.ListN.{length}
-use Rattle.rules.specs.Entries.{entriesOf}
-use Rattle.rules.specs.Marking.{walkWords, walk}
+use Rattle.rules.specs.Marking.{walkWords}
 use Rattle.rules.proofs.Entries.{length-entriesOf}
 use Rattle.collector.specs.Variables.{sceneOf, stateOf}
 use Rattle.collector.proofs.Turning.{walk-turn, walk-end}
@@ -16,10 +15,10 @@ use Rattle.collector.proofs.walk.Tie as tie
 abbrev Inv-loop : tie.InvT-loop
 Inv-loop base pool table₀ stack₀ first i₀ walked₀ table stack i walked =
     (i ≤ i₀)
-        × (walked .depth ≤ length stack / 4)
-        × (length table ≡ length table₀)
-        × (length stack ≡ length stack₀)
-        × (walkWords (sceneOf (base .0) pool stack₀) first i (stateOf table stack walked) ≡ walkWords (sceneOf (base .0) pool stack₀) first i₀ (stateOf table₀ stack₀ walked₀))
+    × (walked .depth ≤ length stack / 4)
+    × (length table ≡ length table₀)
+    × (length stack ≡ length stack₀)
+    × (walkWords (sceneOf (base .0) pool stack₀) first i (stateOf table stack walked) ≡ walkWords (sceneOf (base .0) pool stack₀) first i₀ (stateOf table₀ stack₀ walked₀))
 
 abbrev μ-loop : tie.MeasureT-loop
 μ-loop base pool table₀ stack₀ first i₀ walked₀ table stack i walked = i
@@ -59,10 +58,14 @@ loop-again : tie.Need-loop-again Inv-loop μ-loop
 loop-again c =
     let a = c .before .before .before .before .before .before .before .before .before .before .before .before .before .before .before .before .args in
     let l = c .before .before .before .before .before .before .before .before .before .loop in
-    let v = c .before .before .before .before .visit in
-    (omega arith, v .ensures (a .pool .now) .deep, v .kept .1 .0 ∙ l .inv .2, v .kept .1 .1 .0 ∙ l .inv .3,
-    walk-turn (a .base .0) (a .pool .now) (a .stack .now) (c .before .before .before .before .before .before .before .before .before .before .before .before .first-word .result) (l .i) (c .before .before .before .before .before .word .result) (l .stack)
-    (stateOf (l .table) (l .stack) (l .walked)) (omega arith) (l .inv .3) (c .before .before .before .before .before .word .ensures) (v .ensures (a .pool .now) .same) (l .inv .4))
+    let v = c .before .before .before .before .visit in (
+      omega arith,
+      v .ensures (a .pool .now) .deep,
+      v .kept .1 .0 ∙ l .inv .2,
+      v .kept .1 .1 .0 ∙ l .inv .3,
+      walk-turn (a .base .0) (a .pool .now) (a .stack .now) (c .before .before .before .before .before .before .before .before .before .before .before .before .first-word .result) (l .i) (c .before .before .before .before .before .word .result) (l .stack)
+          (stateOf (l .table) (l .stack) (l .walked)) (omega arith) (l .inv .3) (c .before .before .before .before .before .word .ensures) (v .ensures (a .pool .now) .same) (l .inv .4),
+    )
 
 same-length : tie.Need-same-length Inv-loop μ-loop
 same-length c = search needs
