@@ -11,3 +11,4 @@ pub mod Marks
 pub mod Matching
 pub mod Pools
 pub mod Twice
+pub mod Used

@@ -1,0 +1,5 @@
+pub mod Pointing
+pub mod Stacking
+pub mod Turning
+pub mod Sweeping
+pub mod Collecting

@@ -1,0 +1,50 @@
+-- A refused call returns before anything is written; an accepted one has a heap of good shape, and acts.
+-- Assumes nothing.
+use borrow.Author.Needs.{needs}
+use Rattle.collector.proofs.Collecting.{collect-refused, collect-accepted, collect-shape}
+use Rattle.collector.proofs.collect.Statement.{statement}
+use Rattle.collector.proofs.collect.Tie as tie
+
+collection-requires : tie.Need-collection-requires
+collection-requires c κs = search needs
+
+same-length : tie.Need-same-length
+same-length c = search needs
+
+same-length-2 : tie.Need-same-length-2
+same-length-2 c = search needs
+
+returns : tie.Need-returns
+returns c =
+    let a = c .before .before .before .before .before .before .before .before .args in
+    collect-refused (a .base .0) (a .pool .now) (a .table .now) (a .roots .now) (a .stack .now) (c .before .collection .result) (c .before .collection .ensures) (c .if1 .taken)
+
+run-requires : tie.Need-run-requires
+run-requires c κs =
+    let a = c .before .before .before .before .before .before .before .before .before .before .args in
+    collect-shape (a .base .0) (a .pool .now) (a .table .now) (a .roots .now) (a .stack .now) (c .before .before .before .collection .result) (c .before .before .before .collection .ensures) (c .before .before .if1 .left)
+
+same-length-3 : tie.Need-same-length-3
+same-length-3 c = search needs
+
+same-length-4 : tie.Need-same-length-4
+same-length-4 c = search needs
+
+returns-2 : tie.Need-returns-2
+returns-2 c =
+    let a = c .before .before .before .before .before .before .before .before .before .before .before .before .before .before .before .args in
+    collect-accepted (a .base .0) (a .pool .now) (a .table .now) (a .roots .now) (a .stack .now) (c .before .before .before .before .before .before .before .before .collection .result) (c .before .before .before .before .before .before .before .before .collection .ensures) (c .before .before .before .before .before .before .before .if1 .left)
+    (c .before .before .before .before .run .ensures)
+
+pub collect-spec : {M : Type 1} → statement M
+collect-spec =
+    tie.close
+    (tie.spec
+    collection-requires
+    same-length
+    same-length-2
+    returns
+    run-requires
+    same-length-3
+    same-length-4
+    returns-2)
