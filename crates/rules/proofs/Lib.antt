@@ -12,3 +12,4 @@ pub mod Matching
 pub mod Pools
 pub mod Twice
 pub mod Used
+pub mod Blocks

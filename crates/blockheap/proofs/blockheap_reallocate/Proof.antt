@@ -1,0 +1,24 @@
+-- `blockheap::blockheap_reallocate` meets its contract: the block fits 32 bits, being a block of the table. Assumes nothing.
+use native.Mathlib.Omega.{arith}
+use borrow.Author.Needs.{needs}
+use Rattle.rules.proofs.Blocks.{reallocated-small}
+use Rattle.blockheap.proofs.blockheap_reallocate.Statement.{statement}
+use Rattle.blockheap.proofs.blockheap_reallocate.Tie as tie
+
+reallocate-requires : tie.Need-reallocate-requires
+reallocate-requires c κs = search needs
+
+cast-new-block : tie.Need-cast-new-block
+cast-new-block c = omega (arith, reallocated-small _ _ _ _ _ (c .before .before .before .before .before .reallocate .ensures))
+
+same-length : tie.Need-same-length
+same-length c = search needs
+
+same-length-2 : tie.Need-same-length-2
+same-length-2 c = search needs
+
+returns : tie.Need-returns
+returns c = search needs
+
+pub blockheap-reallocate-spec : {M : Type 1} → statement M
+blockheap-reallocate-spec = tie.close (tie.spec reallocate-requires cast-new-block same-length same-length-2 returns)

@@ -1,0 +1,104 @@
+// The entry points for C: numbers and byte slices in, the refusal number out, every other answer through a pointer.
+// A slice is a pointer and a length; include/blockheap.h declares the same functions.
+ghost use mathlib.Core.Path.{_≡_};
+ghost use lib.IntN.{pos};
+ghost use Rattle.rules.specs.Outcomes.{heapOf};
+ghost use Rattle.rules.specs.Calls.{init, allocate, free, reallocate, collect, survey, load, store};
+ghost use Rattle.blockheap.specs.Outputs.{status, placed, collected, surveyed, loaded};
+use memory::Address;
+use memory::Block;
+use memory::Bytes;
+
+#[no_mangle]
+pub extern "C" fn blockheap_init(base: u64, pool: &[u8], table: &mut [u8]) -> u32
+    ensures { λ r. ⌜ status r (now (pool .entry)) (now (table .exit)) ≡ init base (heapOf (now (pool .entry)) (now (table .entry))) ⌝ }
+{
+    heap::init(Address(base), pool, table)
+}
+
+#[no_mangle]
+pub extern "C" fn blockheap_allocate(base: u64, pool: &mut [u8], table: &mut [u8], bytes: u64, block: &mut u32, change: &mut i32) -> u32
+    ensures { λ r. ⌜ placed r (now (block .exit)) (now (change .exit)) (now (pool .exit)) (now (table .exit))
+        ≡ allocate base (heapOf (now (pool .entry)) (now (table .entry))) bytes ⌝ }
+{
+    let p = heap::allocate(Address(base), pool, table, Bytes(bytes as usize));
+    *block = p.block.0 as u32;
+    let d = p.change;
+    *change = d;
+    p.refusal
+}
+
+#[no_mangle]
+pub extern "C" fn blockheap_free(base: u64, pool: &[u8], table: &mut [u8], block: u64, change: &mut i32) -> u32
+    ensures { λ r. ⌜ placed r 0 (now (change .exit)) (now (pool .entry)) (now (table .exit))
+        ≡ free base (heapOf (now (pool .entry)) (now (table .entry))) block ⌝ }
+{
+    let f = heap::free(Address(base), pool, table, Block(block as usize));
+    let d = f.change;
+    *change = d;
+    f.refusal
+}
+
+#[no_mangle]
+pub extern "C" fn blockheap_reallocate(base: u64, pool: &mut [u8], table: &mut [u8], block: u64, bytes: u64, new_block: &mut u32, change: &mut i32) -> u32
+    ensures { λ r. ⌜ placed r (now («new_block» .exit)) (now (change .exit)) (now (pool .exit)) (now (table .exit))
+        ≡ reallocate base (heapOf (now (pool .entry)) (now (table .entry))) block bytes ⌝ }
+{
+    let p = heap::reallocate(Address(base), pool, table, Block(block as usize), Bytes(bytes as usize));
+    *new_block = p.block.0 as u32;
+    let d = p.change;
+    *change = d;
+    p.refusal
+}
+
+#[no_mangle]
+pub extern "C" fn blockheap_collect(
+    base: u64,
+    pool: &[u8],
+    table: &mut [u8],
+    roots: &[u8],
+    stack: &mut [u8],
+    kept: &mut u32,
+    rescans: &mut u32,
+    change: &mut i32,
+) -> u32
+    ensures { λ r. ⌜ collected r (now (kept .exit)) (now (rescans .exit)) (now (change .exit)) (now (pool .entry)) (now (table .exit)) (now (stack .exit))
+        ≡ collect base (heapOf (now (pool .entry)) (now (table .entry))) (now (roots .entry)) (now (stack .entry)) ⌝ }
+{
+    let c = collector::collect(Address(base), pool, table, roots, stack);
+    *kept = c.kept;
+    *rescans = c.rescans;
+    let d = c.change;
+    *change = d;
+    c.refusal
+}
+
+#[no_mangle]
+pub extern "C" fn blockheap_survey(base: u64, pool: &[u8], table: &[u8], used: &mut u32, objects: &mut u32, longest: &mut u32) -> u32
+    ensures { λ r. ⌜ surveyed r (now (used .exit)) (now (objects .exit)) (now (longest .exit)) (now (pool .entry)) (now (table .entry))
+        ≡ survey base (heapOf (now (pool .entry)) (now (table .entry))) ⌝ }
+{
+    let s = heap::survey(Address(base), pool, table);
+    *used = s.used;
+    *objects = s.objects;
+    *longest = s.longest;
+    s.refusal
+}
+
+#[no_mangle]
+pub extern "C" fn blockheap_load(base: u64, pool: &[u8], table: &[u8], block: u64, word: u64, value: &mut u32) -> u32
+    ensures { λ r. ⌜ loaded r (now (value .exit)) (now (pool .entry)) (now (table .entry))
+        ≡ load base (heapOf (now (pool .entry)) (now (table .entry))) block word ⌝ }
+{
+    let l = heap::load(Address(base), pool, table, Block(block as usize), word as usize);
+    *value = l.value;
+    l.refusal
+}
+
+#[no_mangle]
+pub extern "C" fn blockheap_store(base: u64, pool: &mut [u8], table: &[u8], block: u64, word: u64, value: u32) -> u32
+    ensures { λ r. ⌜ status r (now (pool .exit)) (now (table .entry))
+        ≡ store base (heapOf (now (pool .entry)) (now (table .entry))) block word value ⌝ }
+{
+    heap::store(Address(base), pool, table, Block(block as usize), word as usize, value)
+}

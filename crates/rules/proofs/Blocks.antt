@@ -1,0 +1,68 @@
+-- The answered block is a block of the table, so that it is below 4,096 whatever the call was given.
+-- Assumes nothing.
+use mathlib.Core.Path.{_≡_, refl}
+use mathlib.Core.Bool.{Bool, true, false}
+use mathlib.Core.List.{List, [], _∷_}
+use mathlib.Core.Option.{Option, some, none}
+use Prim.Native.Nat.{ℕ, zero, suc, _+_, _≤_, _<_}
+use native.Mathlib.Omega.{arith}
+use lib.ListN.{length}
+use Rattle.rules.specs.Tests.{isNone, orElse}
+use Rattle.rules.specs.Tables.{blockCount, firstRun}
+use Rattle.rules.specs.Meaning.{Lowest}
+use Rattle.rules.specs.Outcomes.{Heap, Outcome, unlessRefused}
+use Rattle.rules.specs.Refusals.{Test, firstOf, badShape, illFormed, noBytes, outside, noHead, noRoom}
+use Rattle.rules.specs.Calls.{Way, stay, shrink, grow, move, noWay, wayTo, isNoWay, blocksFor, placing, along, allocate, reallocate}
+use Rattle.rules.proofs.Tables.{extent-of, first-run}
+use Rattle.rules.proofs.Refusals.{passed, asked, named-resize}
+use Rattle.rules.proofs.Calls.{blocks-some, Ways, stays, shrinks, grows, moves, stuck, way-says}
+
+-- a refusal answers 0, so the act alone counts
+unless-small : (r : ℕ) (h : Heap) (stack : List ℕ) (acted : Outcome) → (r ≡ 0 → acted .answer .block < 4096) → unlessRefused r h stack acted .answer .block < 4096
+unfolding unlessRefused
+unless-small zero h stack acted small = small refl
+unless-small (suc r) h stack acted small = omega arith
+
+pub allocate-block : (base : ℕ) (h : Heap) (bytes : ℕ) → allocate base h bytes .answer .block < 4096
+unfolding allocate placing
+allocate-block base h bytes = unless-small _ _ _ _ (λ ok. go ok (firstRun (h .entries) (blocksFor bytes)) refl)
+  where
+    room : Test
+    room = noRoom (isNone (firstRun (h .entries) (blocksFor bytes)))
+    go : firstOf (badShape base h ∷ illFormed h ∷ noBytes bytes ∷ room ∷ []) ≡ 0 → (o : Option ℕ) → firstRun (h .entries) (blocksFor bytes) ≡ o → orElse o 0 < 4096
+    go ok none e = omega arith
+    go ok (some s) e =
+        let more = blocks-some bytes (asked base h bytes (room ∷ []) ok) in
+        let few = passed base h (noBytes bytes ∷ room ∷ []) ok .shape .few in
+        omega (arith, first-run (h .entries) (blocksFor bytes) s more e .room)
+
+pub reallocate-block : (base : ℕ) (h : Heap) (k bytes : ℕ) → reallocate base h k bytes .answer .block < 4096
+unfolding reallocate along placing Lowest
+reallocate-block base h k bytes = unless-small _ _ _ _ (λ ok. go ok)
+  where
+    b : ℕ
+    b = blockCount (h .entries) k
+    c : ℕ
+    c = blocksFor bytes
+    room : Test
+    room = noRoom (isNoWay (wayTo (h .entries) k b c))
+    by-way : k < 4096 → length (h .entries) ≤ 4096 → 0 < c → (w : Way) → Ways (h .entries) k b c w → along w h k b c .answer .block < 4096
+    by-way small few more stay ways = small
+    by-way small few more shrink ways = small
+    by-way small few more grow ways = small
+    by-way small few more (move s) (moves l full low) = omega (arith, low .0 .room)
+    by-way small few more noWay ways = omega arith
+    go : firstOf (badShape base h ∷ illFormed h ∷ noBytes bytes ∷ outside h k ∷ noHead h k ∷ room ∷ []) ≡ 0 → along (wayTo (h .entries) k b c) h k b c .answer .block < 4096
+    go ok =
+        let few = passed base h (noBytes bytes ∷ outside h k ∷ noHead h k ∷ room ∷ []) ok .shape .few in
+        let name = named-resize base h k bytes (room ∷ []) ok in
+        let more = blocks-some bytes (name .0) in
+        by-way (omega (arith, name .1 .inside)) few more (wayTo (h .entries) k b c)
+        (way-says (h .entries) k b c (extent-of (h .entries) k (name .1 .inside) .room) more)
+
+-- of an outcome that is such a call's
+pub allocated-small : (base : ℕ) (h : Heap) (bytes : ℕ) (o : Outcome) → o ≡ allocate base h bytes → o .answer .block < 4096
+allocated-small base h bytes o e = rw e (allocate-block base h bytes)
+
+pub reallocated-small : (base : ℕ) (h : Heap) (k bytes : ℕ) (o : Outcome) → o ≡ reallocate base h k bytes → o .answer .block < 4096
+reallocated-small base h k bytes o e = rw e (reallocate-block base h k bytes)
