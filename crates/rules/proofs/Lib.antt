@@ -6,10 +6,10 @@ pub mod Tables
 pub mod Changes
 pub mod Refusals
 pub mod Marking
+pub mod Blocks
 pub mod Calls
 pub mod Marks
 pub mod Matching
 pub mod Pools
 pub mod Twice
 pub mod Used
-pub mod Blocks
