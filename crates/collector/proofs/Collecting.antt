@@ -18,9 +18,9 @@ use Rattle.rules.specs.Calls.{collecting, collect}
 use Rattle.rules.proofs.Refusals.{both-left, not-false, first-none, refuses, accepts, shape-true, few-bytes}
 use Rattle.rules.proofs.Calls.{sub-less}
 use Rattle.rules.proofs.Used.{marking-used}
-use Rattle.collector.specs.declared.Swept.{Swept}
-use Rattle.collector.specs.Variables.{idle, sceneOf, Shape}
-use Rattle.collector.specs.Sweeps.{TableSwept}
+use Rattle.sweeper.specs.declared.Swept.{Swept}
+use Rattle.marker.specs.Variables.{idle, sceneOf, Shape}
+use Rattle.sweeper.specs.Sweeps.{TableSwept}
 use Rattle.collector.specs.Answers.{outcomeOf}
 
 -- `table₁` is the table after marking, `table₂` after the sweep

@@ -1,5 +1,1 @@
-pub mod Pointing
-pub mod Stacking
-pub mod Turning
-pub mod Sweeping
 pub mod Collecting

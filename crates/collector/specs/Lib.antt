@@ -1,3 +1,1 @@
-pub mod Variables
-pub mod Sweeps
 pub mod Answers

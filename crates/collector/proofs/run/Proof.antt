@@ -10,7 +10,7 @@ use Prim.Native.Nat.{_≤_, ℕ}
 use Rattle.rules.specs.Entries.{entriesOf}
 use Rattle.rules.proofs.Entries.{length-entriesOf}
 use Rattle.rules.proofs.Tables.{used-le, objects-le}
-use Rattle.collector.specs.Variables.{sceneOf}
+use Rattle.marker.specs.Variables.{sceneOf}
 use Rattle.collector.proofs.Collecting.{ran}
 use Rattle.collector.proofs.run.Statement.{statement}
 use Rattle.collector.proofs.run.Tie as tie
@@ -28,8 +28,8 @@ clear-requires c κs = search needs
 few : (c : tie.After-struct-known) → length (c .before .before .before .before .before .before .before .before .before .before .before .before .before .mark .last .1 .1 .0) ≤ 1024
 few c = omega (arith, c .before .before .before .before .before .before .before .before .before .before .before .before .before .mark .kept .1 .1 .0, c .before .before .before .before .before .before .before .before .before .before .before .before .before .before .before .before .before .before .before .before .pre .small)
 
-cast-t17 : tie.Need-cast-t17
-cast-t17 c =
+cast-kept : tie.Need-cast-kept
+cast-kept c =
     let s = c .before .before .before .before .before .before .before .sweep in
     record { fits = omega (arith, few c, s .ensures .kept, objects-le (entriesOf (s .last .0)), length-entriesOf (s .last .0), s .kept .0) }
 
@@ -62,7 +62,7 @@ run-spec =
     mark-requires
     sweep-requires
     clear-requires
-    cast-t17
+    cast-kept
     negated-requires
     same-length
     same-length-2

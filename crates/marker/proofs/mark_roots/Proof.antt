@@ -1,0 +1,80 @@
+-- The roots that are left, from the present state, end where all the roots end from the first. The measure is how many are left.
+-- Assumes nothing.
+use mathlib.Core.Path.{_≡_, refl, _∙_}
+use mathlib.Core.Bool.{false}
+use Prim.Native.Nat.{_-_, _/_}
+use native.Mathlib.Omega.{arith}
+use borrow.Author.Needs.{needs}
+use lib.ListN.{length, drop}
+use Rattle.rules.specs.Words.{wordsOf}
+use Rattle.rules.specs.Marking.{markRoots}
+use Rattle.rules.proofs.Words.{length-wordsOf}
+use Rattle.rules.proofs.Marking.{roots-end}
+use Rattle.marker.specs.Variables.{sceneOf, idle}
+use Rattle.marker.proofs.Turning.{shape-same, roots-next}
+use Rattle.marker.proofs.mark_roots.Statement.{statement}
+use Rattle.marker.proofs.mark_roots.Tie as tie
+
+abbrev Inv-loop : tie.InvT-loop
+Inv-loop base pool table₀ stack₀ roots overflow₀ i₀ table stack overflow i =
+    (length table ≡ length table₀)
+    × (length stack ≡ length stack₀)
+    × (markRoots (sceneOf (base .0) pool stack₀) (drop i (wordsOf roots)) (idle table overflow) ≡ markRoots (sceneOf (base .0) pool stack₀) (wordsOf roots) (idle table₀ false))
+
+abbrev μ-loop : tie.MeasureT-loop
+μ-loop base pool table₀ stack₀ roots overflow₀ i₀ table stack overflow i = length roots / 4 - i
+
+loop-holds : tie.Need-loop-holds Inv-loop μ-loop
+loop-holds c = (refl, refl, refl)
+
+word-requires : tie.Need-word-requires Inv-loop μ-loop
+word-requires c κs = omega (arith, c .before .before .loop-test .taken)
+
+mark-root-requires : tie.Need-mark-root-requires Inv-loop μ-loop
+mark-root-requires c κs = shape-same (c .before .before .before .before .before .before .before .before .before .args .pool .now) (c .before .before .before .before .before .before .before .before .before .args .table .now) (c .before .before .before .before .loop .table) (c .before .before .before .before .before .before .before .before .before .pre) (c .before .before .before .before .loop .inv .0)
+
+add-i : tie.Need-add-i Inv-loop μ-loop
+add-i c = search needs
+
+loop-less : tie.Need-loop-less Inv-loop μ-loop
+loop-less c = search needs
+
+loop-again : tie.Need-loop-again Inv-loop μ-loop
+loop-again c =
+    let a = c .before .before .before .before .before .before .before .before .before .before .before .before .before .before .args in
+    let l = c .before .before .before .before .before .before .before .before .before .loop in
+    let r = c .before .before .before .before .mark-root in (
+      r .kept .1 .1 .0 ∙ l .inv .0,
+      r .kept .1 .1 .1 .0 ∙ l .inv .1,
+      roots-next (a .base .0) (a .pool .now) (a .stack .now) (a .roots .now) (l .i) (c .before .before .before .before .before .word .result) (l .stack) (idle (l .table) (l .overflow))
+          (c .before .before .before .before .before .before .before .before .loop-test .taken) (l .inv .1) (c .before .before .before .before .before .word .ensures) (r .ensures) (l .inv .2),
+    )
+
+same-length : tie.Need-same-length Inv-loop μ-loop
+same-length c = search needs
+
+same-length-2 : tie.Need-same-length-2 Inv-loop μ-loop
+same-length-2 c = search needs
+
+returns : tie.Need-returns Inv-loop μ-loop
+returns c =
+    let a = c .before .before .before .before .before .before .args in
+    let l = c .before .loop in
+    roots-end (sceneOf (a .base .0) (a .pool .now) (a .stack .now)) (wordsOf (a .roots .now)) (l .i) (idle (l .table) (l .overflow))
+    (omega (arith, c .loop-test .left, length-wordsOf (a .roots .now))) (l .inv .2)
+
+pub mark-roots-spec : {M : Type 1} → statement M
+mark-roots-spec =
+    tie.close
+    (tie.spec
+    Inv-loop
+    μ-loop
+    loop-holds
+    word-requires
+    mark-root-requires
+    add-i
+    loop-less
+    loop-again
+    same-length
+    same-length-2
+    returns)

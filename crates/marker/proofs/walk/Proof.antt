@@ -1,0 +1,106 @@
+-- What is left to walk from the present state ends where all the words end from the state at the start. The measure is the words left.
+-- Assumes nothing.
+use mathlib.Core.Path.{_≡_, refl, _∙_}
+use Prim.Native.Nat.{_+_, _*_, _/_, _≤_}
+use native.Mathlib.Omega.{arith}
+use borrow.Author.Needs.{needs}
+use lib.ListN.{length}
+use Rattle.rules.specs.Marking.{walkWords}
+use Rattle.rules.proofs.Entries.{length-entriesOf}
+use Rattle.marker.specs.Variables.{sceneOf, stateOf}
+use Rattle.marker.proofs.Turning.{walk-turn, walk-end}
+use Rattle.marker.proofs.walk.Statement.{statement}
+use Rattle.marker.proofs.walk.Tie as tie
+
+abbrev Inv-loop : tie.InvT-loop
+Inv-loop base pool table₀ stack₀ first i₀ walked₀ table stack i walked =
+    (i ≤ i₀)
+    × (walked .depth ≤ length stack / 4)
+    × (length table ≡ length table₀)
+    × (length stack ≡ length stack₀)
+    × (walkWords (sceneOf (base .0) pool stack₀) first i (stateOf table stack walked) ≡ walkWords (sceneOf (base .0) pool stack₀) first i₀ (stateOf table₀ stack₀ walked₀))
+
+abbrev μ-loop : tie.MeasureT-loop
+μ-loop base pool table₀ stack₀ first i₀ walked₀ table stack i walked = i
+
+first-word-requires : tie.Need-first-word-requires Inv-loop μ-loop
+first-word-requires c κs = omega (arith, c .before .before .before .pre .0 .small, c .before .before .before .pre .1 .1, length-entriesOf (c .before .before .before .args .table .now))
+
+block-count-requires : tie.Need-block-count-requires Inv-loop μ-loop
+block-count-requires c κs = search needs
+
+mul-i : tie.Need-mul-i Inv-loop μ-loop
+mul-i c = omega (arith, c .block-count .ensures .1, c .before .before .before .before .before .before .pre .0 .small, length-entriesOf (c .before .before .before .before .before .before .args .table .now))
+
+loop-holds : tie.Need-loop-holds Inv-loop μ-loop
+loop-holds c = (omega arith, c .before .before .before .before .before .before .pre .1 .0, refl, refl, refl)
+
+sub-i : tie.Need-sub-i Inv-loop μ-loop
+sub-i c = search needs
+
+-- the word is one of the pool's
+within : (c : tie.After-visit-arg2 Inv-loop μ-loop) → 4 * (c .before .before .before .before .before .before .first-word .result + c .before .before .before .loop .i) ≤ length (c .before .before .before .before .before .before .before .before .before .before .args .pool .now)
+within c = omega (arith, c .before .before .before .loop .inv .0, c .before .before .before .before .block-count .ensures .1, c .before .before .before .before .before .before .first-word .ensures, c .before .before .before .before .before .before .before .before .before .before .pre .0 .whole)
+
+add-word : tie.Need-add-word Inv-loop μ-loop
+add-word c = record { fits = omega (arith, within c, c .before .before .before .before .before .before .before .before .before .before .good) }
+
+word-requires : tie.Need-word-requires Inv-loop μ-loop
+word-requires c κs = omega (arith, within c, c .before .before .loop-test .taken)
+
+visit-requires : tie.Need-visit-requires Inv-loop μ-loop
+visit-requires c κs = (omega (arith, c .before .before .before .before .loop .inv .2, c .before .before .before .before .before .before .before .before .before .before .before .pre .0 .small), c .before .before .before .before .loop .inv .1)
+
+loop-less : tie.Need-loop-less Inv-loop μ-loop
+loop-less c = search needs
+
+loop-again : tie.Need-loop-again Inv-loop μ-loop
+loop-again c =
+    let a = c .before .before .before .before .before .before .before .before .before .before .before .before .before .before .before .before .args in
+    let l = c .before .before .before .before .before .before .before .before .before .loop in
+    let v = c .before .before .before .before .visit in (
+      omega arith,
+      v .ensures (a .pool .now) .deep,
+      v .kept .1 .0 ∙ l .inv .2,
+      v .kept .1 .1 .0 ∙ l .inv .3,
+      walk-turn (a .base .0) (a .pool .now) (a .stack .now) (c .before .before .before .before .before .before .before .before .before .before .before .before .first-word .result) (l .i) (c .before .before .before .before .before .word .result) (l .stack)
+          (stateOf (l .table) (l .stack) (l .walked)) (omega arith) (l .inv .3) (c .before .before .before .before .before .word .ensures) (v .ensures (a .pool .now) .same) (l .inv .4),
+    )
+
+same-length : tie.Need-same-length Inv-loop μ-loop
+same-length c = search needs
+
+same-length-2 : tie.Need-same-length-2 Inv-loop μ-loop
+same-length-2 c = search needs
+
+returns : tie.Need-returns Inv-loop μ-loop
+returns c =
+    let a = c .before .before .before .before .before .before .before .before .args in
+    let l = c .before .loop in
+    record {
+      same =
+          walk-end (a .base .0) (a .pool .now) (a .stack .now) (a .k .0) (c .before .before .block-count .result) (c .before .before .before .before .first-word .result) (l .i)
+          (stateOf (l .table) (l .stack) (l .walked)) (stateOf (a .table .now) (a .stack .now) (a .m))
+          (c .loop-test .left) (c .before .before .before .before .first-word .ensures) (c .before .before .block-count .ensures .0) (l .inv .4);
+      deep = l .inv .1;
+    }
+
+pub walk-spec : {M : Type 1} → statement M
+walk-spec =
+    tie.close
+    (tie.spec
+    Inv-loop
+    μ-loop
+    first-word-requires
+    block-count-requires
+    mul-i
+    loop-holds
+    sub-i
+    add-word
+    word-requires
+    visit-requires
+    loop-less
+    loop-again
+    same-length
+    same-length-2
+    returns)

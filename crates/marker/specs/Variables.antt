@@ -1,0 +1,55 @@
+-- What the collector's variables stand for in the rules: the scene, the state of the marking, and what its functions ask and leave.
+-- Assumes nothing.
+use mathlib.Core.Path.{_≡_}
+use mathlib.Core.Bool.{Bool}
+use mathlib.Core.List.{List, [], _∷_, List·Memᴰ}
+use mathlib.Core.Option.{Option, some, none}
+use Prim.Native.Nat.{ℕ, zero, suc, _*_, _/_, _≤_, _<_}
+use lib.ListN.{length}
+use Rattle.rules.specs.Tests.{pick}
+use Rattle.rules.specs.Words.{wordAt}
+use Rattle.rules.specs.Entries.{entriesOf}
+use Rattle.rules.specs.Tables.{entryAt, isHead}
+use Rattle.rules.specs.Pointers.{leadsTo}
+use Rattle.rules.specs.Marking.{Scene, State, state}
+use Rattle.marker.specs.declared.Marking.{Marking}
+
+-- the block that the word w leads to, if it is a HEAD and so not marked
+unfoldable pub ifHead : List ℕ → Option ℕ → Option ℕ
+ifHead es none = none
+ifHead es (some k) = pick (isHead (entryAt es k)) (some k) none
+
+unfoldable pub unmarkedTo : ℕ → List ℕ → ℕ → Option ℕ
+unmarkedTo base es w = ifHead es (leadsTo base es w)
+
+-- the first d words of the lent stack, the last first
+abbrev pub stacked : List ℕ → ℕ → List ℕ
+stacked stack zero = []
+stacked stack (suc d) = wordAt stack d ∷ stacked stack d
+
+abbrev pub sceneOf : ℕ → List ℕ → List ℕ → Scene
+sceneOf base pool stack = record { base = base; pool = pool; room = length stack / 4 }
+
+-- what the lent stack holds from its depth on is not part of the state
+abbrev pub stateOf : List ℕ → List ℕ → Marking → State
+stateOf table stack m = state (entriesOf table) (stacked stack (m .depth)) (m .overflow)
+
+-- the state between walks: the mark stack is empty
+abbrev pub idle : List ℕ → Bool → State
+idle table overflow = state (entriesOf table) [] overflow
+
+-- a pool of 16 bytes for each of at most 4,096 blocks
+pub record Shape (pool table : List ℕ) : Type 0 where
+  pub small : length table ≤ 1024
+  pub whole : length pool ≡ 16 * length (entriesOf table)
+
+-- the variables stand for the state `to`, and the depth is within the stack
+pub record Came (to : State) (table stack : List ℕ) (m : Marking) : Type 0 where
+  pub same : stateOf table stack m ≡ to
+  pub deep : m .depth ≤ length stack / 4
+
+-- what draining asks: the words of the stack that are in use are blocks of the table
+pub record CanDrain (pool table stack : List ℕ) (m : Marking) : Type 0 where
+  pub shape : Shape pool table
+  pub deep : m .depth ≤ length stack / 4
+  pub below : (k : ℕ) → List·Memᴰ k (stacked stack (m .depth)) → k < length (entriesOf table)
