@@ -19,6 +19,7 @@ use Rattle.rules.proofs.Refusals.{both-left, not-false, first-none, refuses, ac
 use Rattle.rules.proofs.Calls.{sub-less}
 use Rattle.rules.proofs.Used.{marking-used}
 use Rattle.sweeper.specs.declared.Swept.{Swept}
+use Rattle.collector.specs.declared.Collected.{Collected}
 use Rattle.marker.specs.Variables.{idle, sceneOf, Shape}
 use Rattle.sweeper.specs.Sweeps.{TableSwept}
 use Rattle.collector.specs.Answers.{outcomeOf}
@@ -49,10 +50,11 @@ module _ (base : ℕ) (pool table roots stack : List ℕ) (r : ℕ)
   unfolding collect
   collect-refused ne = sym (refuses r (heapOf pool table) stack _ (sym first) (omega arith))
 
-  pub collect-accepted : {z : Outcome} → r ≡ 0 → z ≡ collecting (heapOf pool table) stack (markAll (sceneOf base pool stack) (wordsOf roots) (entriesOf table))
-      → z ≡ collect base (heapOf pool table) roots stack
+  pub collect-accepted : (a : Collected) (table′ stack′ : List ℕ) → r ≡ 0
+      → outcomeOf a pool table′ stack′ ≡ collecting (heapOf pool table) stack (markAll (sceneOf base pool stack) (wordsOf roots) (entriesOf table))
+      → outcomeOf a pool table′ stack′ ≡ collect base (heapOf pool table) roots stack
   unfolding collect
-  collect-accepted e q = q ∙ sym (accepts (heapOf pool table) stack _ (sym first ∙ e))
+  collect-accepted a table′ stack′ e q = q ∙ sym (accepts (heapOf pool table) stack _ (sym first ∙ e))
 
   pub collect-shape : r ≡ 0 → Shape pool table
   collect-shape e =

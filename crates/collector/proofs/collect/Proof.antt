@@ -33,8 +33,8 @@ same-length-4 c = search needs
 returns-2 : tie.Need-returns-2
 returns-2 c =
     let a = c .before .before .before .before .before .before .before .before .before .before .before .before .before .before .before .args in
-    collect-accepted (a .base .0) (a .pool .now) (a .table .now) (a .roots .now) (a .stack .now) (c .before .before .before .before .before .before .before .before .collection .result) (c .before .before .before .before .before .before .before .before .collection .ensures) (c .before .before .before .before .before .before .before .if1 .left)
-    (c .before .before .before .before .run .ensures)
+    collect-accepted (a .base .0) (a .pool .now) (a .table .now) (a .roots .now) (a .stack .now) (c .before .before .before .before .before .before .before .before .collection .result) (c .before .before .before .before .before .before .before .before .collection .ensures)
+    (c .before .before .before .before .run .result) (c .before .before .before .before .run .last .1 .1 .0) (c .before .before .before .before .run .last .1 .1 .1 .1 .0) (c .before .before .before .before .before .before .before .if1 .left) (c .before .before .before .before .run .ensures)
 
 pub collect-spec : {M : Type 1} → statement M
 collect-spec =
