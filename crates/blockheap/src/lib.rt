@@ -17,7 +17,14 @@ pub extern "C" fn blockheap_init(base: u64, pool: &[u8], table: &mut [u8]) -> u3
 }
 
 #[no_mangle]
-pub extern "C" fn blockheap_allocate(base: u64, pool: &mut [u8], table: &mut [u8], bytes: u64, block: &mut u32, change: &mut i32) -> u32
+pub extern "C" fn blockheap_allocate(
+    base: u64,
+    pool: &mut [u8],
+    table: &mut [u8],
+    bytes: u64,
+    block: &mut u32,
+    change: &mut i32,
+) -> u32
     ensures { λ r. ⌜ placed r (now (block .exit)) (now (change .exit)) (now (pool .exit)) (now (table .exit))
         ≡ allocate base (heapOf (now (pool .entry)) (now (table .entry))) bytes ⌝ }
 {
@@ -29,7 +36,13 @@ pub extern "C" fn blockheap_allocate(base: u64, pool: &mut [u8], table: &mut [u8
 }
 
 #[no_mangle]
-pub extern "C" fn blockheap_free(base: u64, pool: &[u8], table: &mut [u8], block: u64, change: &mut i32) -> u32
+pub extern "C" fn blockheap_free(
+    base: u64,
+    pool: &[u8],
+    table: &mut [u8],
+    block: u64,
+    change: &mut i32,
+) -> u32
     ensures { λ r. ⌜ placed r 0 (now (change .exit)) (now (pool .entry)) (now (table .exit))
         ≡ free base (heapOf (now (pool .entry)) (now (table .entry))) block ⌝ }
 {
@@ -40,11 +53,25 @@ pub extern "C" fn blockheap_free(base: u64, pool: &[u8], table: &mut [u8], block
 }
 
 #[no_mangle]
-pub extern "C" fn blockheap_reallocate(base: u64, pool: &mut [u8], table: &mut [u8], block: u64, bytes: u64, new_block: &mut u32, change: &mut i32) -> u32
+pub extern "C" fn blockheap_reallocate(
+    base: u64,
+    pool: &mut [u8],
+    table: &mut [u8],
+    block: u64,
+    bytes: u64,
+    new_block: &mut u32,
+    change: &mut i32,
+) -> u32
     ensures { λ r. ⌜ placed r (now («new_block» .exit)) (now (change .exit)) (now (pool .exit)) (now (table .exit))
         ≡ reallocate base (heapOf (now (pool .entry)) (now (table .entry))) block bytes ⌝ }
 {
-    let p = heap::reallocate(Address(base), pool, table, Block(block as usize), Bytes(bytes as usize));
+    let p = heap::reallocate(
+        Address(base),
+        pool,
+        table,
+        Block(block as usize),
+        Bytes(bytes as usize),
+    );
     *new_block = p.block.0 as u32;
     let d = p.change;
     *change = d;
@@ -74,7 +101,14 @@ pub extern "C" fn blockheap_collect(
 }
 
 #[no_mangle]
-pub extern "C" fn blockheap_survey(base: u64, pool: &[u8], table: &[u8], used: &mut u32, objects: &mut u32, longest: &mut u32) -> u32
+pub extern "C" fn blockheap_survey(
+    base: u64,
+    pool: &[u8],
+    table: &[u8],
+    used: &mut u32,
+    objects: &mut u32,
+    longest: &mut u32,
+) -> u32
     ensures { λ r. ⌜ surveyed r (now (used .exit)) (now (objects .exit)) (now (longest .exit)) (now (pool .entry)) (now (table .entry))
         ≡ survey base (heapOf (now (pool .entry)) (now (table .entry))) ⌝ }
 {
@@ -86,19 +120,46 @@ pub extern "C" fn blockheap_survey(base: u64, pool: &[u8], table: &[u8], used: &
 }
 
 #[no_mangle]
-pub extern "C" fn blockheap_load(base: u64, pool: &[u8], table: &[u8], block: u64, word: u64, value: &mut u32) -> u32
+pub extern "C" fn blockheap_load(
+    base: u64,
+    pool: &[u8],
+    table: &[u8],
+    block: u64,
+    word: u64,
+    value: &mut u32,
+) -> u32
     ensures { λ r. ⌜ loaded r (now (value .exit)) (now (pool .entry)) (now (table .entry))
         ≡ load base (heapOf (now (pool .entry)) (now (table .entry))) block word ⌝ }
 {
-    let l = heap::load(Address(base), pool, table, Block(block as usize), word as usize);
+    let l = heap::load(
+        Address(base),
+        pool,
+        table,
+        Block(block as usize),
+        word as usize,
+    );
     *value = l.value;
     l.refusal
 }
 
 #[no_mangle]
-pub extern "C" fn blockheap_store(base: u64, pool: &mut [u8], table: &[u8], block: u64, word: u64, value: u32) -> u32
+pub extern "C" fn blockheap_store(
+    base: u64,
+    pool: &mut [u8],
+    table: &[u8],
+    block: u64,
+    word: u64,
+    value: u32,
+) -> u32
     ensures { λ r. ⌜ status r (now (pool .exit)) (now (table .entry))
         ≡ store base (heapOf (now (pool .entry)) (now (table .entry))) block word value ⌝ }
 {
-    heap::store(Address(base), pool, table, Block(block as usize), word as usize, value)
+    heap::store(
+        Address(base),
+        pool,
+        table,
+        Block(block as usize),
+        word as usize,
+        value,
+    )
 }

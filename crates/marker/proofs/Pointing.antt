@@ -1,6 +1,6 @@
 -- What a word leads to, and what a visit and a root do with it.
 -- Assumes nothing.
-use mathlib.Core.Path.{_≡_, refl, sym}
+use mathlib.Core.Path.{_≡_, refl, sym, _∙_}
 use mathlib.Core.Bool.{Bool, true, false}
 use mathlib.Core.List.{List}
 use mathlib.Core.Option.{Option, some, none}
@@ -11,7 +11,7 @@ use lib.ListN.{length}
 use borrow.Author.Tests.{eq-eqb, ne-eqb, eqb-true, ltb-true}
 use Rattle.rules.specs.Tests.{pick, both}
 use Rattle.rules.specs.Entries.{HEAD, MARK}
-use Rattle.rules.specs.Tables.{entryAt}
+use Rattle.rules.specs.Tables.{entryAt, isHead}
 use Rattle.rules.specs.Pointers.{targetOf, headsObject, headAt, leadsTo}
 use Rattle.rules.specs.Marking.{Scene, State, marked, pushed, visitTo, visit, trace, rootTo, markRoot}
 use Rattle.rules.proofs.Marking.{head-inside}
@@ -69,36 +69,36 @@ module _ (base : ℕ) (es : List ℕ) (w : ℕ) where
   pub unmarked-inside : (k : ℕ) → some k ≡ unmarkedTo base es w → k < length es
   unmarked-inside k q = head-inside es k (unmarked-leads k q .1)
 
-  -- with none such, neither a visit nor a root does anything
-  unmarked-none : none ≡ unmarkedTo base es w → (k : ℕ) → leadsTo base es w ≡ some k → eqb (entryAt es k) HEAD ≡ false
-  unfolding unmarkedTo ifHead
-  unmarked-none q k l = go (eqb (entryAt es k) HEAD) refl (rw l at q)
-    where
-      go : (t : Bool) → eqb (entryAt es k) HEAD ≡ t → none ≡ pick t (some k) none → t ≡ false
-      go true p q = absurd (not-some q)
-      go false p q = refl
+  -- what is done with a word: `z` if it leads to no HEAD, and `g k` if it leads to the HEAD k
+  module _ {A : Type 0} (f : Option ℕ → A) (g : ℕ → A) (z : A) (at-none : f none ≡ z) (at-some : (k : ℕ) → f (some k) ≡ pick (isHead (entryAt es k)) (g k) z) where
+    led-nowhere : none ≡ unmarkedTo base es w → f (leadsTo base es w) ≡ z
+    unfolding unmarkedTo ifHead
+    led-nowhere q = to (leadsTo base es w) q
+      where
+        at : (k : ℕ) (t : Bool) → none ≡ pick t (some k) none → pick t (g k) z ≡ z
+        at k true q = absurd (not-some q)
+        at k false q = refl
+
+        to : (o : Option ℕ) → none ≡ ifHead es o → f o ≡ z
+        to none q = at-none
+        to (some k) q = at-some k ∙ at k (eqb (entryAt es k) HEAD) q
+
+    led-to : (k : ℕ) → some k ≡ unmarkedTo base es w → f (leadsTo base es w) ≡ g k
+    led-to k q = let u = unmarked-leads k q in rw (u .0, at-some k, eq-eqb _ _ (u .1))
 
 module _ (c : Scene) (w : ℕ) (s : State) where
   pub visit-stays : none ≡ unmarkedTo (c .base) (s .entries) w → visit c w s ≡ s
   unfolding visit visitTo
-  visit-stays q = to (leadsTo (c .base) (s .entries) w) refl
-    where
-      to : (o : Option ℕ) → leadsTo (c .base) (s .entries) w ≡ o → visitTo c s o ≡ s
-      to none l = refl
-      to (some k) l = rw (unmarked-none (c .base) (s .entries) w q k l)
+  visit-stays q = led-nowhere (c .base) (s .entries) w (visitTo c s) (λ k. pushed c k (marked k s)) s refl (λ k. refl) q
 
   pub visit-takes : (k : ℕ) → some k ≡ unmarkedTo (c .base) (s .entries) w → visit c w s ≡ pushed c k (marked k s)
   unfolding visit visitTo
-  visit-takes k q = let u = unmarked-leads (c .base) (s .entries) w k q in rw (u .0, eq-eqb _ _ (u .1))
+  visit-takes k q = led-to (c .base) (s .entries) w (visitTo c s) (λ j. pushed c j (marked j s)) s refl (λ j. refl) k q
 
   pub root-stays : none ≡ unmarkedTo (c .base) (s .entries) w → markRoot c w s ≡ s
   unfolding markRoot rootTo
-  root-stays q = to (leadsTo (c .base) (s .entries) w) refl
-    where
-      to : (o : Option ℕ) → leadsTo (c .base) (s .entries) w ≡ o → rootTo c s o ≡ s
-      to none l = refl
-      to (some k) l = rw (unmarked-none (c .base) (s .entries) w q k l)
+  root-stays q = led-nowhere (c .base) (s .entries) w (rootTo c s) (λ k. trace c k (marked k s)) s refl (λ k. refl) q
 
   pub root-marks : (k : ℕ) → some k ≡ unmarkedTo (c .base) (s .entries) w → markRoot c w s ≡ trace c k (marked k s)
   unfolding markRoot rootTo
-  root-marks k q = let u = unmarked-leads (c .base) (s .entries) w k q in rw (u .0, eq-eqb _ _ (u .1))
+  root-marks k q = led-to (c .base) (s .entries) w (rootTo c s) (λ j. trace c j (marked j s)) s refl (λ j. refl) k q

@@ -29,6 +29,7 @@ allocate-block base h bytes = unless-small _ _ _ _ (λ ok. go ok (firstRun (h .e
   where
     room : Test
     room = noRoom (isNone (firstRun (h .entries) (blocksFor bytes)))
+
     go : firstOf (badShape base h ∷ illFormed h ∷ noBytes bytes ∷ room ∷ []) ≡ 0 → (o : Option ℕ) → firstRun (h .entries) (blocksFor bytes) ≡ o → orElse o 0 < 4096
     go ok none e = omega arith
     go ok (some s) e =
@@ -42,16 +43,20 @@ reallocate-block base h k bytes = unless-small _ _ _ _ (λ ok. go ok)
   where
     b : ℕ
     b = blockCount (h .entries) k
+
     c : ℕ
     c = blocksFor bytes
+
     room : Test
     room = noRoom (isNoWay (wayTo (h .entries) k b c))
+
     by-way : k < 4096 → length (h .entries) ≤ 4096 → 0 < c → (w : Way) → Ways (h .entries) k b c w → along w h k b c .answer .block < 4096
     by-way small few more stay ways = small
     by-way small few more shrink ways = small
     by-way small few more grow ways = small
     by-way small few more (move s) (moves l full low) = omega (arith, low .0 .room)
     by-way small few more noWay ways = omega arith
+
     go : firstOf (badShape base h ∷ illFormed h ∷ noBytes bytes ∷ outside h k ∷ noHead h k ∷ room ∷ []) ≡ 0 → along (wayTo (h .entries) k b c) h k b c .answer .block < 4096
     go ok =
         let few = passed base h (noBytes bytes ∷ outside h k ∷ noHead h k ∷ room ∷ []) ok .shape .few in
