@@ -1,4 +1,4 @@
--- What the collector's variables stand for in the rules: the scene, the state of the marking, and what its functions ask and leave.
+-- What the code's variables stand for in the rules: the scene, the state of the marking, and what the functions ask and leave.
 -- Assumes nothing.
 use mathlib.Core.Path.{_≡_}
 use mathlib.Core.Bool.{Bool}
@@ -14,11 +14,12 @@ use Rattle.rules.specs.Pointers.{leadsTo}
 use Rattle.rules.specs.Marking.{Scene, State, state}
 use Rattle.marker.specs.declared.Marking.{Marking}
 
--- the block that the word w leads to, if it is a HEAD and so not marked
+-- a block, if it is a HEAD
 unfoldable pub ifHead : List ℕ → Option ℕ → Option ℕ
 ifHead es none = none
 ifHead es (some k) = pick (isHead (entryAt es k)) (some k) none
 
+-- the block that the word w leads to, if it is not marked
 unfoldable pub unmarkedTo : ℕ → List ℕ → ℕ → Option ℕ
 unmarkedTo base es w = ifHead es (leadsTo base es w)
 
@@ -27,6 +28,7 @@ abbrev pub stacked : List ℕ → ℕ → List ℕ
 stacked stack zero = []
 stacked stack (suc d) = wordAt stack d ∷ stacked stack d
 
+-- the stack's length is the room
 abbrev pub sceneOf : ℕ → List ℕ → List ℕ → Scene
 sceneOf base pool stack = record { base = base; pool = pool; room = length stack / 4 }
 
