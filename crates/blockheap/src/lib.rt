@@ -1,17 +1,16 @@
 // The entry points for C: numbers and byte slices in, the refusal number out, every other answer through a pointer.
 // A slice is a pointer and a length; include/blockheap.h declares the same functions.
 ghost use mathlib.Core.Path.{_≡_};
-ghost use lib.IntN.{pos};
-ghost use Rattle.rules.specs.Outcomes.{heapOf};
+ghost use Rattle.rules.specs.Outcomes.{heapOf, leaves, leavesWith, onlyRefusal, placement, collection, findings, reading};
 ghost use Rattle.rules.specs.Calls.{init, allocate, free, reallocate, collect, survey, load, store};
-ghost use Rattle.blockheap.specs.Outputs.{status, placed, collected, surveyed, loaded};
 use memory::Address;
 use memory::Block;
 use memory::Bytes;
 
 #[no_mangle]
 pub extern "C" fn blockheap_init(base: u64, pool: &[u8], table: &mut [u8]) -> u32
-    ensures { λ r. ⌜ status r (now (pool .entry)) (now (table .exit)) ≡ init base (heapOf (now (pool .entry)) (now (table .entry))) ⌝ }
+    ensures { λ r. ⌜ leaves (onlyRefusal r) (heapOf (now (pool .entry)) (now (table .exit)))
+        ≡ init base (heapOf (now (pool .entry)) (now (table .entry))) ⌝ }
 {
     heap::init(Address(base), pool, table)
 }
@@ -25,7 +24,7 @@ pub extern "C" fn blockheap_allocate(
     block: &mut u32,
     change: &mut i32,
 ) -> u32
-    ensures { λ r. ⌜ placed r (now (block .exit)) (now (change .exit)) (now (pool .exit)) (now (table .exit))
+    ensures { λ r. ⌜ leaves (placement r (now (block .exit)) (now (change .exit))) (heapOf (now (pool .exit)) (now (table .exit)))
         ≡ allocate base (heapOf (now (pool .entry)) (now (table .entry))) bytes ⌝ }
 {
     let p = heap::allocate(Address(base), pool, table, Bytes(bytes as usize));
@@ -43,7 +42,7 @@ pub extern "C" fn blockheap_free(
     block: u64,
     change: &mut i32,
 ) -> u32
-    ensures { λ r. ⌜ placed r 0 (now (change .exit)) (now (pool .entry)) (now (table .exit))
+    ensures { λ r. ⌜ leaves (placement r 0 (now (change .exit))) (heapOf (now (pool .entry)) (now (table .exit)))
         ≡ free base (heapOf (now (pool .entry)) (now (table .entry))) block ⌝ }
 {
     let f = heap::free(Address(base), pool, table, Block(block as usize));
@@ -62,7 +61,7 @@ pub extern "C" fn blockheap_reallocate(
     new_block: &mut u32,
     change: &mut i32,
 ) -> u32
-    ensures { λ r. ⌜ placed r (now («new_block» .exit)) (now (change .exit)) (now (pool .exit)) (now (table .exit))
+    ensures { λ r. ⌜ leaves (placement r (now («new_block» .exit)) (now (change .exit))) (heapOf (now (pool .exit)) (now (table .exit)))
         ≡ reallocate base (heapOf (now (pool .entry)) (now (table .entry))) block bytes ⌝ }
 {
     let p = heap::reallocate(
@@ -89,7 +88,7 @@ pub extern "C" fn blockheap_collect(
     rescans: &mut u32,
     change: &mut i32,
 ) -> u32
-    ensures { λ r. ⌜ collected r (now (kept .exit)) (now (rescans .exit)) (now (change .exit)) (now (pool .entry)) (now (table .exit)) (now (stack .exit))
+    ensures { λ r. ⌜ leavesWith (collection r (now (kept .exit)) (now (rescans .exit)) (now (change .exit))) (heapOf (now (pool .entry)) (now (table .exit))) (now (stack .exit))
         ≡ collect base (heapOf (now (pool .entry)) (now (table .entry))) (now (roots .entry)) (now (stack .entry)) ⌝ }
 {
     let c = collector::collect(Address(base), pool, table, roots, stack);
@@ -109,7 +108,7 @@ pub extern "C" fn blockheap_survey(
     objects: &mut u32,
     longest: &mut u32,
 ) -> u32
-    ensures { λ r. ⌜ surveyed r (now (used .exit)) (now (objects .exit)) (now (longest .exit)) (now (pool .entry)) (now (table .entry))
+    ensures { λ r. ⌜ leaves (findings r (now (used .exit)) (now (objects .exit)) (now (longest .exit))) (heapOf (now (pool .entry)) (now (table .entry)))
         ≡ survey base (heapOf (now (pool .entry)) (now (table .entry))) ⌝ }
 {
     let s = heap::survey(Address(base), pool, table);
@@ -128,7 +127,7 @@ pub extern "C" fn blockheap_load(
     word: u64,
     value: &mut u32,
 ) -> u32
-    ensures { λ r. ⌜ loaded r (now (value .exit)) (now (pool .entry)) (now (table .entry))
+    ensures { λ r. ⌜ leaves (reading r (now (value .exit))) (heapOf (now (pool .entry)) (now (table .entry)))
         ≡ load base (heapOf (now (pool .entry)) (now (table .entry))) block word ⌝ }
 {
     let l = heap::load(
@@ -151,7 +150,7 @@ pub extern "C" fn blockheap_store(
     word: u64,
     value: u32,
 ) -> u32
-    ensures { λ r. ⌜ status r (now (pool .exit)) (now (table .entry))
+    ensures { λ r. ⌜ leaves (onlyRefusal r) (heapOf (now (pool .exit)) (now (table .entry)))
         ≡ store base (heapOf (now (pool .entry)) (now (table .entry))) block word value ⌝ }
 {
     heap::store(

@@ -35,35 +35,55 @@ pub record Outcome : Type 0 where
   pub heap : Heap
   pub stack : List ℕ
 
+-- the answer of a call that answers a block and the change
+abbrev pub placement : ℕ → ℕ → ℤ → Answer
+placement r k d = record { refusal = r; block = k; change = d; kept = 0; rescans = 0; used = 0; objects = 0; longest = 0; value = 0 }
+
+-- of a collection: the kept objects, the rescans and the change
+abbrev pub collection : ℕ → ℕ → ℕ → ℤ → Answer
+collection r n s d = record { refusal = r; block = 0; change = d; kept = n; rescans = s; used = 0; objects = 0; longest = 0; value = 0 }
+
+-- of a survey: used blocks, objects, the longest free run
+abbrev pub findings : ℕ → ℕ → ℕ → ℕ → Answer
+findings r u n l = record { refusal = r; block = 0; change = pos 0; kept = 0; rescans = 0; used = u; objects = n; longest = l; value = 0 }
+
+-- of a load: the word
+abbrev pub reading : ℕ → ℕ → Answer
+reading r w = record { refusal = r; block = 0; change = pos 0; kept = 0; rescans = 0; used = 0; objects = 0; longest = 0; value = w }
+
 -- only a refusal number, all other parts zero
 abbrev pub onlyRefusal : ℕ → Answer
-onlyRefusal r = record { refusal = r; block = 0; change = pos 0; kept = 0; rescans = 0; used = 0; objects = 0; longest = 0; value = 0 }
+onlyRefusal r = placement r 0 (pos 0)
 
 -- the change in used blocks from one table to another
 unfoldable pub changeFrom : List ℕ → List ℕ → ℤ
 changeFrom before after = subℕ (used after) (used before)
 
--- accepted, with a block and the change
+-- accepted, with the parts that the call answers
 abbrev pub placedAt : ℕ → ℤ → Answer
-placedAt k d = record { refusal = 0; block = k; change = d; kept = 0; rescans = 0; used = 0; objects = 0; longest = 0; value = 0 }
+placedAt k d = placement 0 k d
 
 abbrev pub collectedTo : ℕ → ℕ → ℤ → Answer
-collectedTo n r d = record { refusal = 0; block = 0; change = d; kept = n; rescans = r; used = 0; objects = 0; longest = 0; value = 0 }
+collectedTo n s d = collection 0 n s d
 
 abbrev pub surveyed : ℕ → ℕ → ℕ → Answer
-surveyed u n l = record { refusal = 0; block = 0; change = pos 0; kept = 0; rescans = 0; used = u; objects = n; longest = l; value = 0 }
+surveyed u n l = findings 0 u n l
 
 abbrev pub loaded : ℕ → Answer
-loaded w = record { refusal = 0; block = 0; change = pos 0; kept = 0; rescans = 0; used = 0; objects = 0; longest = 0; value = w }
+loaded w = reading 0 w
 
--- a call without a mark stack leaves this
+-- a call leaves this
+abbrev pub leavesWith : Answer → Heap → List ℕ → Outcome
+leavesWith a h stack = record { answer = a; heap = h; stack = stack }
+
+-- and this, if it takes no mark stack
 abbrev pub leaves : Answer → Heap → Outcome
-leaves a h = record { answer = a; heap = h; stack = [] }
+leaves a h = leavesWith a h []
 
 -- on a refusal nothing but the number is answered and nothing is changed; else the call acts
 unfoldable pub unlessRefused : ℕ → Heap → List ℕ → Outcome → Outcome
 unlessRefused zero h stack acted = acted
-unlessRefused (suc r) h stack acted = record { answer = onlyRefusal (suc r); heap = h; stack = stack }
+unlessRefused (suc r) h stack acted = leavesWith (onlyRefusal (suc r)) h stack
 
 -- the pool with the bytes of the b blocks from s on as zero
 unfoldable pub clearedBlocks : List ℕ → ℕ → ℕ → List ℕ
