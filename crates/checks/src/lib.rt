@@ -10,31 +10,38 @@ use memory::Address;
 use memory::Block;
 use memory::Bytes;
 
+// The first number that is no address.
+const END: u64 = 4294967296;
+
 // Whether the table's length, the pool's length and the base suit each other.
 pub fn good_shape(base: Address, pool: &[u8], table: &[u8]) -> bool
     ensures { λ r. ⌜ r ≡ goodShape (base .0) (heapOf (now (pool .entry)) (now (table .entry))) ⌝ }
 {
     let t = table.len();
-    let at = base.0;
     if t < 1 {
         return false;
     }
     if 1024 < t {
         return false;
     }
-    if pool.len() != 64 * t {
+    let n = entries::blocks(table);
+    if pool.len() != Bytes::of_blocks(n).0 {
         return false;
     }
+    let at = base.0;
     if at % 16 != 0 {
         return false;
     }
     if at < 16 {
         return false;
     }
-    at <= 4294967296 - 64 * (t as u64)
+    if END < at {
+        return false;
+    }
+    base.of_block(Block(n)).0 <= END
 }
 
-// A heap: 1 2.
+// Refusals 1 and 2, of every call but init.
 pub fn heap(base: Address, pool: &[u8], table: &[u8]) -> u32
     ensures { λ r. ⌜ r ≡ firstOf (heapTests (base .0) (heapOf (now (pool .entry)) (now (table .entry)))) ⌝ }
 {
@@ -47,7 +54,7 @@ pub fn heap(base: Address, pool: &[u8], table: &[u8]) -> u32
     0
 }
 
-// A request for room: 1 2 5.
+// Refusals 1, 2 and 5, of a request for room.
 pub fn request(base: Address, pool: &[u8], table: &[u8], bytes: Bytes) -> u32
     ensures { λ r. ⌜ r ≡ firstOf (requestTests (base .0) (heapOf (now (pool .entry)) (now (table .entry))) (bytes .0)) ⌝ }
 {
@@ -61,7 +68,7 @@ pub fn request(base: Address, pool: &[u8], table: &[u8], bytes: Bytes) -> u32
     0
 }
 
-// An object by its head: 1 2 6 7.
+// Refusals 1, 2, 6 and 7, of a call that names an object.
 pub fn object(base: Address, pool: &[u8], table: &[u8], k: Block) -> u32
     ensures { λ r. ⌜ r ≡ firstOf (objectTests (base .0) (heapOf (now (pool .entry)) (now (table .entry))) (k .0)) ⌝ }
 {
@@ -72,7 +79,7 @@ pub fn object(base: Address, pool: &[u8], table: &[u8], k: Block) -> u32
     named(table, k)
 }
 
-// A request for an object: 1 2 5 6 7.
+// Refusals 1, 2, 5, 6 and 7, of a request for an object.
 pub fn resize(base: Address, pool: &[u8], table: &[u8], k: Block, bytes: Bytes) -> u32
     ensures { λ r. ⌜ r ≡ firstOf (resizeTests (base .0) (heapOf (now (pool .entry)) (now (table .entry))) (k .0) (bytes .0)) ⌝ }
 {
@@ -83,7 +90,7 @@ pub fn resize(base: Address, pool: &[u8], table: &[u8], k: Block, bytes: Bytes) 
     named(table, k)
 }
 
-// A block that is to name an object: 6 7.
+// Refusals 6 and 7: whether block k names an object.
 fn named(table: &[u8], k: Block) -> u32
     requires { ⌜ length (now table) ≤ 1024 ⌝ }
     ensures { λ r. ⌜ r ≡ firstOf (nameTests (heapOf [] (now (table .entry))) (k .0)) ⌝ }
@@ -97,7 +104,7 @@ fn named(table: &[u8], k: Block) -> u32
     0
 }
 
-// A word of an object: 1 2 6 7 8.
+// Refusals 1, 2, 6, 7 and 8, of a word of an object.
 pub fn word(base: Address, pool: &[u8], table: &[u8], k: Block, i: usize) -> u32
     ensures { λ r. ⌜ r ≡ firstOf (wordTests (base .0) (heapOf (now (pool .entry)) (now (table .entry))) (k .0) i) ⌝ }
 {
@@ -111,7 +118,7 @@ pub fn word(base: Address, pool: &[u8], table: &[u8], k: Block, i: usize) -> u32
     0
 }
 
-// A collection: 1 2 3 4.
+// Refusals 1 to 4, of a collection.
 pub fn collection(base: Address, pool: &[u8], table: &[u8], roots: &[u8], stack: &[u8]) -> u32
     ensures { λ r. ⌜ r ≡ firstOf (collectionTests (base .0) (heapOf (now (pool .entry)) (now (table .entry))) (now (roots .entry)) (now (stack .entry))) ⌝ }
 {
