@@ -1,0 +1,188 @@
+// Runs the worked examples on heaps of 8 blocks. A line for each call: the table before it, its arguments, what it answered, and the
+// table after it.
+mod print;
+
+use memory::Address;
+use memory::Block;
+use memory::Bytes;
+
+const BASE: u64 = 4096;
+
+fn init(example: u64, base: u64) {
+    let pool = [0u8; 128];
+    let mut table = [1u8; 2];
+    print::begin(example, &table);
+    print::text(b" init at base ");
+    print::number(base);
+    let refusal = heap::init(Address(base), &pool, &mut table);
+    print::refusal(refusal);
+    print::end(&table);
+}
+
+fn allocate(example: u64, pool: &mut [u8; 128], table: &mut [u8; 2], bytes: usize) {
+    print::begin(example, &*table);
+    print::text(b" allocate ");
+    print::bytes(bytes);
+    let r = heap::allocate(Address(BASE), &mut *pool, &mut *table, Bytes(bytes));
+    print::refusal(r.refusal);
+    print::block(r.block);
+    print::change(r.change);
+    print::end(&*table);
+}
+
+fn free(example: u64, pool: &[u8; 128], table: &mut [u8; 2], k: usize) {
+    print::begin(example, &*table);
+    print::text(b" free block ");
+    print::number(k as u64);
+    let r = heap::free(Address(BASE), pool, &mut *table, Block(k));
+    print::refusal(r.refusal);
+    print::change(r.change);
+    print::end(&*table);
+}
+
+fn reallocate(example: u64, pool: &mut [u8; 128], table: &mut [u8; 2], k: usize, bytes: usize) {
+    print::begin(example, &*table);
+    print::text(b" reallocate block ");
+    print::number(k as u64);
+    print::text(b" to ");
+    print::bytes(bytes);
+    let r = heap::reallocate(
+        Address(BASE),
+        &mut *pool,
+        &mut *table,
+        Block(k),
+        Bytes(bytes),
+    );
+    print::refusal(r.refusal);
+    print::block(r.block);
+    print::change(r.change);
+    print::end(&*table);
+}
+
+fn survey(example: u64, pool: &[u8; 128], table: &[u8; 2]) {
+    print::begin(example, table);
+    print::text(b" survey");
+    let r = heap::survey(Address(BASE), pool, table);
+    print::refusal(r.refusal);
+    print::part(b"used", r.used);
+    print::part(b"objects", r.objects);
+    print::part(b"longest", r.longest);
+    print::end(table);
+}
+
+fn load(example: u64, pool: &[u8; 128], table: &[u8; 2], k: usize, i: usize) {
+    print::begin(example, table);
+    print::text(b" load word ");
+    print::number(i as u64);
+    print::text(b" of block ");
+    print::number(k as u64);
+    let r = heap::load(Address(BASE), pool, table, Block(k), i);
+    print::refusal(r.refusal);
+    print::part(b"value", r.value);
+    print::end(table);
+}
+
+fn store(example: u64, pool: &mut [u8; 128], table: &[u8; 2], k: usize, i: usize, w: u32) {
+    print::begin(example, table);
+    print::text(b" store ");
+    print::number(w as u64);
+    print::text(b" in word ");
+    print::number(i as u64);
+    print::text(b" of block ");
+    print::number(k as u64);
+    let refusal = heap::store(Address(BASE), &mut *pool, table, Block(k), i, w);
+    print::refusal(refusal);
+    print::end(table);
+}
+
+// The heap of examples 9 to 11, where word 0 of block 4 leads to block 0, collected from these roots with this mark stack.
+fn collect(example: u64, roots: &[u8], stack: &mut [u8]) {
+    let mut pool = [0u8; 128];
+    let mut table = [165u8, 169];
+    heap::store(Address(BASE), &mut pool, &table, Block(4), 0, 4096);
+    print::begin(example, &table);
+    print::text(b" collect from");
+    print::root(roots);
+    print::text(b" with a stack of ");
+    print::number((stack.len() / 4) as u64);
+    let r = collector::collect(Address(BASE), &pool, &mut table, roots, stack);
+    print::refusal(r.refusal);
+    print::part(b"kept", r.kept);
+    print::part(b"rescans", r.rescans);
+    print::change(r.change);
+    print::end(&table);
+}
+
+// An empty heap is filled, and its objects are freed, shrunk and grown.
+fn examples_1_to_7() {
+    let mut pool = [0u8; 128];
+    let mut table = [0u8; 2];
+    allocate(1, &mut pool, &mut table, 1);
+    allocate(2, &mut pool, &mut table, 33);
+    allocate(3, &mut pool, &mut table, 64);
+    allocate(4, &mut pool, &mut table, 1);
+    free(5, &pool, &mut table, 1);
+    free(5, &pool, &mut table, 5);
+    free(5, &pool, &mut table, 8);
+    reallocate(6, &mut pool, &mut table, 4, 16);
+    reallocate(7, &mut pool, &mut table, 0, 65);
+    reallocate(7, &mut pool, &mut table, 0, 64);
+    reallocate(7, &mut pool, &mut table, 0, 65);
+    survey(7, &pool, &table);
+}
+
+// An object that has to move.
+fn example_8() {
+    let mut pool = [0u8; 128];
+    let mut table = [5u8, 0];
+    reallocate(8, &mut pool, &mut table, 0, 17);
+}
+
+// The roots: the address of a head, none, the address of a TAIL, and one inside a block; each as bytes, the lowest first.
+fn examples_9_to_11() {
+    let head = [64u8, 16, 0, 0];
+    let none = [0u8; 0];
+    let tail = [32u8, 16, 0, 0];
+    let inside = [1u8, 16, 0, 0];
+    let mut stack = [238u8; 256];
+    let mut no_stack = [0u8; 0];
+    collect(9, &head, &mut stack);
+    collect(9, &head, &mut no_stack);
+    collect(10, &none, &mut stack);
+    collect(10, &none, &mut no_stack);
+    collect(11, &tail, &mut stack);
+    collect(11, &tail, &mut no_stack);
+    collect(11, &inside, &mut stack);
+    collect(11, &inside, &mut no_stack);
+}
+
+// A table that is not well-formed.
+fn example_12(first: u8) {
+    let mut pool = [0u8; 128];
+    let mut table = [first, 0];
+    allocate(12, &mut pool, &mut table, 1);
+    allocate(12, &mut pool, &mut table, 0);
+}
+
+// The last word of an object and the one after it, and a request that two refusals fit.
+fn examples_14_and_15() {
+    let mut pool = [0u8; 128];
+    let mut table = [165u8, 169];
+    store(14, &mut pool, &table, 4, 15, 77);
+    load(14, &pool, &table, 4, 15);
+    load(14, &pool, &table, 4, 16);
+    reallocate(15, &mut pool, &mut table, 8, 0);
+}
+
+fn main() {
+    examples_1_to_7();
+    example_8();
+    examples_9_to_11();
+    example_12(2);
+    example_12(3);
+    example_12(8);
+    init(13, 4294967168);
+    init(13, 4294967184);
+    init(13, 0);
+    examples_14_and_15();
+}

@@ -1,0 +1,88 @@
+// The parts of a line.
+use memory::Block;
+
+pub fn text(bytes: &[u8]) {
+    io::write_all(1, bytes);
+}
+
+pub fn number(n: u64) {
+    io::print_decimal(1, n);
+}
+
+pub fn bytes(n: usize) {
+    number(n as u64);
+    text(b" byte");
+    if n != 1 {
+        text(b"s");
+    }
+}
+
+// The example's number, and the table before its call.
+pub fn begin(example: u64, entries: &[u8; 2]) {
+    text(b"example ");
+    number(example);
+    text(b": ");
+    table(entries);
+}
+
+// The first word of the roots.
+pub fn root(roots: &[u8]) {
+    if roots.len() < 4 {
+        text(b" no root");
+        return;
+    }
+    text(b" root ");
+    number(memory::word(roots, 0) as u64);
+}
+
+pub fn refusal(n: u32) {
+    text(b": refusal ");
+    number(n as u64);
+}
+
+pub fn block(k: Block) {
+    text(b", block ");
+    number(k.0 as u64);
+}
+
+// A change in used blocks, with its sign.
+pub fn change(d: i32) {
+    text(b", change ");
+    if d < 0 {
+        text(b"-");
+    }
+    number(magnitude(d));
+}
+
+fn magnitude(d: i32) -> u64 {
+    if d < 0 {
+        (-(d as i64)) as u64
+    } else {
+        d as u64
+    }
+}
+
+// A count or a word, behind its name.
+pub fn part(name: &[u8], n: u32) {
+    text(b", ");
+    text(name);
+    text(b" ");
+    number(n as u64);
+}
+
+// The table after the call.
+pub fn end(entries: &[u8; 2]) {
+    text(b", table ");
+    table(entries);
+    text(b"\n");
+}
+
+fn table(entries: &[u8; 2]) {
+    byte(entries[0]);
+    text(b",");
+    byte(entries[1]);
+}
+
+fn byte(b: u8) {
+    number(b as u64);
+}
