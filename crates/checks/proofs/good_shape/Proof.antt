@@ -28,7 +28,12 @@ last base pool table n end some few blocks long aligned above e = by-cases (leb 
     by-cases true t =
         let l = leb-true end 4294967296 t in
         sym (shape-of base (heapOf pool table) (record {
-          some = omega arith; few = omega arith; pool = omega arith; aligned = aligned; above = above; below = omega arith
+          some = omega arith;
+          few = omega arith;
+          pool = omega arith;
+          aligned = aligned;
+          above = above;
+          below = omega arith;
         }))
     by-cases false t =
         let l = leb-false end 4294967296 t in
