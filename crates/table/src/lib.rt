@@ -56,12 +56,12 @@ pub fn first_run(table: &[u8], count: usize) -> Found
         return Found::Nowhere;
     }
     let last = n - count;
-    let mut start = 0;
+    let mut start = entries::skip(table, Block(0), count).0;
     'starts: while start <= last {
         let mut i = 0;
         while i < count {
             if entries::entry(table, Block(start + i)) != entries::FREE {
-                start = start + i + 1;
+                start = entries::skip(table, Block(start + i + 1), count).0;
                 continue 'starts;
             }
             i += 1;

@@ -1,5 +1,5 @@
 -- `first_run`: no run starts below the start in hand, and a block that is not FREE ends every run that could hold it, so the search
--- may go on after that block. The answer is the lowest start, and there is one lowest start.
+-- may go on after that block, and after the bytes in which no run starts. The answer is the lowest start, and there is one lowest start.
 -- Assumes nothing.
 use mathlib.Core.Path.{_≡_, sym, _∙_}
 use mathlib.Core.Option.{some}
@@ -12,6 +12,7 @@ use Rattle.rules.specs.Tables.{entryAt}
 use Rattle.rules.specs.Meaning.{Run, Lowest}
 use Rattle.rules.proofs.Entries.{length-entriesOf}
 use Rattle.rules.proofs.Tables.{first-is, none-first, run-skip}
+use Rattle.entries.proofs.Starts.{no-start-join}
 use Rattle.table.proofs.first_run.Statement.{statement}
 use Rattle.table.proofs.first_run.Tie as tie
 
@@ -33,34 +34,43 @@ blocks-requires c κs = search needs
 returns : tie.Need-returns Inv-loop μ-loop Inv-starts μ-starts
 returns c = sym (none-first _ _ (search needs) (λ q r. omega (arith, r .room)))
 
+skip-requires : tie.Need-skip-requires Inv-loop μ-loop Inv-starts μ-starts
+skip-requires c κs = search needs
+
 starts-holds : tie.Need-starts-holds Inv-loop μ-loop Inv-starts μ-starts
-starts-holds c = λ q l. absurd (omega arith)
+starts-holds c = λ q l. c .skip .ensures .1 .1 q (omega arith) l
 
 loop-holds : tie.Need-loop-holds Inv-loop μ-loop Inv-starts μ-starts
 loop-holds c = (search needs, λ j l. absurd (omega arith))
 
-add-t11 : tie.Need-add-t11 Inv-loop μ-loop Inv-starts μ-starts
-add-t11 c = search needs
+add-t13 : tie.Need-add-t13 Inv-loop μ-loop Inv-starts μ-starts
+add-t13 c = search needs
 
 entry-requires : tie.Need-entry-requires Inv-loop μ-loop Inv-starts μ-starts
 entry-requires c κs = search needs
 
-add-start : tie.Need-add-start Inv-loop μ-loop Inv-starts μ-starts
-add-start c = search needs
+add-t16 : tie.Need-add-t16 Inv-loop μ-loop Inv-starts μ-starts
+add-t16 c = search needs
 
-add-start-2 : tie.Need-add-start-2 Inv-loop μ-loop Inv-starts μ-starts
-add-start-2 c =
-    let s = c .before .before .before .before .before .before .before .before .before in
+add-t17 : tie.Need-add-t17 Inv-loop μ-loop Inv-starts μ-starts
+add-t17 c =
+    let s = c .before .before .before .before .before .before .before .before .before .before in
     omega (arith, s .pre, length-entriesOf (s .args .table .now))
+
+skip-requires-2 : tie.Need-skip-requires-2 Inv-loop μ-loop Inv-starts μ-starts
+skip-requires-2 c κs = search needs
 
 starts-less : tie.Need-starts-less Inv-loop μ-loop Inv-starts μ-starts
 starts-less c = search needs
 
 starts-again : tie.Need-starts-again Inv-loop μ-loop Inv-starts μ-starts
 starts-again c =
-    let l = c .before .before .before in
+    let l = c .before .before .before .before in
     let e = l .loop .inv .0 .0 in
-    λ q h. run-skip _ _ _ (l .loop .i) (l .before .before .starts .inv) (search needs) (λ z. c .if2 .taken (c .before .entry .ensures ∙ rw e z)) q (omega arith)
+    let t = c .before in
+    λ q. no-start-join _ _ 0 _ _
+    (λ q z h. run-skip _ _ _ (l .loop .i) (l .before .before .starts .inv) (search needs) (λ z. t .if2 .taken (t .before .entry .ensures ∙ rw e z)) q (omega arith))
+    (c .skip2 .ensures .1 .1) q (omega arith)
 
 add-i : tie.Need-add-i Inv-loop μ-loop Inv-starts μ-starts
 add-i c = search needs
@@ -93,12 +103,14 @@ first-run-spec =
     μ-starts
     blocks-requires
     returns
+    skip-requires
     starts-holds
     loop-holds
-    add-t11
+    add-t13
     entry-requires
-    add-start
-    add-start-2
+    add-t16
+    add-t17
+    skip-requires-2
     starts-less
     starts-again
     add-i

@@ -1,0 +1,164 @@
+-- What the free bits of a byte and the next say of the runs that start in it. Two tests, which antt computes: the masks pick out the
+-- FREE entries of each byte, and bits that are all clear leave no place for a run's first blocks.
+-- Assumes nothing.
+use mathlib.Core.Path.{_≡_, refl, sym, ap, _∙_}
+use mathlib.Core.Logic.{_≢_}
+use mathlib.Core.Bool.{Bool, true, false, not}
+use mathlib.Core.List.{List}
+use Prim.Native.Nat.{ℕ, zero, suc, _+_, _-_, _*_, _/_, _%_, _^_, _≤_, _<_}
+use native.Mathlib.Decide.{decLt}
+use native.Mathlib.Omega.{arith}
+use lib.Dec.{T, eqb, ltb, eqb→eq, ltb→lt}
+use lib.ListN.{getD}
+use lib.Bits.{bitAnd, bitOr}
+use borrow.Author.Tests.{eq-eqb, lt-ltb, le-ltb}
+use Rattle.rules.specs.Tests.{pick, both, either}
+use Rattle.rules.specs.Entries.{FREE, entryOf, entriesOf}
+use Rattle.rules.specs.Tables.{entryAt, isFree}
+use Rattle.rules.specs.Meaning.{Run}
+use Rattle.rules.proofs.Below.{allBelow, below}
+use Rattle.rules.proofs.Lists.{one}
+use Rattle.rules.proofs.Entries.{getD-entriesOf}
+use Rattle.entries.specs.Starts.{NoStart}
+
+-- the FREE entries of the byte b, a bit for each: 1, 4, 16 and 64
+abbrev pub freeBits : ℕ → ℕ
+freeBits b = bitAnd (255 - bitOr b (b / 2)) 85
+
+-- what is left of the free bits f of a byte, with those of the next byte, g, and what spares the second and the third block of a run
+abbrev pub left : ℕ → ℕ → ℕ → ℕ → ℕ
+left f g second third =
+    bitAnd (bitAnd f (bitOr (bitOr (f / 4) (g * 64 % 256)) second)) (bitOr (bitOr (f / 16) (g * 16 % 256)) third)
+
+-- what spares block i of a run of count blocks
+abbrev pub sparedOf : ℕ → ℕ → ℕ
+sparedOf i count = pick (ltb i count) 0 255
+
+-- ---- one byte: the four tests for FREE as one number below 16
+
+abbrev quad : ℕ → ℕ
+quad b = one (isFree (entryOf b 0)) + 2 * one (isFree (entryOf b 1)) + 4 * one (isFree (entryOf b 2)) + 8 * one (isFree (entryOf b 3))
+
+abbrev spread : ℕ → ℕ
+spread x = x % 2 + 4 * (x / 2 % 2) + 16 * (x / 4 % 2) + 64 * (x / 8 % 2)
+
+bits-right : ℕ → Bool
+bits-right b = both (eqb (freeBits b) (spread (quad b))) (allBelow 4 (λ (j : ℕ). eqb (quad b / 2 ^ j % 2) (one (isFree (entryOf b j)))))
+
+all-bits : T (allBelow 256 bits-right)
+unfolding bits-right entryOf
+all-bits = tt
+
+both-T : (a b : Bool) → T (both a b) → T a × T b
+both-T true b t = (tt, t)
+both-T false b t = absurd t
+
+free-bits : (b : ℕ) → b < 256 → freeBits b ≡ spread (quad b)
+unfolding bits-right
+free-bits b h =
+    eqb→eq (freeBits b) (spread (quad b))
+    (both-T (eqb (freeBits b) (spread (quad b))) (allBelow 4 (λ (j : ℕ). eqb (quad b / 2 ^ j % 2) (one (isFree (entryOf b j))))) (below 256 bits-right all-bits b h) .0)
+
+quad-at : (b j : ℕ) → b < 256 → j < 4 → entryOf b j ≡ FREE → quad b / 2 ^ j % 2 ≡ 1
+unfolding bits-right
+quad-at b j h l free =
+    eqb→eq (quad b / 2 ^ j % 2) (one (isFree (entryOf b j)))
+    (below 4 (λ (j : ℕ). eqb (quad b / 2 ^ j % 2) (one (isFree (entryOf b j))))
+    (both-T (eqb (freeBits b) (spread (quad b))) (allBelow 4 (λ (j : ℕ). eqb (quad b / 2 ^ j % 2) (one (isFree (entryOf b j))))) (below 256 bits-right all-bits b h) .1) j l)
+    ∙ ap (λ (e : ℕ). one (isFree e)) free
+
+one-le : (t : Bool) → one t ≤ 1
+one-le true = omega arith
+one-le false = omega arith
+
+quad-lt : (b : ℕ) → quad b < 16
+quad-lt b = omega (arith, one-le (isFree (entryOf b 0)), one-le (isFree (entryOf b 1)), one-le (isFree (entryOf b 2)), one-le (isFree (entryOf b 3)))
+
+-- ---- two bytes
+
+-- whether entry k of the eight is FREE
+abbrev flag : ℕ → ℕ → ℕ → ℕ
+flag x y k = pick (ltb k 4) (x / 2 ^ k % 2) (y / 2 ^ (k - 4) % 2)
+
+-- c + 1 blocks from entry j on are FREE
+abbrev row : ℕ → ℕ → ℕ → ℕ → Bool
+row x y c j = allBelow (suc c) (λ (d : ℕ). eqb (flag x y (j + d)) 1)
+
+-- if nothing is left, there is no such row
+left-right : ℕ → ℕ → ℕ → Bool
+left-right x y c =
+    either (not (eqb (left (spread x) (spread y) (sparedOf 1 (suc c)) (sparedOf 2 (suc c))) 0)) (allBelow 4 (λ (j : ℕ). not (row x y c j)))
+
+all-left : T (allBelow 16 (λ (x : ℕ). allBelow 16 (λ (y : ℕ). allBelow 3 (left-right x y))))
+unfolding left-right
+all-left = tt
+
+all-of : (n : ℕ) (f : ℕ → Bool) → ((k : ℕ) → k < n → T (f k)) → T (allBelow n f)
+all-of zero f h = tt
+all-of (suc n) f h = go (f n) (h n (omega arith)) (all-of n f (λ k l. h k (omega arith)))
+  where
+    go : (b : Bool) → T b → T (allBelow n f) → T (both b (allBelow n f))
+    go true t r = r
+    go false t r = t
+
+-- a test that is known to fail leaves the other
+either-T : (a b : Bool) → a ≡ false → T (either a b) → T b
+either-T true b e t = absurd (omega (arith, ap one e))
+either-T false b e t = t
+
+not-T : (a : Bool) → T (not a) → T a → ⊥
+not-T true t u = t
+not-T false t u = u
+
+no-row : (x y c j : ℕ) → x < 16 → y < 16 → c < 3 → j < 4 → left (spread x) (spread y) (sparedOf 1 (suc c)) (sparedOf 2 (suc c)) ≡ 0
+    → ((d : ℕ) → d ≤ c → flag x y (j + d) ≡ 1) → ⊥
+unfolding left-right
+no-row x y c j hx hy hc hj none all =
+    let t = below 3 (left-right x y) (below 16 (λ (y : ℕ). allBelow 3 (left-right x y)) (below 16 (λ (x : ℕ). allBelow 16 (λ (y : ℕ). allBelow 3 (left-right x y))) all-left x hx) y hy) c hc in
+    let l : ℕ = left (spread x) (spread y) (sparedOf 1 (suc c)) (sparedOf 2 (suc c)) in
+    let e : not (eqb l 0) ≡ false = ap not (eq-eqb l 0 none) in
+    not-T (row x y c j)
+    (below 4 (λ (j : ℕ). not (row x y c j)) (either-T (not (eqb l 0)) (allBelow 4 (λ (j : ℕ). not (row x y c j))) e t) j hj)
+    (all-of (suc c) (λ (d : ℕ). eqb (flag x y (j + d)) 1) (λ d h. rw (all d (omega arith)) tt))
+
+-- ---- the table
+
+flag-at : (t : List ℕ) (i k : ℕ) → ((i : ℕ) → getD t i 0 < 256) → k < 8 → entryAt (entriesOf t) (4 * i + k) ≡ FREE
+    → flag (quad (getD t i 0)) (quad (getD t (i + 1) 0)) k ≡ 1
+flag-at t i k small h free = go (decLt k 4)
+  where
+    go : Dec (k < 4) → flag (quad (getD t i 0)) (quad (getD t (i + 1) 0)) k ≡ 1
+    go (yes l) =
+        let d : (4 * i + k) / 4 ≡ i = omega arith in
+        let m : (4 * i + k) % 4 ≡ k = omega arith in
+        rw (lt-ltb k 4 l) (quad-at (getD t i 0) k (small i) l (rw (getD-entriesOf t (4 * i + k), d, m) at free))
+    go (no l) =
+        let d : (4 * i + k) / 4 ≡ i + 1 = omega arith in
+        let m : (4 * i + k) % 4 ≡ k - 4 = omega arith in
+        rw (le-ltb k 4 (omega arith)) (quad-at (getD t (i + 1) 0) (k - 4) (small (i + 1)) (omega arith) (rw (getD-entriesOf t (4 * i + k), d, m) at free))
+
+-- a run of more than c blocks has no place in byte i
+no-place : (t : List ℕ) (i count c q : ℕ) → ((i : ℕ) → getD t i 0 < 256) → c < 3 → c < count → 4 * i ≤ q → q < 4 * i + 4
+    → left (freeBits (getD t i 0)) (freeBits (getD t (i + 1) 0)) (sparedOf 1 (suc c)) (sparedOf 2 (suc c)) ≡ 0 → Run (entriesOf t) count q → ⊥
+no-place t i count c q small hc l h k none r =
+    no-row (quad (getD t i 0)) (quad (getD t (i + 1) 0)) c (q - 4 * i) (quad-lt (getD t i 0)) (quad-lt (getD t (i + 1) 0)) hc (omega arith)
+    (rw (free-bits (getD t i 0) (small i), free-bits (getD t (i + 1) 0) (small (i + 1))) at none)
+    (λ d m. let e : q + d ≡ 4 * i + (q - 4 * i + d) = omega arith in
+    flag-at t i (q - 4 * i + d) small (omega arith) (rw e at (r .free d (omega arith))))
+
+pub no-start : (t : List ℕ) (i count : ℕ) → ((i : ℕ) → getD t i 0 < 256) → 0 < count
+    → left (freeBits (getD t i 0)) (freeBits (getD t (i + 1) 0)) (sparedOf 1 count) (sparedOf 2 count) ≡ 0 → NoStart (entriesOf t) count (4 * i) (4 * i + 4)
+no-start t i count small h none q l k r = go (decLt 1 count) (decLt 2 count)
+  where
+    go : Dec (1 < count) → Dec (2 < count) → ⊥
+    go (yes m) (yes n) = no-place t i count 2 q small (omega arith) (omega arith) l k (rw (lt-ltb 1 count m, lt-ltb 2 count n) at none) r
+    go (yes m) (no n) = no-place t i count 1 q small (omega arith) (omega arith) l k (rw (lt-ltb 1 count m, le-ltb 2 count (omega arith)) at none) r
+    go (no m) _ = no-place t i count 0 q small (omega arith) (omega arith) l k (rw (le-ltb 1 count (omega arith), le-ltb 2 count (omega arith)) at none) r
+
+-- no start in two parts that join is no start in both
+pub no-start-join : (es : List ℕ) (b s m e : ℕ) → NoStart es b s m → NoStart es b m e → NoStart es b s e
+no-start-join es b s m e x y q l h r = go (decLt q m)
+  where
+    go : Dec (q < m) → ⊥
+    go (yes k) = x q l k r
+    go (no k) = y q (omega arith) h r

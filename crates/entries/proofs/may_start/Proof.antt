@@ -1,0 +1,39 @@
+-- `may_start`: the bits that are left are those of the law.
+-- Assumes nothing.
+use borrow.Author.Needs.{needs}
+use Rattle.entries.proofs.Starts.{no-start}
+use Rattle.entries.proofs.may_start.Statement.{statement}
+use Rattle.entries.proofs.may_start.Tie as tie
+
+shared-slice-read-a : tie.Need-shared-slice-read-a
+shared-slice-read-a c = search needs
+
+add-b : tie.Need-add-b
+add-b c = search needs
+
+shared-slice-read-b : tie.Need-shared-slice-read-b
+shared-slice-read-b c = search needs
+
+spared-requires : tie.Need-spared-requires
+spared-requires c κs = search needs
+
+spared-requires-2 : tie.Need-spared-requires-2
+spared-requires-2 c κs = search needs
+
+returns : tie.Need-returns
+returns c =
+    let s = c .before .before .before .before .before in
+    let t = s .args .table .now in
+    rw (c .before .spared .ensures, c .spared2 .ensures)
+    (no-start t (s .args .i) (s .args .count) (λ k. c .before .before .shared-slice-known3 .given k .fits) (s .pre .1))
+
+pub may-start-spec : {M : Type 1} → statement M
+may-start-spec =
+    tie.close
+    (tie.spec
+    shared-slice-read-a
+    add-b
+    shared-slice-read-b
+    spared-requires
+    spared-requires-2
+    returns)

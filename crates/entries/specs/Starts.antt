@@ -1,0 +1,9 @@
+-- Where a search for a run of free blocks need not look.
+-- Assumes nothing.
+use mathlib.Core.List.{List}
+use Prim.Native.Nat.{ℕ, _≤_, _<_}
+use Rattle.rules.specs.Meaning.{Run}
+
+-- no run of b blocks starts at block s or later and before block e
+abbrev pub NoStart : List ℕ → ℕ → ℕ → ℕ → Type 0
+NoStart es b s e = (q : ℕ) → s ≤ q → q < e → Run es b q → ⊥
