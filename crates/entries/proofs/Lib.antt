@@ -1,1 +1,3 @@
 pub mod Masks
+pub mod Counts
+pub mod Carries

@@ -7,6 +7,8 @@ ghost use Rattle.rules.specs.Entries.{entriesOf};
 ghost use Rattle.rules.specs.Tables.{entryAt, wellFormed};
 use memory::Block;
 
+pub mod whole;
+
 pub const FREE: u8 = 0;
 
 pub const HEAD: u8 = 1;
