@@ -1,2 +1,4 @@
+pub mod Carries
+pub mod Counts
 pub mod Masks
 pub mod Starts

@@ -10,6 +10,8 @@ ghost use Rattle.rules.specs.Tests.{pick};
 ghost use Rattle.entries.specs.Starts.{NoStart};
 use memory::Block;
 
+pub mod whole;
+
 pub const FREE: u8 = 0;
 
 pub const HEAD: u8 = 1;
