@@ -18,7 +18,7 @@ use Rattle.promises.specs.Promises.{Accepted, Initialised}
 use Rattle.promises.proofs.Checked.{init-checked, no-refusal, acts}
 use Rattle.promises.proofs.Counting.{shape-kept}
 
-all-free : (n i : ℕ) → entryAt (replicate n FREE) i ≡ FREE
+pub all-free : (n i : ℕ) → entryAt (replicate n FREE) i ≡ FREE
 all-free zero i = refl
 all-free (suc n) zero = refl
 all-free (suc n) (suc i) = all-free n i

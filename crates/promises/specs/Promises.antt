@@ -6,12 +6,12 @@ use mathlib.Core.List.{List}
 use mathlib.Core.Option.{some}
 use Prim.Native.Nat.{ℕ, _+_, _*_, _-_, _^_, _≤_, _<_}
 use lib.IntN.{pos, negℤ, subℕ, _+ℤ_, natAbs}
-use lib.ListN.{length, getD}
+use lib.ListN.{length, getD, replicate}
 use Rattle.rules.specs.Words.{bytesOf, wordsOf}
-use Rattle.rules.specs.Entries.{FREE, HEAD, TAIL}
+use Rattle.rules.specs.Entries.{FREE, HEAD, TAIL, entriesOf}
 use Rattle.rules.specs.Tables.{entryAt, blockCount, used, objects}
-use Rattle.rules.specs.Meaning.{Lowest, Longest}
-use Rattle.rules.specs.Outcomes.{Heap, Outcome, onlyRefusal, loaded}
+use Rattle.rules.specs.Meaning.{AllBytes, TableIsEntries, Lowest, Longest}
+use Rattle.rules.specs.Outcomes.{Heap, Outcome, heapOf, onlyRefusal, loaded}
 use Rattle.rules.specs.Reach.{Reachable}
 use Rattle.rules.specs.Calls.{blocksFor, init, allocate, free, reallocate, collect, survey, load, store}
 use Rattle.rules.specs.Runs.{Call, step}
@@ -179,6 +179,14 @@ pub record Reclaimed (base : ℕ) (before : Heap) (roots : List ℕ) (r : Outcom
 -- ---- the promises, for every heap and every argument
 
 pub record Promises : Type 0 where
+  -- what is said below of entries is said of the bytes of the table: equal entries are equal tables
+  pub table-bytes : TableIsEntries
+  -- so a refused call leaves the table as it was, byte by byte
+  pub refused-table : (c : Call) (stack pool table table' : List ℕ) → AllBytes table → AllBytes table' → ¬ Accepted (step c stack (heapOf pool table))
+      → entriesOf table' ≡ step c stack (heapOf pool table) .heap .entries → table' ≡ table
+  -- and an accepted init leaves a table of zero bytes
+  pub init-zero : (base : ℕ) (pool table table' : List ℕ) → AllBytes table' → Accepted (init base (heapOf pool table))
+      → entriesOf table' ≡ init base (heapOf pool table) .heap .entries → table' ≡ replicate (length table) 0
   -- the refusal number of each call is that of the first of its conditions that holds
   pub init-refusal : (base : ℕ) (h : Heap) → First (ofInit base h) (init base h .answer .refusal)
   pub allocate-refusal : (base : ℕ) (h : Heap) (bytes : ℕ) → First (ofAllocate base h bytes) (allocate base h bytes .answer .refusal)

@@ -1,13 +1,21 @@
--- What the computed definitions of the table mean, in plain sentences. The laws of proofs/Tables.antt show that each definition matches its sentence.
+-- What the computed definitions mean, in plain sentences. The laws of proofs/ show that each definition matches its sentence.
 -- Assumes nothing.
 use mathlib.Core.Path.{_≡_}
 use mathlib.Core.Logic.{_≢_}
 use mathlib.Core.List.{List}
 use mathlib.Core.Option.{Option, some, none}
 use Prim.Native.Nat.{ℕ, suc, _+_, _≤_, _<_}
-use lib.ListN.{length}
-use Rattle.rules.specs.Entries.{FREE, TAIL, MARK}
+use lib.ListN.{length, getD}
+use Rattle.rules.specs.Entries.{FREE, TAIL, MARK, entriesOf}
 use Rattle.rules.specs.Tables.{entryAt}
+
+-- every element is a byte
+abbrev pub AllBytes : List ℕ → Type 0
+AllBytes bs = (i : ℕ) → getD bs i 0 < 256
+
+-- a table is its entries: what the rules say of entries is said of every byte of the table
+abbrev pub TableIsEntries : Type 0
+TableIsEntries = (t u : List ℕ) → AllBytes t → AllBytes u → entriesOf t ≡ entriesOf u → t ≡ u
 
 -- the table is well-formed
 pub record Well (es : List ℕ) : Type 0 where

@@ -51,7 +51,7 @@ pub data SameAnswers : List Turn → List Turn → List Answer → List Answer �
 pub record Indistinct (ts us : List Turn) (h h′ : Heap) : Type 0 where
   -- all answers are the same
   pub same-answers : SameAnswers ts us (answers ts h) (answers us h′)
-  -- after the list, so are the tables
+  -- after the list, so are the tables: equal entries are equal bytes (TableIsEntries of rules)
   pub same-table : after ts h .entries ≡ after us h′ .entries
   -- and every byte of an allocated block
   pub same-bytes : (k : ℕ) → entryAt (after ts h .entries) k ≢ FREE → (j : ℕ) → j < 16 → getD (after ts h .pool) (16 * k + j) 0 ≡ getD (after us h′ .pool) (16 * k + j) 0
