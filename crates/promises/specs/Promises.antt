@@ -10,12 +10,11 @@ use lib.ListN.{length, getD, replicate}
 use Rattle.rules.specs.Words.{bytesOf, wordsOf}
 use Rattle.rules.specs.Entries.{FREE, HEAD, TAIL, entriesOf}
 use Rattle.rules.specs.Tables.{entryAt, blockCount, used, objects}
-use Rattle.rules.specs.Meaning.{AllBytes, TableIsEntries, Lowest, Longest}
+use Rattle.rules.specs.Meaning.{AllBytes, TableIsEntries, Lowest, Longest, Passed}
 use Rattle.rules.specs.Outcomes.{Heap, Outcome, heapOf, onlyRefusal, loaded}
 use Rattle.rules.specs.Reach.{Reachable}
 use Rattle.rules.specs.Calls.{blocksFor, init, allocate, free, reallocate, collect, survey, load, store}
 use Rattle.rules.specs.Runs.{Call, step}
-use Rattle.rules.proofs.Refusals.{Passed}
 use Rattle.promises.specs.Conditions.{First, RoomAfter, NoRun, NoWay, ofInit, ofAllocate, ofFree, ofReallocate, ofCollect, ofSurvey, ofWord}
 
 -- ---- parts of a heap and of an outcome

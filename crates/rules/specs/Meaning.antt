@@ -2,12 +2,14 @@
 -- Assumes nothing.
 use mathlib.Core.Path.{_≡_}
 use mathlib.Core.Logic.{_≢_}
+use mathlib.Core.Bool.{true}
 use mathlib.Core.List.{List}
 use mathlib.Core.Option.{Option, some, none}
-use Prim.Native.Nat.{ℕ, suc, _+_, _≤_, _<_}
+use Prim.Native.Nat.{ℕ, suc, _+_, _*_, _%_, _^_, _≤_, _<_}
 use lib.ListN.{length, getD}
-use Rattle.rules.specs.Entries.{FREE, TAIL, MARK, entriesOf}
-use Rattle.rules.specs.Tables.{entryAt}
+use Rattle.rules.specs.Entries.{FREE, HEAD, TAIL, MARK, entriesOf}
+use Rattle.rules.specs.Tables.{entryAt, wellFormed}
+use Rattle.rules.specs.Outcomes.{Heap}
 
 -- every element is a byte
 abbrev pub AllBytes : List ℕ → Type 0
@@ -56,3 +58,22 @@ pub record Longest (es : List ℕ) (l : ℕ) : Type 0 where
   pub run : Run es l start
   -- and more nowhere
   pub most : (b s : ℕ) → Run es b s → b ≤ l
+
+-- the shape of a heap: the base, the number of blocks and the pool suit each other
+pub record Shape (base : ℕ) (h : Heap) : Type 0 where
+  pub some : 1 ≤ length (h .entries)
+  pub few : length (h .entries) ≤ 4096
+  pub pool : length (h .pool) ≡ 16 * length (h .entries)
+  pub aligned : base % 16 ≡ 0
+  pub above : 16 ≤ base
+  pub below : base + 16 * length (h .entries) ≤ 2 ^ 32
+
+-- what every call but init knows of its heap once it is not refused
+pub record Passed (base : ℕ) (h : Heap) : Type 0 where
+  pub shape : Shape base h
+  pub well : wellFormed (h .entries) ≡ true
+
+-- what a call that names an object knows of it: block k is a HEAD of the table
+pub record Named (h : Heap) (k : ℕ) : Type 0 where
+  pub inside : k < length (h .entries)
+  pub head : entryAt (h .entries) k ≡ HEAD

@@ -1,9 +1,9 @@
 -- `checks::good_shape` meets its contract: each early answer names the part of the shape that fails, the last decides by the base's end.
 -- Assumes nothing.
-use mathlib.Core.Path.{_≡_, refl, sym, _∙_}
+use mathlib.Core.Path.{_≡_, refl, sym}
 use mathlib.Core.Bool.{Bool, true, false}
 use mathlib.Core.List.{List}
-use Prim.Native.Nat.{ℕ, _+_, _-_, _*_, _%_, _≤_}
+use Prim.Native.Nat.{ℕ, _-_, _*_, _%_, _≤_}
 use native.Mathlib.Omega.{arith}
 use borrow.Author.Needs.{needs}
 use borrow.Author.Tests.{leb-true, leb-false}
@@ -12,7 +12,7 @@ use lib.ListN.{length}
 use Rattle.rules.specs.Outcomes.{heapOf}
 use Rattle.rules.specs.Refusals.{goodShape}
 use Rattle.rules.proofs.Entries.{length-entriesOf}
-use Rattle.rules.proofs.Refusals.{Shape, shape-of, shape-not}
+use Rattle.rules.proofs.Refusals.{shape-of, shape-not}
 use Rattle.checks.proofs.good_shape.Statement.{statement}
 use Rattle.checks.proofs.good_shape.Tie as tie
 
