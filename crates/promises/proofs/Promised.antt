@@ -1,6 +1,7 @@
 -- The promises, all together.
 -- Assumes nothing.
 use Rattle.rules.proofs.Entries.{entriesOf-injective}
+use Rattle.rules.proofs.Refusals.{shape-in-bytes}
 use Rattle.promises.specs.Promises.{Promises}
 use Rattle.promises.proofs.Numbers.{init-refusal, allocate-refusal, free-refusal, reallocate-refusal, collect-refusal, survey-refusal, load-refusal, store-refusal, rounded-up, allocate-no-room, reallocate-no-room, allocate-larger, reallocate-larger, refused, refused-stack}
 use Rattle.promises.proofs.Initialising.{initialised}
@@ -16,6 +17,7 @@ promises = record {
   table-bytes = entriesOf-injective;
   refused-table = refused-table;
   init-zero = init-zero;
+  shape-in-bytes = shape-in-bytes;
   init-refusal = init-refusal;
   allocate-refusal = allocate-refusal;
   free-refusal = free-refusal;

@@ -68,6 +68,15 @@ pub record Shape (base : ℕ) (h : Heap) : Type 0 where
   pub above : 16 ≤ base
   pub below : base + 16 * length (h .entries) ≤ 2 ^ 32
 
+-- the same in bytes: a table of t bytes has t from 1 to 1,024 and rules 4t blocks, which are 64t bytes
+pub record ShapeInBytes (base : ℕ) (pool table : List ℕ) : Type 0 where
+  pub some : 1 ≤ length table
+  pub few : length table ≤ 1024
+  pub size : length pool ≡ 64 * length table
+  pub aligned : base % 16 ≡ 0
+  pub above : 16 ≤ base
+  pub below : base + 64 * length table ≤ 2 ^ 32
+
 -- what every call but init knows of its heap once it is not refused
 pub record Passed (base : ℕ) (h : Heap) : Type 0 where
   pub shape : Shape base h
