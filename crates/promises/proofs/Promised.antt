@@ -1,6 +1,7 @@
 -- The promises, all together.
 -- Assumes nothing.
 use Rattle.rules.proofs.Entries.{entriesOf-injective}
+use Rattle.rules.proofs.Pointers.{target-points, leads-says}
 use Rattle.rules.proofs.Refusals.{shape-in-bytes}
 use Rattle.promises.specs.Promises.{Promises}
 use Rattle.promises.proofs.Numbers.{init-refusal, allocate-refusal, free-refusal, reallocate-refusal, collect-refusal, survey-refusal, load-refusal, store-refusal, rounded-up, allocate-no-room, reallocate-no-room, allocate-larger, reallocate-larger, refused, refused-stack}
@@ -18,6 +19,8 @@ promises = record {
   refused-table = refused-table;
   init-zero = init-zero;
   shape-in-bytes = shape-in-bytes;
+  target-points = target-points;
+  leads-says = leads-says;
   init-refusal = init-refusal;
   allocate-refusal = allocate-refusal;
   free-refusal = free-refusal;

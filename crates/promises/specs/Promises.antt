@@ -10,7 +10,8 @@ use lib.ListN.{length, getD, replicate}
 use Rattle.rules.specs.Words.{bytesOf, wordsOf}
 use Rattle.rules.specs.Entries.{FREE, HEAD, TAIL, entriesOf}
 use Rattle.rules.specs.Tables.{entryAt, blockCount, used, objects}
-use Rattle.rules.specs.Meaning.{AllBytes, TableIsEntries, Lowest, Longest, Shape, ShapeInBytes, Passed}
+use Rattle.rules.specs.Pointers.{targetOf, leadsTo}
+use Rattle.rules.specs.Meaning.{AllBytes, TableIsEntries, Points, Leads, Lowest, Longest, Shape, ShapeInBytes, Passed}
 use Rattle.rules.specs.Outcomes.{Heap, Outcome, heapOf, onlyRefusal, loaded}
 use Rattle.rules.specs.Reach.{Reachable}
 use Rattle.rules.specs.Calls.{blocksFor, init, allocate, free, reallocate, collect, survey, load, store}
@@ -188,6 +189,10 @@ pub record Promises : Type 0 where
       → entriesOf table' ≡ init base (heapOf pool table) .heap .entries → table' ≡ replicate (length table) 0
   -- the shape of a heap in a pool and a table, in bytes
   pub shape-in-bytes : (base : ℕ) (pool table : List ℕ) → Shape base (heapOf pool table) ↔ ShapeInBytes base pool table
+  -- the target of a word is the block whose address it is
+  pub target-points : (base n w : ℕ) → Points base n w (targetOf base n w)
+  -- a word leads to the object whose head has it as its address, and to none if it is no head's address
+  pub leads-says : (base : ℕ) (es : List ℕ) (w : ℕ) → Leads base es w (leadsTo base es w)
   -- the refusal number of each call is that of the first of its conditions that holds
   pub init-refusal : (base : ℕ) (h : Heap) → First (ofInit base h) (init base h .answer .refusal)
   pub allocate-refusal : (base : ℕ) (h : Heap) (bytes : ℕ) → First (ofAllocate base h bytes) (allocate base h bytes .answer .refusal)

@@ -4,6 +4,7 @@ pub mod Words
 pub mod Entries
 pub mod Tables
 pub mod Changes
+pub mod Pointers
 pub mod Refusals
 pub mod Marking
 pub mod Blocks

@@ -1,7 +1,7 @@
 -- What the computed definitions mean, in plain sentences. The laws of proofs/ show that each definition matches its sentence.
 -- Assumes nothing.
 use mathlib.Core.Path.{_≡_}
-use mathlib.Core.Logic.{_≢_}
+use mathlib.Core.Logic.{_≢_, _⊎_}
 use mathlib.Core.Bool.{true}
 use mathlib.Core.List.{List}
 use mathlib.Core.Option.{Option, some, none}
@@ -9,6 +9,7 @@ use Prim.Native.Nat.{ℕ, suc, _+_, _*_, _%_, _^_, _≤_, _<_}
 use lib.ListN.{length, getD}
 use Rattle.rules.specs.Entries.{FREE, HEAD, TAIL, MARK, entriesOf}
 use Rattle.rules.specs.Tables.{entryAt, wellFormed}
+use Rattle.rules.specs.Pointers.{addressOf}
 use Rattle.rules.specs.Outcomes.{Heap}
 
 -- every element is a byte
@@ -18,6 +19,20 @@ AllBytes bs = (i : ℕ) → getD bs i 0 < 256
 -- a table is its entries: what the rules say of entries is said of every byte of the table
 abbrev pub TableIsEntries : Type 0
 TableIsEntries = (t u : List ℕ) → AllBytes t → AllBytes u → entriesOf t ≡ entriesOf u → t ≡ u
+
+-- the target of the word w, where there are n blocks at the base: the block whose address w is. It has none if it is no block's address
+unfoldable pub Points : ℕ → ℕ → ℕ → Option ℕ → Type 0
+Points base n w (some k) = (k < n) × (w ≡ addressOf base k)
+Points base n w none = (k : ℕ) → k < n → w ≢ addressOf base k
+
+-- block k is the head of an object, which is MARK while the object is marked
+abbrev pub Heads : List ℕ → ℕ → Type 0
+Heads es k = (entryAt es k ≡ HEAD) ⊎ (entryAt es k ≡ MARK)
+
+-- the object that the word w leads to: the one whose head has w as its address. It leads to none if it is no head's address
+unfoldable pub Leads : ℕ → List ℕ → ℕ → Option ℕ → Type 0
+Leads base es w (some k) = (k < length es) × (w ≡ addressOf base k) × Heads es k
+Leads base es w none = (k : ℕ) → k < length es → Heads es k → w ≢ addressOf base k
 
 -- the table is well-formed
 pub record Well (es : List ℕ) : Type 0 where
