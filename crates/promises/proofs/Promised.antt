@@ -9,7 +9,7 @@ use Rattle.promises.proofs.Initialising.{initialised}
 use Rattle.promises.proofs.Allocating.{allocated}
 use Rattle.promises.proofs.Freeing.{freed}
 use Rattle.promises.proofs.Reallocating.{reallocated}
-use Rattle.promises.proofs.Storing.{stored, surveyed, survey-leaves, load-leaves}
+use Rattle.promises.proofs.Storing.{read, stored, surveyed, survey-leaves, load-leaves}
 use Rattle.promises.proofs.Collecting.{reclaimed}
 use Rattle.promises.proofs.Bytes.{refused-table, init-zero}
 
@@ -40,6 +40,7 @@ promises = record {
   allocated = allocated;
   freed = freed;
   reallocated = reallocated;
+  read = read;
   stored = stored;
   surveyed = surveyed;
   reclaimed = reclaimed;

@@ -7,7 +7,7 @@ use mathlib.Core.Option.{some}
 use Prim.Native.Nat.{ℕ, _+_, _*_, _-_, _^_, _≤_, _<_}
 use lib.IntN.{pos, negℤ, subℕ, _+ℤ_, natAbs}
 use lib.ListN.{length, getD, replicate}
-use Rattle.rules.specs.Words.{bytesOf, wordsOf}
+use Rattle.rules.specs.Words.{number, bytesOf, wordsOf}
 use Rattle.rules.specs.Entries.{FREE, HEAD, TAIL, entriesOf}
 use Rattle.rules.specs.Tables.{entryAt, blockCount, used, objects}
 use Rattle.rules.specs.Pointers.{targetOf, leadsTo}
@@ -155,6 +155,14 @@ pub record Stored (base : ℕ) (before : Heap) (k i w : ℕ) (r : Outcome) : Typ
   -- the shape is good and the table well-formed
   pub good : Passed base (r .heap)
 
+-- an accepted load of word i of the object k
+pub record Loaded (h : Heap) (k i : ℕ) (r : Outcome) : Type 0 where
+  -- it answers the number in four bytes, the first of them the lowest
+  pub value : r .answer .value
+      ≡ number (byteAt h (16 * k + 4 * i)) (byteAt h (16 * k + 4 * i + 1)) (byteAt h (16 * k + 4 * i + 2)) (byteAt h (16 * k + 4 * i + 3))
+  -- and nothing else
+  pub only : r .answer ≡ loaded (r .answer .value)
+
 -- an accepted survey
 pub record Surveyed (h : Heap) (r : Outcome) : Type 0 where
   -- it counts the used blocks and the objects
@@ -223,6 +231,7 @@ pub record Promises : Type 0 where
   pub freed : (base : ℕ) (h : Heap) (k : ℕ) → Accepted (free base h k) → Freed base h k (free base h k)
   pub reallocated : (base : ℕ) (h : Heap) (k bytes : ℕ) → Accepted (reallocate base h k bytes)
       → Reallocated base h k (blocksFor bytes) (reallocate base h k bytes)
+  pub read : (base : ℕ) (h : Heap) (k i : ℕ) → Accepted (load base h k i) → Loaded h k i (load base h k i)
   pub stored : (base : ℕ) (h : Heap) (k i w : ℕ) → Accepted (store base h k i w) → Stored base h k i w (store base h k i w)
   pub surveyed : (base : ℕ) (h : Heap) → Accepted (survey base h) → Surveyed h (survey base h)
   -- of a table in bytes, each entry of which is one of the four
