@@ -17,12 +17,12 @@ use Rattle.rules.specs.Tests.{isNone}
 use Rattle.rules.specs.Words.{wordAt, withWord}
 use Rattle.rules.specs.Entries.{entriesOf, HEAD}
 use Rattle.rules.specs.Tables.{entryAt, blockCount, firstRun, released, used, objects, longest}
-use Rattle.rules.specs.Meaning.{Run}
+use Rattle.rules.specs.Meaning.{Run, Shape}
 use Rattle.rules.specs.Outcomes.{Heap, Outcome, heapOf, onlyRefusal, changeFrom, unlessRefused}
 use Rattle.rules.specs.Refusals.{firstOf, goodShape, badShape, illFormed, noBytes, outside, noHead, noWord, noRoom}
 use Rattle.rules.specs.Calls.{init, blocksFor, taken, placing, allocate, free, freed as freedHeap, survey, load, store}
 use Rattle.rules.proofs.Tables.{first-run, extent-of}
-use Rattle.rules.proofs.Refusals.{first-yes, first-last, first-less, first-more, first-none, refuses, accepts, Shape, passed, asked, named-object, after-names}
+use Rattle.rules.proofs.Refusals.{first-yes, first-last, first-less, first-more, first-none, refuses, accepts, passed, asked, named-object, after-names}
 use Rattle.rules.proofs.Calls.{blocks-some, allocate-change, free-change}
 use Rattle.checks.specs.Checks.{heapTests, requestTests, objectTests, wordTests}
 use Rattle.heap.specs.Answers.{status, placed, unplacedBy, freed, surveyed, loaded}

@@ -11,11 +11,11 @@ use lib.ListN.{length}
 use borrow.Author.Tests.{eqb-false}
 use Rattle.rules.specs.Tests.{isNone, orElse}
 use Rattle.rules.specs.Tables.{blockCount, firstRun}
-use Rattle.rules.specs.Meaning.{Run, Lowest, Extent}
+use Rattle.rules.specs.Meaning.{Run, Lowest, Extent, Passed}
 use Rattle.rules.specs.Outcomes.{Heap}
 use Rattle.rules.specs.Refusals.{badShape, illFormed, noBytes, noRoom}
 use Rattle.rules.specs.Calls.{taken, placing, blocksFor, allocate}
-use Rattle.rules.proofs.Refusals.{Passed, passed, passes, asks, true-not-false, first-none, first-last}
+use Rattle.rules.proofs.Refusals.{passed, passes, asks, true-not-false, first-none, first-last}
 use Rattle.rules.proofs.Tables.{entry-inside, extent-of, run-apart, first-lowest}
 use Rattle.rules.proofs.Changes.{placed-length, placed-head, placed-tail, placed-out, placed-well, placed-count, placed-apart, placed-other}
 use Rattle.rules.proofs.Pools.{cleared-length, cleared-in, cleared-out}

@@ -9,7 +9,8 @@ use Rattle.rules.specs.Tables.{entryAt}
 use Rattle.rules.specs.Outcomes.{Heap, Outcome}
 use Rattle.rules.specs.Refusals.{badLists}
 use Rattle.rules.specs.Calls.{collect}
-use Rattle.rules.proofs.Refusals.{Shape, not-false, first-none}
+use Rattle.rules.specs.Meaning.{Shape}
+use Rattle.rules.proofs.Refusals.{not-false, first-none}
 use Rattle.rules.proofs.Calls.{collect-change}
 use Rattle.keeping.specs.Keeping.{Collected}
 use Rattle.keeping.proofs.Collections.{collect-keeps, collect-less}

@@ -6,11 +6,11 @@ use mathlib.Core.List.{List, []}
 use Prim.Native.Nat.{ℕ, _+_, _-_}
 use native.Mathlib.Omega.{arith}
 use Rattle.rules.specs.Tables.{blockCount}
-use Rattle.rules.specs.Meaning.{Run, Extent}
+use Rattle.rules.specs.Meaning.{Run, Extent, Passed, Named}
 use Rattle.rules.specs.Outcomes.{Heap}
 use Rattle.rules.specs.Refusals.{badShape, illFormed}
 use Rattle.rules.specs.Calls.{freed as freedHeap, placing, blocksFor, free}
-use Rattle.rules.proofs.Refusals.{Passed, Named, passed, named, first-rest}
+use Rattle.rules.proofs.Refusals.{passed, named, first-rest}
 use Rattle.rules.proofs.Tables.{extent-of, run-shorter}
 use Rattle.rules.proofs.Changes.{released-length, released-in, released-out, freed-well, freed-apart, freed-other}
 use Rattle.rules.proofs.Calls.{free-change}

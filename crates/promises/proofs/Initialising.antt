@@ -13,12 +13,13 @@ use Rattle.rules.specs.Refusals.{goodShape, badShape}
 use Rattle.rules.specs.Calls.{init}
 use Rattle.rules.proofs.Lists.{count-none}
 use Rattle.rules.proofs.Tables.{well-of}
-use Rattle.rules.proofs.Refusals.{Passed, Shape, not-false, first-none, shape-true}
+use Rattle.rules.specs.Meaning.{Passed, Shape}
+use Rattle.rules.proofs.Refusals.{not-false, first-none, shape-true}
 use Rattle.promises.specs.Promises.{Accepted, Initialised}
 use Rattle.promises.proofs.Checked.{init-checked, no-refusal, acts}
 use Rattle.promises.proofs.Counting.{shape-kept}
 
-all-free : (n i : ℕ) → entryAt (replicate n FREE) i ≡ FREE
+pub all-free : (n i : ℕ) → entryAt (replicate n FREE) i ≡ FREE
 all-free zero i = refl
 all-free (suc n) zero = refl
 all-free (suc n) (suc i) = all-free n i

@@ -7,4 +7,5 @@ pub mod Freeing
 pub mod Reallocating
 pub mod Storing
 pub mod Collecting
+pub mod Bytes
 pub mod Promised

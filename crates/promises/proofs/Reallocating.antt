@@ -10,11 +10,11 @@ use native.Mathlib.Omega.{arith}
 use lib.ListN.{length}
 use borrow.Author.Tests.{eqb-false}
 use Rattle.rules.specs.Tables.{blockCount, used, placed, released}
-use Rattle.rules.specs.Meaning.{Run, Lowest, Extent}
+use Rattle.rules.specs.Meaning.{Run, Lowest, Extent, Passed, Named}
 use Rattle.rules.specs.Outcomes.{Heap, changeFrom}
 use Rattle.rules.specs.Refusals.{badShape, illFormed, noBytes, outside, noHead, noRoom}
 use Rattle.rules.specs.Calls.{Way, stay, shrink, grow, move, noWay, isNoWay, along, shrunk, grown, moved, placing, blocksFor, reallocate}
-use Rattle.rules.proofs.Refusals.{Passed, Named, passed, named, true-not-false, first-none, first-rest}
+use Rattle.rules.proofs.Refusals.{passed, named, true-not-false, first-none, first-rest}
 use Rattle.rules.proofs.Tables.{entry-inside, extent-of, run-apart}
 use Rattle.rules.proofs.Changes.{placed-length, placed-out, placed-apart, released-length, released-in, released-out, extended-length, extended-out, freed-apart, shrunk-well, shrunk-count, shrunk-other, grown-well, grown-count, grown-apart, grown-other, moved-well, moved-head, moved-count, moved-other}
 use Rattle.rules.proofs.Pools.{cleared-length, cleared-in, cleared-out, moved-length, moved-out, moved-kept, moved-zero}

@@ -8,16 +8,16 @@ use native.Mathlib.Decide.{ℕ-discrete}
 use native.Mathlib.Omega.{arith}
 use lib.ListN.{length}
 use borrow.Author.Tests.{leb-false, lt-leb}
-use Rattle.rules.specs.Words.{withWord}
+use Rattle.rules.specs.Words.{wordAt, withWord}
 use Rattle.rules.specs.Tables.{blockCount}
-use Rattle.rules.specs.Meaning.{Extent}
+use Rattle.rules.specs.Meaning.{Extent, Passed, Named}
 use Rattle.rules.specs.Outcomes.{Heap, Answer, Outcome, leaves, loaded, onlyRefusal, unlessRefused}
 use Rattle.rules.specs.Refusals.{firstOf, goodShape, badShape, illFormed, outside, noHead, noWord}
 use Rattle.rules.specs.Calls.{survey, load, store}
 use Rattle.rules.proofs.Words.{length-withWord, withWord-in, withWord-out, wordAt-withWord, wordAt-other}
-use Rattle.rules.proofs.Refusals.{Passed, Named, passed, passes, named, names, first-none, first-last, first-rest}
+use Rattle.rules.proofs.Refusals.{passed, passes, named, names, first-none, first-last, first-rest}
 use Rattle.rules.proofs.Tables.{entry-inside, extent-of, objects-apart, longest-says}
-use Rattle.promises.specs.Promises.{Object, Same, Accepted, Stored, Surveyed}
+use Rattle.promises.specs.Promises.{Object, Same, Accepted, Loaded, Stored, Surveyed}
 use Rattle.promises.proofs.Checked.{testsOfWord, load-checked, store-checked, survey-checked, number, no-refusal, acts}
 use Rattle.promises.proofs.Counting.{shape-kept}
 
@@ -136,3 +136,9 @@ load-leaves base h k i = ap (λ (r : Outcome). r .heap) (load-checked base h k i
 
 pub surveyed : (base : ℕ) (h : Heap) → Accepted (survey base h) → Surveyed h (survey base h)
 surveyed base h accepted = rw (acts (survey-checked base h) accepted) (record { used = refl; objects = refl; longest = longest-says (h .entries) })
+
+pub read : (base : ℕ) (h : Heap) (k i : ℕ) → Accepted (load base h k i) → Loaded h k i (load base h k i)
+unfolding wordAt
+read base h k i accepted =
+    let e : 4 * (4 * k + i) ≡ 16 * k + 4 * i = omega arith in
+    rw (acts (load-checked base h k i) accepted) (record { value = rw e; only = refl })

@@ -7,10 +7,9 @@ use Prim.Native.Nat.{ℕ, _+_, _*_, _-_, _/_, _%_, _≤_, _<_}
 use lib.ListN.{length}
 use Rattle.rules.specs.Entries.{HEAD}
 use Rattle.rules.specs.Tables.{entryAt, blockCount}
-use Rattle.rules.specs.Meaning.{Well, Run}
+use Rattle.rules.specs.Meaning.{Well, Run, Shape}
 use Rattle.rules.specs.Outcomes.{Heap}
 use Rattle.rules.specs.Calls.{blocksFor}
-use Rattle.rules.proofs.Refusals.{Shape}
 
 -- a refusal number and its condition
 pub record Condition : Type 1 where

@@ -6,16 +6,16 @@ use mathlib.Core.List.{List}
 use mathlib.Core.Option.{some}
 use Prim.Native.Nat.{ℕ, _+_, _*_, _-_, _^_, _≤_, _<_}
 use lib.IntN.{pos, negℤ, subℕ, _+ℤ_, natAbs}
-use lib.ListN.{length, getD}
-use Rattle.rules.specs.Words.{bytesOf, wordsOf}
-use Rattle.rules.specs.Entries.{FREE, HEAD, TAIL}
+use lib.ListN.{length, getD, replicate}
+use Rattle.rules.specs.Words.{number, bytesOf, wordsOf}
+use Rattle.rules.specs.Entries.{FREE, HEAD, TAIL, entriesOf}
 use Rattle.rules.specs.Tables.{entryAt, blockCount, used, objects}
-use Rattle.rules.specs.Meaning.{Lowest, Longest}
-use Rattle.rules.specs.Outcomes.{Heap, Outcome, onlyRefusal, loaded}
+use Rattle.rules.specs.Pointers.{targetOf, leadsTo}
+use Rattle.rules.specs.Meaning.{AllBytes, TableIsEntries, Points, Leads, Lowest, Longest, Shape, ShapeInBytes, Passed}
+use Rattle.rules.specs.Outcomes.{Heap, Outcome, heapOf, onlyRefusal, loaded}
 use Rattle.rules.specs.Reach.{Reachable}
 use Rattle.rules.specs.Calls.{blocksFor, init, allocate, free, reallocate, collect, survey, load, store}
 use Rattle.rules.specs.Runs.{Call, step}
-use Rattle.rules.proofs.Refusals.{Passed}
 use Rattle.promises.specs.Conditions.{First, RoomAfter, NoRun, NoWay, ofInit, ofAllocate, ofFree, ofReallocate, ofCollect, ofSurvey, ofWord}
 
 -- ---- parts of a heap and of an outcome
@@ -155,6 +155,14 @@ pub record Stored (base : ℕ) (before : Heap) (k i w : ℕ) (r : Outcome) : Typ
   -- the shape is good and the table well-formed
   pub good : Passed base (r .heap)
 
+-- an accepted load of word i of the object k
+pub record Loaded (h : Heap) (k i : ℕ) (r : Outcome) : Type 0 where
+  -- it answers the number in four bytes, the first of them the lowest
+  pub value : r .answer .value
+      ≡ number (byteAt h (16 * k + 4 * i)) (byteAt h (16 * k + 4 * i + 1)) (byteAt h (16 * k + 4 * i + 2)) (byteAt h (16 * k + 4 * i + 3))
+  -- and nothing else
+  pub only : r .answer ≡ loaded (r .answer .value)
+
 -- an accepted survey
 pub record Surveyed (h : Heap) (r : Outcome) : Type 0 where
   -- it counts the used blocks and the objects
@@ -179,6 +187,20 @@ pub record Reclaimed (base : ℕ) (before : Heap) (roots : List ℕ) (r : Outcom
 -- ---- the promises, for every heap and every argument
 
 pub record Promises : Type 0 where
+  -- what is said below of entries is said of the bytes of the table: equal entries are equal tables
+  pub table-bytes : TableIsEntries
+  -- so a refused call leaves the table as it was, byte by byte
+  pub refused-table : (c : Call) (stack pool table table' : List ℕ) → AllBytes table → AllBytes table' → ¬ Accepted (step c stack (heapOf pool table))
+      → entriesOf table' ≡ step c stack (heapOf pool table) .heap .entries → table' ≡ table
+  -- and an accepted init leaves a table of zero bytes
+  pub init-zero : (base : ℕ) (pool table table' : List ℕ) → AllBytes table' → Accepted (init base (heapOf pool table))
+      → entriesOf table' ≡ init base (heapOf pool table) .heap .entries → table' ≡ replicate (length table) 0
+  -- the shape of a heap in a pool and a table, in bytes
+  pub shape-in-bytes : (base : ℕ) (pool table : List ℕ) → Shape base (heapOf pool table) ↔ ShapeInBytes base pool table
+  -- the target of a word is the block whose address it is
+  pub target-points : (base n w : ℕ) → Points base n w (targetOf base n w)
+  -- a word leads to the object whose head has it as its address, and to none if it is no head's address
+  pub leads-says : (base : ℕ) (es : List ℕ) (w : ℕ) → Leads base es w (leadsTo base es w)
   -- the refusal number of each call is that of the first of its conditions that holds
   pub init-refusal : (base : ℕ) (h : Heap) → First (ofInit base h) (init base h .answer .refusal)
   pub allocate-refusal : (base : ℕ) (h : Heap) (bytes : ℕ) → First (ofAllocate base h bytes) (allocate base h bytes .answer .refusal)
@@ -209,6 +231,7 @@ pub record Promises : Type 0 where
   pub freed : (base : ℕ) (h : Heap) (k : ℕ) → Accepted (free base h k) → Freed base h k (free base h k)
   pub reallocated : (base : ℕ) (h : Heap) (k bytes : ℕ) → Accepted (reallocate base h k bytes)
       → Reallocated base h k (blocksFor bytes) (reallocate base h k bytes)
+  pub read : (base : ℕ) (h : Heap) (k i : ℕ) → Accepted (load base h k i) → Loaded h k i (load base h k i)
   pub stored : (base : ℕ) (h : Heap) (k i w : ℕ) → Accepted (store base h k i w) → Stored base h k i w (store base h k i w)
   pub surveyed : (base : ℕ) (h : Heap) → Accepted (survey base h) → Surveyed h (survey base h)
   -- of a table in bytes, each entry of which is one of the four

@@ -10,6 +10,7 @@ use lib.Dec.{eqb, eqb→eq}
 use lib.ListN.{length, getD, set, replicate, length-set}
 use lib.Seq.{sets, ext-getD, getD-set-same, getD-set-other}
 use Rattle.rules.specs.Entries.{entryOf, entriesOf, tableOf}
+use Rattle.rules.specs.Meaning.{TableIsEntries}
 use Rattle.rules.proofs.Below.{below}
 
 -- what holds at 0, 1, 2 and 3 holds below 4
@@ -134,7 +135,7 @@ tableOf-small (a ∷ b ∷ c ∷ d ∷ es) small zero = omega (arith, small 0, s
 tableOf-small (a ∷ b ∷ c ∷ d ∷ es) small (suc i) = tableOf-small es (λ k. small (suc (suc (suc (suc k))))) i
 
 -- two tables with the same entries are the same
-pub entriesOf-injective : (t u : List ℕ) → ((i : ℕ) → getD t i 0 < 256) → ((i : ℕ) → getD u i 0 < 256) → entriesOf t ≡ entriesOf u → t ≡ u
+pub entriesOf-injective : TableIsEntries
 entriesOf-injective t u st su e = sym (tableOf-entriesOf t st) ∙ ap tableOf e ∙ tableOf-entriesOf u su
 
 -- ---- one byte or one entry changed

@@ -10,6 +10,7 @@ pub mod Blocks
 pub mod Calls
 pub mod Marks
 pub mod Matching
+pub mod Pointers
 pub mod Pools
 pub mod Twice
 pub mod Used

@@ -1,19 +1,21 @@
 -- Laws of the refusals: the first test that holds, what the shape test says, and what a refusal leaves.
 -- Assumes nothing.
 use mathlib.Core.Path.{_≡_, refl, sym, ap, _∙_}
+use mathlib.Core.Logic.{_↔_}
 use mathlib.Core.Bool.{Bool, true, false, not}
 use mathlib.Core.List.{List, [], _∷_, _++_}
-use Prim.Native.Nat.{ℕ, zero, suc, _+_, _*_, _%_, _^_, _≤_, _<_}
+use Prim.Native.Nat.{ℕ, zero, suc, _*_, _%_, _≤_, _<_}
 use native.Mathlib.Omega.{arith}
 use lib.Dec.{eqb, leb, ltb}
 use lib.ListN.{length}
 use borrow.Author.Tests.{eqb-true, eqb-false, leb-true, leb-false, ltb-true, eq-eqb, ne-eqb, le-leb, lt-leb}
 use Rattle.rules.specs.Tests.{pick, both}
 use Rattle.rules.specs.Pointers.{addressOf, goodBase}
-use Rattle.rules.specs.Entries.{HEAD}
-use Rattle.rules.specs.Tables.{entryAt, wellFormed}
+use Rattle.rules.specs.Entries.{HEAD, entriesOf}
+use Rattle.rules.specs.Tables.{entryAt}
 use Rattle.rules.specs.Outcomes.{Heap, Outcome, heapOf, onlyRefusal, unlessRefused}
 use Rattle.rules.specs.Refusals.{Test, firstOf, goodShape, badShape, illFormed, noBytes, outside, noHead}
+use Rattle.rules.specs.Meaning.{Shape, ShapeInBytes, Passed, Named}
 use Rattle.rules.proofs.Entries.{length-entriesOf}
 
 -- ---- booleans
@@ -111,15 +113,7 @@ pub accepts : (h : Heap) (stack : List ℕ) (acted : Outcome) {n : ℕ} → n �
 unfolding unlessRefused
 accepts h stack acted e = rw e
 
--- ---- the shape of a heap: the base, the number of blocks and the pool suit each other
-
-pub record Shape (base : ℕ) (h : Heap) : Type 0 where
-  pub some : 1 ≤ length (h .entries)
-  pub few : length (h .entries) ≤ 4096
-  pub pool : length (h .pool) ≡ 16 * length (h .entries)
-  pub aligned : base % 16 ≡ 0
-  pub above : 16 ≤ base
-  pub below : base + 16 * length (h .entries) ≤ 2 ^ 32
+-- ---- the shape of a heap
 
 pub shape-true : (base : ℕ) (h : Heap) → goodShape base h ≡ true → Shape base h
 unfolding goodShape goodBase addressOf
@@ -146,25 +140,44 @@ shape-of base h s =
 pub shape-not : (base : ℕ) (h : Heap) → (Shape base h → ⊥) → goodShape base h ≡ false
 shape-not base h f = not-so (goodShape base h) (λ t. f (shape-true base h t))
 
+-- the shape, in bytes
+pub shape-in-bytes : (base : ℕ) (pool table : List ℕ) → Shape base (heapOf pool table) ↔ ShapeInBytes base pool table
+shape-in-bytes base pool table = (there, back)
+  where
+    n : length (entriesOf table) ≡ 4 * length table
+    n = length-entriesOf table
+
+    there : Shape base (heapOf pool table) → ShapeInBytes base pool table
+    there s = record {
+      some = omega (arith, n, s .some);
+      few = omega (arith, n, s .few);
+      size = omega (arith, n, s .pool);
+      aligned = s .aligned;
+      above = s .above;
+      below = omega (arith, n, s .below);
+    }
+
+    back : ShapeInBytes base pool table → Shape base (heapOf pool table)
+    back s = record {
+      some = omega (arith, n, s .some);
+      few = omega (arith, n, s .few);
+      pool = omega (arith, n, s .size);
+      aligned = s .aligned;
+      above = s .above;
+      below = omega (arith, n, s .below);
+    }
+
 -- a table of a heap of good shape has at most 1,024 bytes
 pub few-bytes : (base : ℕ) (pool table : List ℕ) → Shape base (heapOf pool table) → length table ≤ 1024
-few-bytes base pool table s = omega (arith, s .few, length-entriesOf table)
+few-bytes base pool table s = shape-in-bytes base pool table .0 s .few
 
--- what every call but init knows of its heap once it is not refused
-pub record Passed (base : ℕ) (h : Heap) : Type 0 where
-  pub shape : Shape base h
-  pub well : wellFormed (h .entries) ≡ true
+-- ---- what a call knows once it is not refused
 
 pub passed : (base : ℕ) (h : Heap) (ts : List Test) → firstOf (badShape base h ∷ illFormed h ∷ ts) ≡ 0 → Passed base h
 passed base h ts e =
     let a = first-none (badShape base h) (illFormed h ∷ ts) (omega arith) e in
     let b = first-none (illFormed h) ts (omega arith) (a .1) in
     record { shape = shape-true base h (not-false _ (a .0)); well = not-false _ (b .0) }
-
--- what a call that names an object knows of it: block k is a HEAD of the table
-pub record Named (h : Heap) (k : ℕ) : Type 0 where
-  pub inside : k < length (h .entries)
-  pub head : entryAt (h .entries) k ≡ HEAD
 
 pub named : (h : Heap) (k : ℕ) (ts : List Test) → firstOf (outside h k ∷ noHead h k ∷ ts) ≡ 0 → Named h k
 named h k ts e =

@@ -17,7 +17,8 @@ use Rattle.rules.specs.Refusals.{Test, firstOf, goodShape, badShape, ill
 use Rattle.rules.specs.Calls.{blocksFor, init, taken, placing, allocate, freed, free, Way, stay, shrink, grow, move, noWay, shrunk, grown, moved, wayTo, along, reallocate, survey, load, store}
 use Rattle.rules.proofs.Tables.{extent-of, extent-used}
 use Rattle.rules.proofs.Changes.{placed-out, extended-out}
-use Rattle.rules.proofs.Refusals.{first-none, Passed, passed, Named, named-object, named-resize}
+use Rattle.rules.specs.Meaning.{Passed, Named}
+use Rattle.rules.proofs.Refusals.{first-none, passed, named-object, named-resize}
 use Rattle.rules.proofs.Calls.{blocks-some}
 use Rattle.rules.proofs.Matching.{SameByte, Matching, match-run, match-cleared, match-fewer, match-same}
 

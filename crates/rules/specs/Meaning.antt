@@ -1,13 +1,38 @@
--- What the computed definitions of the table mean, in plain sentences. The laws of proofs/Tables.antt show that each definition matches its sentence.
+-- What the computed definitions mean, in plain sentences. The laws of proofs/ show that each definition matches its sentence.
 -- Assumes nothing.
 use mathlib.Core.Path.{_≡_}
-use mathlib.Core.Logic.{_≢_}
+use mathlib.Core.Logic.{_≢_, _⊎_}
+use mathlib.Core.Bool.{true}
 use mathlib.Core.List.{List}
 use mathlib.Core.Option.{Option, some, none}
-use Prim.Native.Nat.{ℕ, suc, _+_, _≤_, _<_}
-use lib.ListN.{length}
-use Rattle.rules.specs.Entries.{FREE, TAIL, MARK}
-use Rattle.rules.specs.Tables.{entryAt}
+use Prim.Native.Nat.{ℕ, suc, _+_, _*_, _%_, _^_, _≤_, _<_}
+use lib.ListN.{length, getD}
+use Rattle.rules.specs.Entries.{FREE, HEAD, TAIL, MARK, entriesOf}
+use Rattle.rules.specs.Tables.{entryAt, wellFormed}
+use Rattle.rules.specs.Pointers.{addressOf}
+use Rattle.rules.specs.Outcomes.{Heap}
+
+-- every element is a byte
+abbrev pub AllBytes : List ℕ → Type 0
+AllBytes bs = (i : ℕ) → getD bs i 0 < 256
+
+-- a table is its entries: what the rules say of entries is said of every byte of the table
+abbrev pub TableIsEntries : Type 0
+TableIsEntries = (t u : List ℕ) → AllBytes t → AllBytes u → entriesOf t ≡ entriesOf u → t ≡ u
+
+-- the target of the word w, where there are n blocks at the base: the block whose address w is. It has none if it is no block's address
+unfoldable pub Points : ℕ → ℕ → ℕ → Option ℕ → Type 0
+Points base n w (some k) = (k < n) × (w ≡ addressOf base k)
+Points base n w none = (k : ℕ) → k < n → w ≢ addressOf base k
+
+-- block k is the head of an object, which is MARK while the object is marked
+abbrev pub Heads : List ℕ → ℕ → Type 0
+Heads es k = (entryAt es k ≡ HEAD) ⊎ (entryAt es k ≡ MARK)
+
+-- the object that the word w leads to: the one whose head has w as its address. It leads to none if it is no head's address
+unfoldable pub Leads : ℕ → List ℕ → ℕ → Option ℕ → Type 0
+Leads base es w (some k) = (k < length es) × (w ≡ addressOf base k) × Heads es k
+Leads base es w none = (k : ℕ) → k < length es → Heads es k → w ≢ addressOf base k
 
 -- the table is well-formed
 pub record Well (es : List ℕ) : Type 0 where
@@ -48,3 +73,31 @@ pub record Longest (es : List ℕ) (l : ℕ) : Type 0 where
   pub run : Run es l start
   -- and more nowhere
   pub most : (b s : ℕ) → Run es b s → b ≤ l
+
+-- the shape of a heap: the base, the number of blocks and the pool suit each other
+pub record Shape (base : ℕ) (h : Heap) : Type 0 where
+  pub some : 1 ≤ length (h .entries)
+  pub few : length (h .entries) ≤ 4096
+  pub pool : length (h .pool) ≡ 16 * length (h .entries)
+  pub aligned : base % 16 ≡ 0
+  pub above : 16 ≤ base
+  pub below : base + 16 * length (h .entries) ≤ 2 ^ 32
+
+-- the same in bytes: a table of t bytes has t from 1 to 1,024 and rules 4t blocks, which are 64t bytes
+pub record ShapeInBytes (base : ℕ) (pool table : List ℕ) : Type 0 where
+  pub some : 1 ≤ length table
+  pub few : length table ≤ 1024
+  pub size : length pool ≡ 64 * length table
+  pub aligned : base % 16 ≡ 0
+  pub above : 16 ≤ base
+  pub below : base + 64 * length table ≤ 2 ^ 32
+
+-- what every call but init knows of its heap once it is not refused
+pub record Passed (base : ℕ) (h : Heap) : Type 0 where
+  pub shape : Shape base h
+  pub well : wellFormed (h .entries) ≡ true
+
+-- what a call that names an object knows of it: block k is a HEAD of the table
+pub record Named (h : Heap) (k : ℕ) : Type 0 where
+  pub inside : k < length (h .entries)
+  pub head : entryAt (h .entries) k ≡ HEAD

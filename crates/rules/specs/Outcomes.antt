@@ -13,7 +13,7 @@ pub record Heap : Type 0 where
   pub pool : List ℕ
   pub entries : List ℕ
 
--- the heap in a pool and a table
+-- the heap in a pool and a table. The entries stand for the table's bytes: equal entries are equal tables (Meaning: TableIsEntries)
 abbrev pub heapOf : List ℕ → List ℕ → Heap
 heapOf pool table = record { pool = pool; entries = entriesOf table }
 

@@ -18,14 +18,14 @@ addressOf base k = base + 16 * k
 unfoldable pub goodBase : ℕ → ℕ → Bool
 goodBase base n = both (eqb (base % 16) 0) (both (leb 16 base) (leb (addressOf base n) (2 ^ 32)))
 
--- the block of n blocks whose address is w, if there is one: w is then a pointer, and the block its target
+-- the block of n blocks whose address is w, if there is one: w is then a pointer, and the block its target (Meaning: Points)
 unfoldable pub targetOf : ℕ → ℕ → ℕ → Option ℕ
 targetOf base n w =
     pick (both (leb base w) (both (eqb ((w - base) % 16) 0) (ltb ((w - base) / 16) n)))
     (some ((w - base) / 16))
     none
 
--- the head of an object, marked or not
+-- the head of an object, marked or not: what a word leads to does not change while objects are marked
 unfoldable pub headsObject : ℕ → Bool
 headsObject e = either (eqb e HEAD) (eqb e MARK)
 
@@ -33,6 +33,6 @@ unfoldable pub headAt : List ℕ → Option ℕ → Option ℕ
 headAt es none = none
 headAt es (some k) = pick (headsObject (entryAt es k)) (some k) none
 
--- the head of the object that the word w leads to, if it leads to one: w counts only if its target is a head
+-- the head of the object that the word w leads to, if it leads to one: w counts only if its target is a head (Meaning: Leads)
 unfoldable pub leadsTo : ℕ → List ℕ → ℕ → Option ℕ
 leadsTo base es w = headAt es (targetOf base (length es) w)

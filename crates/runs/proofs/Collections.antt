@@ -1,4 +1,4 @@
--- A collection made on two heaps that differ in dead bytes alone: the same table, the same answer, and pools that match again.
+-- A collection made on two heaps that differ in bytes of unreachable objects alone: the same table, the same answer, and pools that match again.
 -- Only the number of rescans looks at the room of the mark stack.
 -- Assumes nothing.
 use mathlib.Core.Path.{_≡_, refl, sym, _∙_}
@@ -17,6 +17,7 @@ use Rattle.rules.specs.Tables.{entryAt, wellFormed}
 use Rattle.rules.specs.Outcomes.{Heap, Outcome, heapOf, unlessRefused}
 use Rattle.rules.specs.Refusals.{firstOf, wholeWords, badLists, illFormed}
 use Rattle.rules.specs.Calls.{collecting, collect}
+use Rattle.rules.specs.Runs.{Collect}
 use Rattle.rules.proofs.Refusals.{first-none, both-left, not-false, shape-true}
 use Rattle.rules.proofs.Matching.{SameByte, Matching, match-sets}
 use Rattle.rules.proofs.Twice.{heap, unless-both, shape-same}
@@ -25,7 +26,7 @@ use Rattle.keeping.proofs.Owners.{table-proper}
 use Rattle.keeping.proofs.Kept.{collected-used}
 use Rattle.keeping.proofs.Alike.{agree-words, marking-alike, collected-alike, collected-bytes}
 use Rattle.keeping.proofs.Collections.{tests, acted, collect-from, collect-is, used-agree}
-use Rattle.runs.specs.DeadData.{SameStacks, equally-long, both-good, SameAnswer, equal, but-rescans}
+use Rattle.runs.specs.Noninterference.{SameStacks, equally-long, both-good, SameAnswer, equal, but-rescans}
 use Rattle.runs.proofs.Same.{Same}
 
 -- ---- the mark stacks pass the same tests
@@ -52,14 +53,14 @@ module _ (base : ℕ) (roots es p q stack stack′ : List ℕ) (well : wellForme
   abbrev left : List ℕ
   left = collected base h (wordsOf roots) (length stack / 4)
 
-  same-acted : Agree base (wordsOf roots) h h′ → Matching left p q → Same stack stack′ (acted base h roots stack) (acted base h′ roots stack′)
+  same-acted : Agree base (wordsOf roots) h h′ → Matching left p q → Same (Collect base roots) stack stack′ (acted base h roots stack) (acted base h′ roots stack′)
   unfolding collecting collected
   same-acted a match = record { answer = answer (ℕ-discrete (length stack) (length stack′)); table = table; match = match }
     where
       table : left ≡ collected base h′ (wordsOf roots) (length stack′ / 4)
       table = collected-alike base h h′ (wordsOf roots) well (agree-words a) (length stack / 4) (length stack′ / 4)
 
-      answer : Dec (length stack ≡ length stack′) → SameAnswer stack stack′ (acted base h roots stack .answer) (acted base h′ roots stack′ .answer)
+      answer : Dec (length stack ≡ length stack′) → SameAnswer stack stack′ (acted base h roots stack .answer) (acted base h′ roots stack′ .answer) (Collect base roots)
       answer (yes e) = equal (rw (e, marking-alike base h h′ (wordsOf roots) well (agree-words a) (length stack′ / 4)))
       answer (no e) = but-rescans refl e (rw table)
 
@@ -74,10 +75,10 @@ suits base h roots stack z =
     (shape-true base h (both-left _ _ (not-false _ (a .0))) .pool, not-false _ (b .0))
 
 pub same-collect : (base : ℕ) (roots es p q stack stack′ : List ℕ) → Matching es p q → SameStacks stack stack′
-    → Same stack stack′ (collect base (heap p es) roots stack) (collect base (heap q es) roots stack′)
+    → Same (Collect base roots) stack stack′ (collect base (heap p es) roots stack) (collect base (heap q es) roots stack′)
 same-collect base roots es p q stack stack′ match s =
     rw (collect-from base g roots stack, collect-from base g′ roots stack′, shape-same base es p q (match .long), stacks-whole s, stacks-short s)
-    (unless-both (Same stack stack′) _ (λ r. record { answer = equal refl; table = refl; match = match })
+    (unless-both (Same (Collect base roots) stack stack′) _ (λ r. record { answer = equal refl; table = refl; match = match })
     (λ z. let well = suits base g′ roots stack′ z .1 in
     same-acted base roots es p q stack stack′ well (used-agree base (wordsOf roots) g g′ well refl used)
     (match-sets _ 0 [] match (λ i u. inl (λ f. u (collected-used base g (wordsOf roots) (length stack / 4) well (i / 16) u ∙ f))))))
@@ -100,7 +101,7 @@ accepted (suc r) h stack x e = absurd (omega arith)
 
 pub same-first : (base : ℕ) (roots table p q stack stack′ : List ℕ) → Agree base (wordsOf roots) (heapOf p table) (heapOf q table)
     → collect base (heapOf p table) roots stack .answer .refusal ≡ 0 → collect base (heapOf q table) roots stack′ .answer .refusal ≡ 0
-    → Same stack stack′ (collect base (heapOf p table) roots stack) (collect base (heapOf q table) roots stack′)
+    → Same (Collect base roots) stack stack′ (collect base (heapOf p table) roots stack) (collect base (heapOf q table) roots stack′)
 same-first base roots table p q stack stack′ a x x′ =
     let h = heapOf p table in
     let h′ = heapOf q table in

@@ -1,4 +1,4 @@
 pub mod Same
 pub mod Collections
-pub mod NoVoice
+pub mod Noninterference
 pub mod Samples

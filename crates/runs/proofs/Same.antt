@@ -4,15 +4,16 @@ use mathlib.Core.Path.{_≡_}
 use mathlib.Core.List.{List}
 use Prim.Native.Nat.{ℕ}
 use Rattle.rules.specs.Outcomes.{Outcome}
+use Rattle.rules.specs.Runs.{Call}
 use Rattle.rules.proofs.Matching.{Matching}
 use Rattle.rules.proofs.Twice.{Twin}
-use Rattle.runs.specs.DeadData.{SameAnswer, equal}
+use Rattle.runs.specs.Noninterference.{SameAnswer, equal}
 
-pub record Same (stack stack′ : List ℕ) (x y : Outcome) : Type 0 where
-  pub answer : SameAnswer stack stack′ (x .answer) (y .answer)
+pub record Same (call : Call) (stack stack′ : List ℕ) (x y : Outcome) : Type 0 where
+  pub answer : SameAnswer stack stack′ (x .answer) (y .answer) call
   pub table : x .heap .entries ≡ y .heap .entries
   pub match : Matching (x .heap .entries) (x .heap .pool) (y .heap .pool)
 
 -- whatever the stacks, of a call that does not look at them
-pub same-twin : (stack stack′ : List ℕ) {x y : Outcome} → Twin x y → Same stack stack′ x y
-same-twin stack stack′ t = record { answer = equal (t .answer); table = t .table; match = t .match }
+pub same-twin : (call : Call) (stack stack′ : List ℕ) {x y : Outcome} → Twin x y → Same call stack stack′ x y
+same-twin call stack stack′ t = record { answer = equal (t .answer); table = t .table; match = t .match }

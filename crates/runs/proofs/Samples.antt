@@ -1,4 +1,4 @@
--- The hypotheses can be met by heaps that do differ, and live data has a voice: both by computation.
+-- The hypotheses can be met by heaps that do differ, and heaps that differ in a reachable byte are told apart: both by computation.
 -- Assumes nothing.
 use mathlib.Core.Path.{_≡_, refl, ap, _∙_}
 use mathlib.Core.Bool.{Bool, true, not}
@@ -17,15 +17,15 @@ use Rattle.rules.specs.Outcomes.{Heap, Answer, onlyRefusal, changeFrom, placedA
 use Rattle.rules.specs.Refusals.{firstOf, goodShape, wholeWords}
 use Rattle.rules.specs.Marking.{pushed, visitTo, visit, walkWords, walk, drainFor, drain, trace, rootTo, markRoot, markRoots, passBlock, passFrom, pass, rescanFor, rescan, markAll, sweptEntry, freeingAfter, sweepFrom, sweep}
 use Rattle.rules.specs.Calls.{blocksFor, taken, placing, allocate, collecting, collect, load}
-use Rattle.rules.specs.Runs.{Turn, step, answers}
+use Rattle.rules.specs.Runs.{Call, Turn, step, answers}
 use Rattle.rules.proofs.Below.{allBelow, below}
 use Rattle.rules.proofs.Marking.{head-inside}
 use Rattle.keeping.specs.Keeping.{marking, collected, Agree, GoodStack}
 use Rattle.keeping.proofs.Owners.{reachable-head}
 use Rattle.keeping.proofs.Kept.{collected-kept}
-use Rattle.runs.specs.DeadData.{equally-long, both-good, Alike, done, next, SameAnswer, equal, but-rescans, SameAnswers, Indistinct, IsAccepted}
-use Rattle.runs.specs.Samples.{sampleTable, sampleRoots, quietPool, loudPool, otherPool, quiet, loud, other, sampleCalls, tellingCalls}
-use Rattle.runs.proofs.NoVoice.{dead-data-has-no-voice}
+use Rattle.runs.specs.Noninterference.{equally-long, both-good, Alike, done, next, SameAnswer, equal, but-rescans, SameAnswers, Indistinct, IsAccepted}
+use Rattle.runs.specs.Samples.{sampleTable, sampleRoots, firstPool, secondPool, thirdPool, firstHeap, secondHeap, thirdHeap, sampleCalls, loadingCalls}
+use Rattle.runs.proofs.Noninterference.{noninterference}
 
 -- ---- agreement on the reachable objects, as a test over the objects that a collection keeps
 
@@ -52,17 +52,17 @@ agree-tested base h h′ roots well table t =
 
 pub record Computed : Type 0 where
   -- the table is well-formed
-  pub well : wellFormed (quiet .entries) ≡ true
-  -- quiet and loud agree on the kept objects, and differ in the first byte of the dead one
-  pub tested : T (agreeTest quiet loud (collected 4096 quiet (wordsOf sampleRoots) 0))
-  pub silent : getD quietPool 16 0 ≡ 0
-  pub spoken : getD loudPool 16 0 ≡ 16
+  pub well : wellFormed (firstHeap .entries) ≡ true
+  -- the first and the second agree on the kept objects, and differ in the first byte of the one that is not kept
+  pub tested : T (agreeTest firstHeap secondHeap (collected 4096 firstHeap (wordsOf sampleRoots) 0))
+  pub first-byte : getD firstPool 16 0 ≡ 0
+  pub second-byte : getD secondPool 16 0 ≡ 16
   -- they answer the same, but for the rescans
-  pub quiet-answers : answers (sampleCalls (replicate 256 7)) quiet ≡ collectedTo 2 0 (negℤ (pos 3)) ∷ loaded 4096 ∷ onlyRefusal 7 ∷ placedAt 1 (pos 3) ∷ loaded 0 ∷ []
-  pub loud-answers : answers (sampleCalls []) loud ≡ collectedTo 2 1 (negℤ (pos 3)) ∷ loaded 4096 ∷ onlyRefusal 7 ∷ placedAt 1 (pos 3) ∷ loaded 0 ∷ []
-  -- quiet and other answer a load differently
-  pub quiet-tells : answers tellingCalls quiet ≡ collectedTo 2 1 (negℤ (pos 3)) ∷ loaded 0 ∷ []
-  pub other-tells : answers tellingCalls other ≡ collectedTo 2 1 (negℤ (pos 3)) ∷ loaded 16777216 ∷ []
+  pub first-answers : answers (sampleCalls (replicate 256 7)) firstHeap ≡ collectedTo 2 0 (negℤ (pos 3)) ∷ loaded 4096 ∷ onlyRefusal 7 ∷ placedAt 1 (pos 3) ∷ loaded 0 ∷ []
+  pub second-answers : answers (sampleCalls []) secondHeap ≡ collectedTo 2 1 (negℤ (pos 3)) ∷ loaded 4096 ∷ onlyRefusal 7 ∷ placedAt 1 (pos 3) ∷ loaded 0 ∷ []
+  -- the first and the third answer a load differently
+  pub first-loads : answers loadingCalls firstHeap ≡ collectedTo 2 1 (negℤ (pos 3)) ∷ loaded 0 ∷ []
+  pub third-loads : answers loadingCalls thirdHeap ≡ collectedTo 2 1 (negℤ (pos 3)) ∷ loaded 16777216 ∷ []
 
 pub computed : Computed
 unfolding agreeIn agreeTest marking collected count leading tabulate number bytesOf wordAt withWord wordsOf entryOf entriesOf mayFollow wellAfter wellFormed blockCount freeFrom fits firstFrom firstRun placed used objects addressOf goodBase targetOf headsObject headAt leadsTo changeFrom unlessRefused clearedBlocks firstOf goodShape wholeWords pushed visitTo visit walkWords walk drainFor drain trace rootTo markRoot markRoots passBlock passFrom pass rescanFor rescan markAll sweptEntry freeingAfter sweepFrom sweep blocksFor taken placing allocate collecting collect load step answers
@@ -70,12 +70,12 @@ computed =
     record {
       well = refl;
       tested = tt;
-      silent = refl;
-      spoken = refl;
-      quiet-answers = refl;
-      loud-answers = refl;
-      quiet-tells = refl;
-      other-tells = refl;
+      first-byte = refl;
+      second-byte = refl;
+      first-answers = refl;
+      second-answers = refl;
+      first-loads = refl;
+      third-loads = refl;
     }
 
 -- a first answer that is accepted
@@ -87,7 +87,7 @@ accepted : (t : Turn) (ts : List Turn) (h : Heap) (a : Answer) (xs : List Answer
 unfolding answers firstRefusal
 accepted t ts h a xs e z = ap firstRefusal e ∙ z
 
--- ---- two heaps that differ in dead bytes
+-- ---- two heaps that differ in bytes of an unreachable object
 
 -- one mark stack has 64 entries, the other none
 full : GoodStack (replicate 256 7)
@@ -100,32 +100,32 @@ pub samples-alike : Alike (sampleCalls (replicate 256 7)) (sampleCalls [])
 samples-alike =
     next _ (both-good full empty) (next _ (equally-long refl) (next _ (equally-long refl) (next _ (equally-long refl) (next _ (equally-long refl) done))))
 
-pub samples-agree : Agree 4096 (wordsOf sampleRoots) quiet loud
-samples-agree = agree-tested 4096 quiet loud (wordsOf sampleRoots) (computed .well) refl (computed .tested)
+pub first-second-agree : Agree 4096 (wordsOf sampleRoots) firstHeap secondHeap
+first-second-agree = agree-tested 4096 firstHeap secondHeap (wordsOf sampleRoots) (computed .well) refl (computed .tested)
 
-pub samples-indistinct : Indistinct (sampleCalls (replicate 256 7)) (sampleCalls []) quiet loud
-samples-indistinct =
-    dead-data-has-no-voice 4096 sampleTable sampleRoots quietPool loudPool (replicate 256 7) [] _ _ samples-agree samples-alike
-    (accepted _ _ quiet _ _ (computed .quiet-answers) refl) (accepted _ _ loud _ _ (computed .loud-answers) refl)
+pub first-second-indistinct : Indistinct (sampleCalls (replicate 256 7)) (sampleCalls []) firstHeap secondHeap
+first-second-indistinct =
+    noninterference 4096 sampleTable sampleRoots firstPool secondPool (replicate 256 7) [] _ _ first-second-agree samples-alike
+    (accepted _ _ firstHeap _ _ (computed .first-answers) refl) (accepted _ _ secondHeap _ _ (computed .second-answers) refl)
 
--- ---- two heaps that differ in one live byte
+-- ---- two heaps that differ in one byte of a reachable object
 
-value-same : {stack stack′ : List ℕ} {a b : Answer} → SameAnswer stack stack′ a b → a .value ≡ b .value
+value-same : {call : Call} {stack stack′ : List ℕ} {a b : Answer} → SameAnswer stack stack′ a b call → a .value ≡ b .value
 value-same (equal e) = ap (λ (a : Answer). a .value) e
 value-same (but-rescans z l e) = ap (λ (a : Answer). a .value) e
 
-second-same : {t u : Turn} {a b c d : Answer} → SameAnswers (t ∷ u ∷ []) (t ∷ u ∷ []) (a ∷ b ∷ []) (c ∷ d ∷ []) → b .value ≡ d .value
+second-same : {t u t′ u′ : Turn} {a b c d : Answer} → SameAnswers (t ∷ u ∷ []) (t′ ∷ u′ ∷ []) (a ∷ b ∷ []) (c ∷ d ∷ []) → b .value ≡ d .value
 second-same (next _ (next x done)) = value-same x
 
 -- a load tells them apart
-pub live-data-has-a-voice : Indistinct tellingCalls tellingCalls quiet other → ⊥
-live-data-has-a-voice same =
-    let e = second-same (rw (computed .quiet-tells, computed .other-tells) at (same .same-answers)) in
+pub first-third-distinct : Indistinct loadingCalls loadingCalls firstHeap thirdHeap → ⊥
+first-third-distinct same =
+    let e = second-same (rw (computed .first-loads, computed .third-loads) at (same .same-answers)) in
     omega arith
 
 -- so they do not agree on what is reachable: that is the only hypothesis which they do not meet
-pub live-byte-differs : Agree 4096 (wordsOf sampleRoots) quiet other → ⊥
-live-byte-differs agree =
-    live-data-has-a-voice
-    (dead-data-has-no-voice 4096 sampleTable sampleRoots quietPool otherPool [] [] _ _ agree (next _ (equally-long refl) (next _ (equally-long refl) done))
-    (accepted _ _ quiet _ _ (computed .quiet-tells) refl) (accepted _ _ other _ _ (computed .other-tells) refl))
+pub first-third-disagree : Agree 4096 (wordsOf sampleRoots) firstHeap thirdHeap → ⊥
+first-third-disagree agree =
+    first-third-distinct
+    (noninterference 4096 sampleTable sampleRoots firstPool thirdPool [] [] _ _ agree (next _ (equally-long refl) (next _ (equally-long refl) done))
+    (accepted _ _ firstHeap _ _ (computed .first-loads) refl) (accepted _ _ thirdHeap _ _ (computed .third-loads) refl))

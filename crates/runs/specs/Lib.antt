@@ -1,2 +1,2 @@
-pub mod DeadData
+pub mod Noninterference
 pub mod Samples

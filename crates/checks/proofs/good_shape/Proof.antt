@@ -14,7 +14,7 @@ use Rattle.rules.specs.Pointers.{addressOf}
 use Rattle.rules.specs.Outcomes.{heapOf}
 use Rattle.rules.specs.Refusals.{goodShape}
 use Rattle.rules.proofs.Entries.{length-entriesOf}
-use Rattle.rules.proofs.Refusals.{Shape, shape-of, shape-not}
+use Rattle.rules.proofs.Refusals.{shape-of, shape-not}
 use Rattle.checks.proofs.good_shape.Statement.{statement}
 use Rattle.checks.proofs.good_shape.Tie as tie
 

@@ -9,7 +9,8 @@ use Rattle.rules.specs.Entries.{entriesOf}
 use Rattle.rules.specs.Tables.{firstRun}
 use Rattle.rules.proofs.Tables.{first-run}
 use Rattle.rules.specs.Outcomes.{heapOf}
-use Rattle.rules.proofs.Refusals.{Shape, few-bytes}
+use Rattle.rules.specs.Meaning.{Shape}
+use Rattle.rules.proofs.Refusals.{few-bytes}
 use Rattle.rules.proofs.Calls.{blocks-some, blocks-least, request-nowhere}
 use Rattle.memory.specs.Places.{found}
 use Rattle.heap.proofs.Ends.{signed, gained, allocate-refused, allocate-knows, allocate-full, allocate-done}

@@ -1,4 +1,4 @@
-//! Dead data has no voice: two heaps that differ in dead bytes alone answer alike for ever after a
+//! Noninterference: two heaps that differ in dead bytes alone answer alike for ever after a
 //! collection.
 
 use crate::{draw, second, Call, Guarded, Lent, Random, Sizes, Subject};

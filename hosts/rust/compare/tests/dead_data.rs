@@ -1,4 +1,4 @@
-//! Dead data has no voice: pairs of heaps, long lists of calls. BLOCKHEAP_PAIRS asks for more pairs.
+//! Noninterference: pairs of heaps, long lists of calls. BLOCKHEAP_PAIRS asks for more pairs.
 
 use compare::{library, run_pairs, Sizes};
 

@@ -1,4 +1,4 @@
--- Dead data has no voice. The first collection leaves pools that match in every allocated block, and every call keeps this.
+-- Noninterference: the first collection leaves pools that match in every allocated block, and every call keeps this.
 -- Assumes nothing.
 use mathlib.Core.Path.{_≡_, subst}
 use mathlib.Core.List.{List, _∷_}
@@ -8,32 +8,32 @@ use Rattle.rules.specs.Outcomes.{Heap, heapOf}
 use Rattle.rules.specs.Runs.{Call, Init, Allocate, Free, Reallocate, Collect, Survey, Load, Store, step, Turn, after, answers}
 use Rattle.rules.proofs.Matching.{Matching}
 use Rattle.rules.proofs.Twice.{heap, twin-init, twin-allocate, twin-free, twin-reallocate, twin-survey, twin-load, twin-store}
-use Rattle.runs.specs.DeadData.{SameStacks, turn, Alike, done, next, Indistinct, DeadDataHasNoVoice}
+use Rattle.runs.specs.Noninterference.{SameStacks, turn, Alike, done, next, Indistinct, Noninterference}
 use Rattle.runs.proofs.Same.{Same, same-twin}
 use Rattle.runs.proofs.Collections.{same-collect, same-first}
 
 -- one call on pools that match
 same-step : (call : Call) (es p q stack stack′ : List ℕ) → Matching es p q → SameStacks stack stack′
-    → Same stack stack′ (step call stack (heap p es)) (step call stack′ (heap q es))
+    → Same call stack stack′ (step call stack (heap p es)) (step call stack′ (heap q es))
 unfolding step
-same-step (Init base) es p q stack stack′ m s = same-twin stack stack′ (twin-init base es p q m)
-same-step (Allocate base bytes) es p q stack stack′ m s = same-twin stack stack′ (twin-allocate base es p q m bytes)
-same-step (Free base k) es p q stack stack′ m s = same-twin stack stack′ (twin-free base es p q m k)
-same-step (Reallocate base k bytes) es p q stack stack′ m s = same-twin stack stack′ (twin-reallocate base es p q m k bytes)
+same-step (Init base) es p q stack stack′ m s = same-twin (Init base) stack stack′ (twin-init base es p q m)
+same-step (Allocate base bytes) es p q stack stack′ m s = same-twin (Allocate base bytes) stack stack′ (twin-allocate base es p q m bytes)
+same-step (Free base k) es p q stack stack′ m s = same-twin (Free base k) stack stack′ (twin-free base es p q m k)
+same-step (Reallocate base k bytes) es p q stack stack′ m s = same-twin (Reallocate base k bytes) stack stack′ (twin-reallocate base es p q m k bytes)
 same-step (Collect base roots) es p q stack stack′ m s = same-collect base roots es p q stack stack′ m s
-same-step (Survey base) es p q stack stack′ m s = same-twin stack stack′ (twin-survey base es p q m)
-same-step (Load base k i) es p q stack stack′ m s = same-twin stack stack′ (twin-load base es p q m k i)
-same-step (Store base k i w) es p q stack stack′ m s = same-twin stack stack′ (twin-store base es p q m k i w)
+same-step (Survey base) es p q stack stack′ m s = same-twin (Survey base) stack stack′ (twin-survey base es p q m)
+same-step (Load base k i) es p q stack stack′ m s = same-twin (Load base k i) stack stack′ (twin-load base es p q m k i)
+same-step (Store base k i w) es p q stack stack′ m s = same-twin (Store base k i w) stack stack′ (twin-store base es p q m k i w)
 
 -- the same, where the tables are equal
 same-call : (call : Call) (h h′ : Heap) (stack stack′ : List ℕ) → h .entries ≡ h′ .entries → Matching (h .entries) (h .pool) (h′ .pool) → SameStacks stack stack′
-    → Same stack stack′ (step call stack h) (step call stack′ h′)
+    → Same call stack stack′ (step call stack h) (step call stack′ h′)
 same-call call h h′ stack stack′ t m s =
-    subst (λ (es : List ℕ). Same stack stack′ (step call stack h) (step call stack′ (heap (h′ .pool) es))) t
+    subst (λ (es : List ℕ). Same call stack stack′ (step call stack h) (step call stack′ (heap (h′ .pool) es))) t
     (same-step call (h .entries) (h .pool) (h′ .pool) stack stack′ m s)
 
 -- a call that is the same, and then calls that are
-same-next : (call : Call) (h h′ : Heap) (stack stack′ : List ℕ) (ts us : List Turn) → Same stack stack′ (step call stack h) (step call stack′ h′)
+same-next : (call : Call) (h h′ : Heap) (stack stack′ : List ℕ) (ts us : List Turn) → Same call stack stack′ (step call stack h) (step call stack′ h′)
     → Indistinct ts us (step call stack h .heap) (step call stack′ h′ .heap) → Indistinct (turn call stack ∷ ts) (turn call stack′ ∷ us) h h′
 unfolding after answers
 same-next call h h′ stack stack′ ts us x rest =
@@ -52,9 +52,9 @@ same-calls (next call {stack = stack} {stack′ = stack′} s r) h h′ t m =
     let x = same-call call h h′ stack stack′ t m s in
     same-next call h h′ stack stack′ _ _ x (same-calls r (step call stack h .heap) (step call stack′ h′ .heap) (x .table) (x .match))
 
-pub dead-data-has-no-voice : DeadDataHasNoVoice
+pub noninterference : Noninterference
 unfolding step
-dead-data-has-no-voice base table roots pool pool′ stack stack′ ts us agree (next call s r) x x′ =
+noninterference base table roots pool pool′ stack stack′ ts us agree (next call s r) x x′ =
     let h = heapOf pool table in
     let h′ = heapOf pool′ table in
     let c = Collect base roots in

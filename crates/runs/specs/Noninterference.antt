@@ -1,4 +1,4 @@
--- Dead data has no voice, as one statement about whole lists of calls.
+-- Noninterference: what is not reachable has no influence, as one statement about whole lists of calls.
 -- Two heaps have the same table, and pools that agree on the objects reachable from a root list. Both are collected from that list.
 -- From then on no list of calls, made alike on both, tells them apart: not by an answer, not by the table, not by a byte of an allocated block.
 -- Assumes nothing.
@@ -34,23 +34,24 @@ pub data Alike : List Turn → List Turn → Type 0 where
 -- ---- what is then the same
 
 -- the two answers to a call with these mark stacks
-pub data SameAnswer (stack stack′ : List ℕ) (a b : Answer) : Type 0 where
+pub data SameAnswer (stack stack′ : List ℕ) (a b : Answer) : Call → Type 0 where
   -- every part is the same
-  equal : a ≡ b → SameAnswer stack stack′ a b
-  -- or the call is accepted, the stacks are not equally long, and every part but the number of rescans is the same
-  but-rescans : a .refusal ≡ 0 → length stack ≢ length stack′ → butRescans a ≡ butRescans b → SameAnswer stack stack′ a b
+  equal : {call : Call} → a ≡ b → SameAnswer stack stack′ a b call
+  -- or the call is a collection, it is accepted, the stacks are not equally long, and every part but the number of rescans is the same
+  but-rescans : {base : ℕ} {roots : List ℕ} → a .refusal ≡ 0 → length stack ≢ length stack′ → butRescans a ≡ butRescans b
+      → SameAnswer stack stack′ a b (Collect base roots)
 
 -- the answers to two lists of calls: as many as calls, and call by call the same
 pub data SameAnswers : List Turn → List Turn → List Answer → List Answer → Type 0 where
   done : SameAnswers [] [] [] []
-  next : {t u : Turn} {ts us : List Turn} {a b : Answer} {xs ys : List Answer} → SameAnswer (t .stack) (u .stack) a b → SameAnswers ts us xs ys
-      → SameAnswers (t ∷ ts) (u ∷ us) (a ∷ xs) (b ∷ ys)
+  next : {call : Call} {stack stack′ : List ℕ} {ts us : List Turn} {a b : Answer} {xs ys : List Answer} → SameAnswer stack stack′ a b call
+      → SameAnswers ts us xs ys → SameAnswers (turn call stack ∷ ts) (turn call stack′ ∷ us) (a ∷ xs) (b ∷ ys)
 
 -- the calls ts on the heap h and the calls us on the heap h′, each call on what the one before left, do not tell the heaps apart
 pub record Indistinct (ts us : List Turn) (h h′ : Heap) : Type 0 where
   -- all answers are the same
   pub same-answers : SameAnswers ts us (answers ts h) (answers us h′)
-  -- after the list, so are the tables
+  -- after the list, so are the tables: equal entries are equal bytes (TableIsEntries of rules)
   pub same-table : after ts h .entries ≡ after us h′ .entries
   -- and every byte of an allocated block
   pub same-bytes : (k : ℕ) → entryAt (after ts h .entries) k ≢ FREE → (j : ℕ) → j < 16 → getD (after ts h .pool) (16 * k + j) 0 ≡ getD (after us h′ .pool) (16 * k + j) 0
@@ -61,8 +62,8 @@ pub record Indistinct (ts us : List Turn) (h h′ : Heap) : Type 0 where
 abbrev pub IsAccepted : Turn → Heap → Type 0
 IsAccepted t h = step (t .call) (t .stack) h .answer .refusal ≡ 0
 
-abbrev pub DeadDataHasNoVoice : Type 0
-DeadDataHasNoVoice =
+abbrev pub Noninterference : Type 0
+Noninterference =
     -- one base, one table and one root list, in bytes, for both heaps; for each heap a pool, a mark stack for the collection, and the calls that follow it
     (base : ℕ) (table roots pool pool′ stack stack′ : List ℕ) (ts us : List Turn) →
     let h : Heap = heapOf pool table in
