@@ -11,3 +11,4 @@ pub mod Calls
 pub mod Runs
 pub mod Meaning
 pub mod Examples
+pub mod Orders
