@@ -1,28 +1,28 @@
--- The theorems of keeping, said of the call: what an accepted collection answers and leaves, and two collections of heaps that differ in dead bytes alone.
+-- The theorems of keeping, said of the call: what an accepted collection answers and leaves, whatever the mark stack.
 -- Assumes nothing.
-use mathlib.Core.Path.{_≡_, refl, ap, sym, _∙_}
+use mathlib.Core.Path.{_≡_, refl, ap, _∙_}
 use mathlib.Core.Logic.{_≢_}
 use mathlib.Core.Bool.{true}
 use mathlib.Core.List.{List, [], _∷_}
-use Prim.Native.Nat.{ℕ, zero, suc, _+_, _*_, _/_, _%_, _≤_, _<_}
+use Prim.Native.Nat.{ℕ, _+_, _*_, _/_, _%_, _≤_, _<_}
 use native.Mathlib.Omega.{arith}
-use lib.Dec.{eqb, ltb}
 use lib.ListN.{length, getD}
-use borrow.Author.Tests.{eq-eqb, le-ltb}
 use Rattle.rules.specs.Words.{wordsOf}
 use Rattle.rules.specs.Entries.{FREE}
 use Rattle.rules.specs.Tables.{entryAt, wellFormed, blockCount, used}
-use Rattle.rules.specs.Outcomes.{Heap, Outcome, unlessRefused}
-use Rattle.rules.specs.Refusals.{Test, firstOf, goodShape, wholeWords, badLists, illFormed, manyRoots, longStack}
+use Rattle.rules.specs.Outcomes.{Heap, Outcome, heapOf, unlessRefused}
+use Rattle.rules.specs.Refusals.{Test, firstOf, badLists, illFormed, manyRoots, longStack}
 use Rattle.rules.specs.Calls.{collecting, collect}
-use Rattle.rules.proofs.Refusals.{first-none, not-false, accepts}
+use Rattle.rules.specs.Meaning.{Accepted}
+use Rattle.rules.proofs.Entries.{entriesOf-lt}
+use Rattle.rules.proofs.Refusals.{first-none, not-false, accepts, accepted-none}
 use Rattle.rules.proofs.Tables.{extent-of, extent-used}
 use Rattle.rules.proofs.Marking.{head-inside}
-use Rattle.keeping.specs.Keeping.{marking, collected, Collected, Agree, butRescans, GoodStack}
+use Rattle.keeping.specs.Keeping.{marking, collected, Collected, KeepsExactly, AnyStack, Agree}
 use Rattle.keeping.proofs.Owners.{reachable-head}
 use Rattle.keeping.proofs.Kept.{keeps}
 use Rattle.keeping.proofs.Counts.{few-rescans, used-less}
-use Rattle.keeping.proofs.Alike.{agree-words, marking-alike, collected-alike, collected-bytes}
+use Rattle.keeping.proofs.Same.{any-room}
 
 -- the tests of a collection
 abbrev pub tests : ℕ → Heap → List ℕ → List ℕ → List Test
@@ -44,23 +44,9 @@ tests-well base h roots stack e =
 
 -- ---- one collection
 
--- whatever it answers, the pool is not written
-pub collect-pool : (base : ℕ) (h : Heap) (roots stack : List ℕ) → collect base h roots stack .heap .pool ≡ h .pool
-unfolding collecting unlessRefused
-collect-pool base h roots stack = rw (collect-from base h roots stack) (go (firstOf (tests base h roots stack)))
-  where
-    go : (n : ℕ) → unlessRefused n h stack (acted base h roots stack) .heap .pool ≡ h .pool
-    go zero = refl
-    go (suc n) = refl
-
-module _ (base : ℕ) (h : Heap) (roots stack : List ℕ) (accepted : collect base h roots stack .answer .refusal ≡ 0) where
+module _ (base : ℕ) (h : Heap) (roots stack : List ℕ) (accepted : Accepted (collect base h roots stack)) where
   no-refusal : firstOf (tests base h roots stack) ≡ 0
-  unfolding unlessRefused
-  no-refusal = go (firstOf (tests base h roots stack)) (rw (collect-from base h roots stack) at accepted)
-    where
-      go : (n : ℕ) → unlessRefused n h stack (acted base h roots stack) .answer .refusal ≡ 0 → n ≡ 0
-      go zero e = refl
-      go (suc n) e = absurd (omega arith)
+  no-refusal = accepted-none (firstOf (tests base h roots stack)) h stack (acted base h roots stack) (rw (collect-from base h roots stack) at accepted)
 
   pub collect-is : collect base h roots stack ≡ acted base h roots stack
   collect-is = collect-from base h roots stack ∙ accepts h stack (acted base h roots stack) no-refusal
@@ -93,66 +79,19 @@ module _ (base : ℕ) (h : Heap) (roots stack : List ℕ) (accepted : collect ba
   pub collect-less : used (collect base h roots stack .heap .entries) ≤ used (h .entries)
   collect-less = rw collect-entries (used-less base h (wordsOf roots) (length stack / 4) collect-well)
 
--- ---- two collections
+-- ---- the statements
 
--- what the tests look at
-tests-same : (base : ℕ) (h g : Heap) (roots s t : List ℕ) → h .entries ≡ g .entries → length (h .pool) ≡ length (g .pool)
-    → wholeWords s ≡ wholeWords t → ltb 64 (length s / 4) ≡ ltb 64 (length t / 4) → tests base h roots s ≡ tests base g roots t
-unfolding goodShape
-tests-same base h g roots s t table long whole short = rw (table, long, whole, short)
+pub keeps-exactly : KeepsExactly
+keeps-exactly base pool table roots stack accepted = collect-keeps base (heapOf pool table) roots stack accepted (entriesOf-lt table)
 
-module _ (base : ℕ) (h g : Heap) (roots s t : List ℕ) (agree : Agree base (wordsOf roots) h g) (long : length (h .pool) ≡ length (g .pool)) where
-  abbrev ws : List ℕ
-  ws = wordsOf roots
+pub any-stack : AnyStack
+unfolding collecting collected
+any-stack base pool table roots stack stack′ accepted accepted′ =
+    let h = heapOf pool table in
+    let same = any-room base h (wordsOf roots) (length stack / 4) (length stack′ / 4) (collect-well base h roots stack accepted) in
+    rw (collect-is base h roots stack accepted, collect-is base h roots stack′ accepted′) (rw same, rw same)
 
-  -- Stacks that are equally long: the same answer and the same table.
-  pub collect-alike : length s ≡ length t
-      → (collect base h roots s .answer ≡ collect base g roots t .answer) × (collect base h roots s .heap .entries ≡ collect base g roots t .heap .entries)
-  unfolding collecting unlessRefused wholeWords
-  collect-alike same =
-      let e = ap firstOf (tests-same base h g roots s t (agree .table) long (ap (λ (n : ℕ). eqb (n % 4) 0) same) (ap (λ (n : ℕ). ltb 64 (n / 4)) same)) in
-      rw (collect-from base h roots s, collect-from base g roots t) (go (firstOf (tests base h roots s)) (firstOf (tests base g roots t)) refl e)
-    where
-      go : (n m : ℕ) → firstOf (tests base h roots s) ≡ n → n ≡ m
-          → (unlessRefused n h s (acted base h roots s) .answer ≡ unlessRefused m g t (acted base g roots t) .answer)
-          × (unlessRefused n h s (acted base h roots s) .heap .entries ≡ unlessRefused m g t (acted base g roots t) .heap .entries)
-      go zero zero p e =
-          let r = marking-alike base h g ws (tests-well base h roots s p) (agree-words agree) (length s / 4) in
-          (rw (r, agree .table, same), rw (r, same))
-      go zero (suc m) p e = absurd (omega arith)
-      go (suc n) zero p e = absurd (omega arith)
-      go (suc n) (suc m) p e = (rw e, agree .table)
-
-  -- Stacks of 0 to 64 whole entries each: the same but for the number of rescans.
-  pub collect-alike-but : GoodStack s → GoodStack t
-      → (butRescans (collect base h roots s .answer) ≡ butRescans (collect base g roots t .answer))
-      × (collect base h roots s .heap .entries ≡ collect base g roots t .heap .entries)
-  unfolding collecting collected unlessRefused wholeWords
-  collect-alike-but p q =
-      let e =
-      ap firstOf
-      (tests-same base h g roots s t (agree .table) long (eq-eqb _ _ (p .whole) ∙ sym (eq-eqb _ _ (q .whole)))
-      (le-ltb 64 (length s / 4) (p .short) ∙ sym (le-ltb 64 (length t / 4) (q .short)))) in
-      rw (collect-from base h roots s, collect-from base g roots t) (go (firstOf (tests base h roots s)) (firstOf (tests base g roots t)) refl e)
-    where
-      go : (n m : ℕ) → firstOf (tests base h roots s) ≡ n → n ≡ m
-          → (butRescans (unlessRefused n h s (acted base h roots s) .answer) ≡ butRescans (unlessRefused m g t (acted base g roots t) .answer))
-          × (unlessRefused n h s (acted base h roots s) .heap .entries ≡ unlessRefused m g t (acted base g roots t) .heap .entries)
-      go zero zero p e =
-          let r = collected-alike base h g ws (tests-well base h roots s p) (agree-words agree) (length s / 4) (length t / 4) in
-          (rw (r, agree .table), r)
-      go zero (suc m) p e = absurd (omega arith)
-      go (suc n) zero p e = absurd (omega arith)
-      go (suc n) (suc m) p e = (rw e, agree .table)
-
-  -- After an accepted collection every used block has the same bytes.
-  pub collect-bytes : ((k : ℕ) → entryAt (h .entries) k < 4) → collect base h roots s .answer .refusal ≡ 0
-      → (k : ℕ) → entryAt (collect base h roots s .heap .entries) k ≢ FREE → (i : ℕ) → i < 16
-      → getD (collect base h roots s .heap .pool) (16 * k + i) 0 ≡ getD (collect base g roots t .heap .pool) (16 * k + i) 0
-  collect-bytes small accepted k n i l =
-      rw (collect-pool base h roots s, collect-pool base g roots t)
-      (collected-bytes base h g ws (length s / 4) (record { well = collect-well base h roots s accepted; small = small }) agree k
-      (rw (collect-entries base h roots s accepted) at n) i l)
+-- ---- two heaps
 
 -- heaps with the same table and the same bytes in every used block agree, whatever the roots
 pub used-agree : (base : ℕ) (roots : List ℕ) (h g : Heap) → wellFormed (h .entries) ≡ true → h .entries ≡ g .entries

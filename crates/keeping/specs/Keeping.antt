@@ -9,9 +9,11 @@ use lib.ListN.{length, getD, replicate}
 use Rattle.rules.specs.Words.{wordAt, wordsOf}
 use Rattle.rules.specs.Entries.{FREE, HEAD}
 use Rattle.rules.specs.Tables.{entryAt, wellFormed, blockCount, objects}
-use Rattle.rules.specs.Outcomes.{Heap, Answer, Outcome, changeFrom}
+use Rattle.rules.specs.Outcomes.{Heap, Answer, Outcome, heapOf, changeFrom}
 use Rattle.rules.specs.Reach.{Reachable}
 use Rattle.rules.specs.Marking.{Scene, Marked, markAll, sweep}
+use Rattle.rules.specs.Calls.{collect}
+use Rattle.rules.specs.Meaning.{Accepted}
 
 -- what the marking of a heap reads, with a mark stack that has room for so many entries
 abbrev pub sceneOf : ℕ → Heap → ℕ → Scene
@@ -83,6 +85,25 @@ pub record Collected (base : ℕ) (h : Heap) (roots lent : List ℕ) (o : Outcom
   -- every mark stack entry is zero
   pub stack : o .stack ≡ replicate (length lent) 0
 
+-- an answer but for the number of rescans
+abbrev pub butRescans : Answer → Answer
+butRescans a =
+    record { refusal = a .refusal; block = a .block; change = a .change; kept = a .kept; rescans = 0; used = a .used; objects = a .objects; longest = a .longest; value = a .value }
+
+-- Exact keeping: every accepted collection of a pool and a table, from any roots and with any mark stack, answers and leaves that.
+abbrev pub KeepsExactly : Type 0
+KeepsExactly =
+    (base : ℕ) (pool table roots stack : List ℕ) → Accepted (collect base (heapOf pool table) roots stack)
+    → Collected base (heapOf pool table) roots stack (collect base (heapOf pool table) roots stack)
+
+-- The mark stack has no influence on what is kept: two collections, each with its own, leave the same heap, and answer the same but for the number of rescans.
+abbrev pub AnyStack : Type 0
+AnyStack =
+    (base : ℕ) (pool table roots stack stack′ : List ℕ) →
+    let o : Outcome = collect base (heapOf pool table) roots stack in
+    let o′ : Outcome = collect base (heapOf pool table) roots stack′ in
+    Accepted o → Accepted o′ → (o .heap ≡ o′ .heap) × (butRescans (o .answer) ≡ butRescans (o′ .answer))
+
 -- Two heaps that differ in dead bytes alone: the same table, and the same bytes in each object that is reachable in the first.
 pub record Agree (base : ℕ) (roots : List ℕ) (h g : Heap) : Type 0 where
   pub table : h .entries ≡ g .entries
@@ -92,11 +113,6 @@ pub record Agree (base : ℕ) (roots : List ℕ) (h g : Heap) : Type 0 where
 pub record AgreeInWords (base : ℕ) (roots : List ℕ) (h g : Heap) : Type 0 where
   pub table : h .entries ≡ g .entries
   pub words : (o : ℕ) → Reachable base h roots o → (i : ℕ) → i < 4 * blockCount (h .entries) o → wordAt (h .pool) (4 * o + i) ≡ wordAt (g .pool) (4 * o + i)
-
--- an answer but for the number of rescans
-abbrev pub butRescans : Answer → Answer
-butRescans a =
-    record { refusal = a .refusal; block = a .block; change = a .change; kept = a .kept; rescans = 0; used = a .used; objects = a .objects; longest = a .longest; value = a .value }
 
 -- a mark stack of 0 to 64 whole entries
 pub record GoodStack (stack : List ℕ) : Type 0 where

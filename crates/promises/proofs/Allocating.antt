@@ -11,7 +11,7 @@ use lib.ListN.{length}
 use borrow.Author.Tests.{eqb-false}
 use Rattle.rules.specs.Tests.{isNone, orElse}
 use Rattle.rules.specs.Tables.{blockCount, firstRun}
-use Rattle.rules.specs.Meaning.{Run, Lowest, Extent, Passed}
+use Rattle.rules.specs.Meaning.{Run, Lowest, Extent, Passed, Accepted}
 use Rattle.rules.specs.Outcomes.{Heap}
 use Rattle.rules.specs.Refusals.{badShape, illFormed, noBytes, noRoom}
 use Rattle.rules.specs.Calls.{taken, placing, blocksFor, allocate}
@@ -20,7 +20,7 @@ use Rattle.rules.proofs.Tables.{entry-inside, extent-of, run-apart, first-lowes
 use Rattle.rules.proofs.Changes.{placed-length, placed-head, placed-tail, placed-out, placed-well, placed-count, placed-apart, placed-other}
 use Rattle.rules.proofs.Pools.{cleared-length, cleared-in, cleared-out}
 use Rattle.rules.proofs.Calls.{blocks-some, allocate-change}
-use Rattle.promises.specs.Promises.{Object, Same, Accepted, Allocated}
+use Rattle.promises.specs.Promises.{Object, Same, Allocated}
 use Rattle.promises.proofs.Checked.{startOf, allocate-checked, number, no-refusal, acts}
 use Rattle.promises.proofs.Counting.{counts-of, shape-kept}
 

@@ -6,12 +6,11 @@ use Prim.Native.Nat.{ℕ}
 use native.Mathlib.Omega.{arith}
 use lib.ListN.{length, replicate}
 use Rattle.rules.specs.Entries.{FREE, entriesOf}
-use Rattle.rules.specs.Meaning.{AllBytes}
+use Rattle.rules.specs.Meaning.{AllBytes, Accepted}
 use Rattle.rules.specs.Outcomes.{Heap, Outcome, heapOf}
 use Rattle.rules.specs.Calls.{init}
 use Rattle.rules.specs.Runs.{Call, step}
 use Rattle.rules.proofs.Entries.{length-entriesOf, entriesOf-replicate, entriesOf-injective}
-use Rattle.promises.specs.Promises.{Accepted}
 use Rattle.promises.proofs.Checked.{init-checked, acts}
 use Rattle.promises.proofs.Numbers.{refused}
 use Rattle.promises.proofs.Initialising.{all-free}

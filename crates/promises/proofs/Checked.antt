@@ -14,8 +14,9 @@ use Rattle.rules.specs.Outcomes.{Heap, Outcome, onlyRefusal, surveyed, loaded, 
 use Rattle.rules.specs.Refusals.{Test, firstOf, badShape, badLists, illFormed, manyRoots, longStack, noBytes, outside, noHead, noWord, noRoom}
 use Rattle.rules.specs.Marking.{markAll}
 use Rattle.rules.specs.Calls.{Way, stay, shrink, grow, move, noWay, isNoWay, wayTo, along, placing, taken, freed, blocksFor, init, allocate, free, reallocate, collecting, collect, survey, load, store}
-use Rattle.rules.proofs.Refusals.{true-not-false, first-none, first-rest}
-use Rattle.promises.specs.Promises.{Accepted, Refused}
+use Rattle.rules.specs.Meaning.{Accepted}
+use Rattle.rules.proofs.Refusals.{true-not-false, first-none, first-rest, accepts}
+use Rattle.promises.specs.Promises.{Refused}
 
 -- the outcome r is refused by the first of the tests that holds, and else is what the act leaves
 pub record Checked (h : Heap) (stack : List ℕ) (ts : List Test) (act r : Outcome) : Type 0 where
@@ -33,11 +34,6 @@ unfolding unlessRefused
 refused-by zero h stack act fine no-number = absurd (no-number (fine refl))
 refused-by (suc n) h stack act fine no-number = (record { answer = refl; heap = refl }, refl)
 
-accepted-by : (n : ℕ) (h : Heap) (stack : List ℕ) (act : Outcome) → Accepted (unlessRefused n h stack act) → unlessRefused n h stack act ≡ act
-unfolding unlessRefused
-accepted-by zero h stack act e = refl
-accepted-by (suc n) h stack act e = absurd (omega arith)
-
 module _ {h : Heap} {stack : List ℕ} {ts : List Test} {act r : Outcome} (c : Checked h stack ts act r) where
   -- its number is that of the tests
   pub number : r .answer .refusal ≡ firstOf ts
@@ -52,7 +48,7 @@ module _ {h : Heap} {stack : List ℕ} {ts : List Test} {act r : Outcome} (c : C
 
   -- else the call acts
   pub acts : Accepted r → r ≡ act
-  acts = rw (c .is) (accepted-by (firstOf ts) h stack act)
+  acts e = c .is ∙ accepts h stack act (no-refusal e)
 
 -- ---- the tests and the act of each call
 

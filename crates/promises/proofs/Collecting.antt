@@ -2,24 +2,26 @@
 -- Assumes nothing.
 use mathlib.Core.Path.{ap, _∙_}
 use mathlib.Core.List.{List}
-use Prim.Native.Nat.{ℕ, _+_, _*_, _<_}
+use Prim.Native.Nat.{ℕ, _+_, _*_}
 use native.Mathlib.Omega.{arith}
 use lib.ListN.{length, getD}
-use Rattle.rules.specs.Tables.{entryAt}
-use Rattle.rules.specs.Outcomes.{Heap, Outcome}
+use Rattle.rules.specs.Outcomes.{Heap, Outcome, heapOf}
 use Rattle.rules.specs.Refusals.{badLists}
 use Rattle.rules.specs.Calls.{collect}
-use Rattle.rules.specs.Meaning.{Shape}
+use Rattle.rules.specs.Meaning.{Shape, Accepted}
 use Rattle.rules.proofs.Refusals.{not-false, first-none}
 use Rattle.rules.proofs.Calls.{collect-change}
 use Rattle.keeping.specs.Keeping.{Collected}
-use Rattle.keeping.proofs.Collections.{collect-keeps, collect-less}
-use Rattle.promises.specs.Promises.{Accepted, Reclaimed}
+use Rattle.keeping.proofs.Collections.{keeps-exactly, collect-less}
+use Rattle.promises.specs.Promises.{Reclaimed}
 use Rattle.promises.proofs.Checked.{collect-checked, no-refusal}
 use Rattle.promises.proofs.Numbers.{lists-say}
 use Rattle.promises.proofs.Counting.{counts-of, shape-kept}
 
-module _ (base : ℕ) (h : Heap) (roots stack : List ℕ) (small : (k : ℕ) → entryAt (h .entries) k < 4) (accepted : Accepted (collect base h roots stack)) where
+module _ (base : ℕ) (pool table roots stack : List ℕ) (accepted : Accepted (collect base (heapOf pool table) roots stack)) where
+  abbrev h : Heap
+  h = heapOf pool table
+
   abbrev r : Outcome
   r = collect base h roots stack
 
@@ -30,7 +32,7 @@ module _ (base : ℕ) (h : Heap) (roots stack : List ℕ) (small : (k : ℕ) →
 
   pub reclaimed : Reclaimed base h roots r
   reclaimed =
-      let k : Collected base h roots stack r = collect-keeps base h roots stack accepted small in
+      let k : Collected base h roots stack r = keeps-exactly base pool table roots stack accepted in
       record {
         bytes = k .pool;
         others = λ o reach. record {

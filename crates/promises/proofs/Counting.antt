@@ -9,8 +9,8 @@ use lib.ListN.{length}
 use borrow.Author.Tests.{lt-ltb, le-ltb}
 use Rattle.rules.specs.Tables.{used}
 use Rattle.rules.specs.Outcomes.{Heap, Outcome, changeFrom}
-use Rattle.rules.proofs.Tables.{used-le}
 use Rattle.rules.specs.Meaning.{Shape}
+use Rattle.rules.proofs.Tables.{used-le}
 use Rattle.promises.specs.Promises.{Counts}
 
 -- a difference added to what it was taken from

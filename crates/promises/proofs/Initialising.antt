@@ -11,11 +11,11 @@ use Rattle.rules.specs.Tables.{entryAt, isFree, used}
 use Rattle.rules.specs.Outcomes.{Heap}
 use Rattle.rules.specs.Refusals.{goodShape, badShape}
 use Rattle.rules.specs.Calls.{init}
+use Rattle.rules.specs.Meaning.{Passed, Shape, Accepted}
 use Rattle.rules.proofs.Lists.{count-none}
 use Rattle.rules.proofs.Tables.{well-of}
-use Rattle.rules.specs.Meaning.{Passed, Shape}
 use Rattle.rules.proofs.Refusals.{not-false, first-none, shape-true}
-use Rattle.promises.specs.Promises.{Accepted, Initialised}
+use Rattle.promises.specs.Promises.{Initialised}
 use Rattle.promises.proofs.Checked.{init-checked, no-refusal, acts}
 use Rattle.promises.proofs.Counting.{shape-kept}
 

@@ -12,7 +12,7 @@ use borrow.Author.Tests.{eqb-true, eqb-false, leb-true, leb-false, ltb-true, ltb
 use Rattle.rules.specs.Tests.{pick, both, isNone}
 use Rattle.rules.specs.Entries.{HEAD}
 use Rattle.rules.specs.Tables.{entryAt, isHead, wellFormed, blockCount, firstRun}
-use Rattle.rules.specs.Meaning.{Well, Lowest, Shape, Passed}
+use Rattle.rules.specs.Meaning.{Well, Lowest, Shape, Passed, Accepted}
 use Rattle.rules.specs.Outcomes.{Heap}
 use Rattle.rules.specs.Refusals.{Test, firstOf, goodShape, wholeWords, badShape, badLists, illFormed, manyRoots, longStack, noBytes, outside, noHead, noWord, noRoom}
 use Rattle.rules.specs.Calls.{Way, stay, shrink, grow, move, noWay, isNoWay, wayTo, blocksFor, init, allocate, free, reallocate, collect, survey, load, store}
@@ -21,7 +21,7 @@ use Rattle.rules.proofs.Refusals.{true-not-false, both-left, both-right, not-tr
 use Rattle.rules.proofs.Tables.{entry-inside, extent-of, well-says, well-of, first-lowest, none-first}
 use Rattle.rules.proofs.Calls.{Ways, stays, shrinks, grows, moves, stuck, way-says, way-is, blocks-some, blocks-enough, blocks-least, blocks-more}
 use Rattle.promises.specs.Conditions.{Condition, when, First, NoRun, NoWay, ofInit, ofAllocate, ofFree, ofReallocate, ofCollect, ofSurvey, ofWord}
-use Rattle.promises.specs.Promises.{Object, Accepted, Refused}
+use Rattle.promises.specs.Promises.{Object, Refused}
 use Rattle.promises.proofs.Checked.{number, refuses, wayOf, testsOfWord, init-checked, allocate-checked, free-checked, reallocate-checked, collect-checked, survey-checked, load-checked, store-checked}
 
 -- ---- the first test that holds

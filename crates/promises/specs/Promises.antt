@@ -11,7 +11,7 @@ use Rattle.rules.specs.Words.{number, bytesOf, wordsOf}
 use Rattle.rules.specs.Entries.{FREE, HEAD, TAIL, entriesOf}
 use Rattle.rules.specs.Tables.{entryAt, blockCount, used, objects}
 use Rattle.rules.specs.Pointers.{targetOf, leadsTo}
-use Rattle.rules.specs.Meaning.{AllBytes, TableIsEntries, Points, Leads, Lowest, Longest, Shape, ShapeInBytes, Passed}
+use Rattle.rules.specs.Meaning.{AllBytes, TableIsEntries, Points, Leads, Lowest, Longest, Shape, ShapeInBytes, Passed, Accepted}
 use Rattle.rules.specs.Outcomes.{Heap, Outcome, heapOf, onlyRefusal, loaded}
 use Rattle.rules.specs.Reach.{Reachable}
 use Rattle.rules.specs.Calls.{blocksFor, init, allocate, free, reallocate, collect, survey, load, store}
@@ -45,9 +45,6 @@ pub record Same (before after : Heap) (o : ℕ) : Type 0 where
   pub head : Object after o
   pub blocks : blocksOf after o ≡ blocksOf before o
   pub bytes : (i : ℕ) → i < 16 * blocksOf before o → byteAt after (16 * o + i) ≡ byteAt before (16 * o + i)
-
-abbrev pub Accepted : Outcome → Type 0
-Accepted r = r .answer .refusal ≡ 0
 
 -- ---- what each call does
 
@@ -234,9 +231,8 @@ pub record Promises : Type 0 where
   pub read : (base : ℕ) (h : Heap) (k i : ℕ) → Accepted (load base h k i) → Loaded h k i (load base h k i)
   pub stored : (base : ℕ) (h : Heap) (k i w : ℕ) → Accepted (store base h k i w) → Stored base h k i w (store base h k i w)
   pub surveyed : (base : ℕ) (h : Heap) → Accepted (survey base h) → Surveyed h (survey base h)
-  -- of a table in bytes, each entry of which is one of the four
-  pub reclaimed : (base : ℕ) (h : Heap) (roots stack : List ℕ) → ((k : ℕ) → entryAt (h .entries) k < 4) → Accepted (collect base h roots stack)
-      → Reclaimed base h roots (collect base h roots stack)
+  pub reclaimed : (base : ℕ) (pool table roots stack : List ℕ) → Accepted (collect base (heapOf pool table) roots stack)
+      → Reclaimed base (heapOf pool table) roots (collect base (heapOf pool table) roots stack)
   -- survey and load leave the heap as it is
   pub survey-leaves : (base : ℕ) (h : Heap) → survey base h .heap ≡ h
   pub load-leaves : (base : ℕ) (h : Heap) (k i : ℕ) → load base h k i .heap ≡ h

@@ -15,7 +15,7 @@ use Rattle.rules.specs.Entries.{HEAD, entriesOf}
 use Rattle.rules.specs.Tables.{entryAt}
 use Rattle.rules.specs.Outcomes.{Heap, Outcome, heapOf, onlyRefusal, unlessRefused}
 use Rattle.rules.specs.Refusals.{Test, firstOf, goodShape, badShape, illFormed, noBytes, outside, noHead}
-use Rattle.rules.specs.Meaning.{Shape, ShapeInBytes, Passed, Named}
+use Rattle.rules.specs.Meaning.{Shape, ShapeInBytes, Passed, Named, Accepted}
 use Rattle.rules.proofs.Entries.{length-entriesOf}
 
 -- ---- booleans
@@ -112,6 +112,12 @@ refuses (suc r) h stack acted e p = rw e
 pub accepts : (h : Heap) (stack : List ℕ) (acted : Outcome) {n : ℕ} → n ≡ 0 → unlessRefused n h stack acted ≡ acted
 unfolding unlessRefused
 accepts h stack acted e = rw e
+
+-- an accepted call has no refusal
+pub accepted-none : (n : ℕ) (h : Heap) (stack : List ℕ) (acted : Outcome) → Accepted (unlessRefused n h stack acted) → n ≡ 0
+unfolding unlessRefused
+accepted-none zero h stack acted e = refl
+accepted-none (suc n) h stack acted e = absurd (omega arith)
 
 -- ---- the shape of a heap
 

@@ -10,7 +10,7 @@ use lib.ListN.{length, getD}
 use Rattle.rules.specs.Entries.{FREE, HEAD, TAIL, MARK, entriesOf}
 use Rattle.rules.specs.Tables.{entryAt, wellFormed}
 use Rattle.rules.specs.Pointers.{addressOf}
-use Rattle.rules.specs.Outcomes.{Heap}
+use Rattle.rules.specs.Outcomes.{Heap, Outcome}
 
 -- every element is a byte
 abbrev pub AllBytes : List ℕ → Type 0
@@ -101,3 +101,7 @@ pub record Passed (base : ℕ) (h : Heap) : Type 0 where
 pub record Named (h : Heap) (k : ℕ) : Type 0 where
   pub inside : k < length (h .entries)
   pub head : entryAt (h .entries) k ≡ HEAD
+
+-- the call is accepted
+abbrev pub Accepted : Outcome → Type 0
+Accepted r = r .answer .refusal ≡ 0

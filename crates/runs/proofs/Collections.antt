@@ -5,7 +5,7 @@ use mathlib.Core.Path.{_≡_, refl, sym, _∙_}
 use mathlib.Core.Logic.{_≢_, inl}
 use mathlib.Core.Bool.{true}
 use mathlib.Core.List.{List, []}
-use Prim.Native.Nat.{ℕ, zero, suc, _+_, _*_, _/_, _%_, _<_}
+use Prim.Native.Nat.{ℕ, _+_, _*_, _/_, _%_, _<_}
 use native.Mathlib.Omega.{arith}
 use native.Mathlib.Decide.{ℕ-discrete}
 use lib.Dec.{ltb}
@@ -14,11 +14,12 @@ use borrow.Author.Tests.{le-ltb}
 use Rattle.rules.specs.Words.{wordsOf}
 use Rattle.rules.specs.Entries.{FREE, entriesOf}
 use Rattle.rules.specs.Tables.{entryAt, wellFormed}
-use Rattle.rules.specs.Outcomes.{Heap, Outcome, heapOf, unlessRefused}
+use Rattle.rules.specs.Outcomes.{Heap, heapOf}
 use Rattle.rules.specs.Refusals.{firstOf, wholeWords, badLists, illFormed}
 use Rattle.rules.specs.Calls.{collecting, collect}
 use Rattle.rules.specs.Runs.{Collect}
-use Rattle.rules.proofs.Refusals.{first-none, both-left, not-false, shape-true}
+use Rattle.rules.specs.Meaning.{Accepted}
+use Rattle.rules.proofs.Refusals.{first-none, both-left, not-false, shape-true, accepted-none}
 use Rattle.rules.proofs.Matching.{SameByte, Matching, match-sets}
 use Rattle.rules.proofs.Twice.{heap, unless-both, shape-same}
 use Rattle.keeping.specs.Keeping.{collected, Agree}
@@ -94,19 +95,14 @@ same-collect base roots es p q stack stack′ match s =
 
 -- ---- the first collection
 
-accepted : (n : ℕ) (h : Heap) (stack : List ℕ) (x : Outcome) → unlessRefused n h stack x .answer .refusal ≡ 0 → n ≡ 0
-unfolding unlessRefused
-accepted zero h stack x e = refl
-accepted (suc r) h stack x e = absurd (omega arith)
-
 pub same-first : (base : ℕ) (roots table p q stack stack′ : List ℕ) → Agree base (wordsOf roots) (heapOf p table) (heapOf q table)
-    → collect base (heapOf p table) roots stack .answer .refusal ≡ 0 → collect base (heapOf q table) roots stack′ .answer .refusal ≡ 0
+    → Accepted (collect base (heapOf p table) roots stack) → Accepted (collect base (heapOf q table) roots stack′)
     → Same (Collect base roots) stack stack′ (collect base (heapOf p table) roots stack) (collect base (heapOf q table) roots stack′)
 same-first base roots table p q stack stack′ a x x′ =
     let h = heapOf p table in
     let h′ = heapOf q table in
-    let z = accepted _ h stack _ (rw collect-from at x) in
-    let z′ = accepted _ h′ stack′ _ (rw collect-from at x′) in
+    let z = accepted-none _ h stack _ (rw collect-from at x) in
+    let z′ = accepted-none _ h′ stack′ _ (rw collect-from at x′) in
     let s = suits base h roots stack z in
     let s′ = suits base h′ roots stack′ z′ in
     rw (collect-is base h roots stack x, collect-is base h′ roots stack′ x′)

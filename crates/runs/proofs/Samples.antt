@@ -18,12 +18,13 @@ use Rattle.rules.specs.Refusals.{firstOf, goodShape, wholeWords}
 use Rattle.rules.specs.Marking.{pushed, visitTo, visit, walkWords, walk, drainFor, drain, trace, rootTo, markRoot, markRoots, passBlock, passFrom, pass, rescanFor, rescan, markAll, sweptEntry, freeingAfter, sweepFrom, sweep}
 use Rattle.rules.specs.Calls.{blocksFor, taken, placing, allocate, collecting, collect, load}
 use Rattle.rules.specs.Runs.{Call, Turn, step, answers}
+use Rattle.rules.specs.Meaning.{Accepted}
 use Rattle.rules.proofs.Below.{allBelow, below}
 use Rattle.rules.proofs.Marking.{head-inside}
 use Rattle.keeping.specs.Keeping.{marking, collected, Agree, GoodStack}
 use Rattle.keeping.proofs.Owners.{reachable-head}
 use Rattle.keeping.proofs.Kept.{collected-kept}
-use Rattle.runs.specs.Noninterference.{equally-long, both-good, Alike, done, next, SameAnswer, equal, but-rescans, SameAnswers, Indistinct, IsAccepted}
+use Rattle.runs.specs.Noninterference.{equally-long, both-good, Alike, done, next, SameAnswer, equal, but-rescans, SameAnswers, Indistinct}
 use Rattle.runs.specs.Samples.{sampleTable, sampleRoots, firstPool, secondPool, thirdPool, firstHeap, secondHeap, thirdHeap, sampleCalls, loadingCalls}
 use Rattle.runs.proofs.Noninterference.{noninterference}
 
@@ -83,7 +84,7 @@ firstRefusal : List Answer → ℕ
 firstRefusal [] = 0
 firstRefusal (a ∷ xs) = a .refusal
 
-accepted : (t : Turn) (ts : List Turn) (h : Heap) (a : Answer) (xs : List Answer) → answers (t ∷ ts) h ≡ a ∷ xs → a .refusal ≡ 0 → IsAccepted t h
+accepted : (t : Turn) (ts : List Turn) (h : Heap) (a : Answer) (xs : List Answer) → answers (t ∷ ts) h ≡ a ∷ xs → a .refusal ≡ 0 → Accepted (step (t .call) (t .stack) h)
 unfolding answers firstRefusal
 accepted t ts h a xs e z = ap firstRefusal e ∙ z
 

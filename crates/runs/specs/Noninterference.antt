@@ -12,6 +12,7 @@ use Rattle.rules.specs.Entries.{FREE}
 use Rattle.rules.specs.Tables.{entryAt}
 use Rattle.rules.specs.Outcomes.{Heap, Answer, heapOf}
 use Rattle.rules.specs.Runs.{Call, Collect, step, Turn, after, answers}
+use Rattle.rules.specs.Meaning.{Accepted}
 use Rattle.keeping.specs.Keeping.{Agree, butRescans, GoodStack}
 
 -- ---- calls that are made alike
@@ -58,10 +59,6 @@ pub record Indistinct (ts us : List Turn) (h h′ : Heap) : Type 0 where
 
 -- ---- the statement
 
--- an accepted call
-abbrev pub IsAccepted : Turn → Heap → Type 0
-IsAccepted t h = step (t .call) (t .stack) h .answer .refusal ≡ 0
-
 abbrev pub Noninterference : Type 0
 Noninterference =
     -- one base, one table and one root list, in bytes, for both heaps; for each heap a pool, a mark stack for the collection, and the calls that follow it
@@ -75,7 +72,7 @@ Noninterference =
     -- both are collected from that list, and then called alike, by any calls on any bases, refused ones included
     → Alike (first ∷ ts) (first′ ∷ us)
     -- the collection is accepted on both. So the table is well-formed, and each pool suits it
-    → IsAccepted first h
-    → IsAccepted first′ h′
+    → Accepted (step (Collect base roots) stack h)
+    → Accepted (step (Collect base roots) stack′ h′)
     -- then the calls, that collection among them, do not tell the heaps apart
     → Indistinct (first ∷ ts) (first′ ∷ us) h h′

@@ -7,9 +7,9 @@ use Prim.Native.Nat.{_<_}
 use lib.IntN.{pos}
 use Rattle.rules.specs.Entries.{entriesOf}
 use Rattle.rules.specs.Tables.{firstRun}
+use Rattle.rules.specs.Meaning.{Shape}
 use Rattle.rules.proofs.Tables.{first-run}
 use Rattle.rules.specs.Outcomes.{heapOf}
-use Rattle.rules.specs.Meaning.{Shape}
 use Rattle.rules.proofs.Refusals.{few-bytes}
 use Rattle.rules.proofs.Calls.{blocks-some, blocks-least, request-nowhere}
 use Rattle.memory.specs.Places.{found}
