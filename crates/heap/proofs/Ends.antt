@@ -3,8 +3,8 @@
 use mathlib.Core.Path.{_≡_, refl, sym, ap, _∙_}
 use mathlib.Core.Bool.{Bool, true, false, not}
 use mathlib.Core.List.{List, [], _∷_}
-use mathlib.Core.Option.{Option, some, none}
-use Prim.Native.Nat.{ℕ, zero, suc, _+_, _-_, _*_, _^_, _≤_, _<_}
+use mathlib.Core.Option.{some, none}
+use Prim.Native.Nat.{ℕ, _+_, _-_, _*_, _^_, _≤_, _<_}
 use native.Mathlib.Omega.{arith}
 use borrow.Author.Tests.{leb-false, le-ltb}
 use lib.IntN.{ℤ, pos, negℤ, subℕ}
@@ -15,16 +15,15 @@ use mir.Val.{toZ, ofZ}
 use mir.ValLaws.{toZ-ofZ}
 use Rattle.rules.specs.Tests.{isNone}
 use Rattle.rules.specs.Words.{wordAt, withWord}
-use Rattle.rules.specs.Entries.{entriesOf, HEAD}
-use Rattle.rules.specs.Tables.{entryAt, blockCount, firstRun, released, used, objects, longest}
-use Rattle.rules.specs.Meaning.{Run, Shape}
-use Rattle.rules.specs.Outcomes.{Heap, Outcome, heapOf, onlyRefusal, changeFrom, unlessRefused}
-use Rattle.rules.specs.Refusals.{firstOf, goodShape, badShape, illFormed, noBytes, outside, noHead, noWord, noRoom}
+use Rattle.rules.specs.Entries.{entriesOf}
+use Rattle.rules.specs.Tables.{blockCount, firstRun, released, used, objects, longest}
+use Rattle.rules.specs.Meaning.{Shape}
+use Rattle.rules.specs.Outcomes.{heapOf, changeFrom}
+use Rattle.rules.specs.Refusals.{firstOf, goodShape, badShape, noBytes, outside, noHead, noWord, noRoom, heapTests, requestTests, objectTests, wordTests}
 use Rattle.rules.specs.Calls.{init, blocksFor, taken, placing, allocate, free, freed as freedHeap, survey, load, store}
 use Rattle.rules.proofs.Tables.{first-run, extent-of}
 use Rattle.rules.proofs.Refusals.{first-yes, first-last, first-less, first-more, first-none, refuses, accepts, passed, asked, named-object, after-names}
 use Rattle.rules.proofs.Calls.{blocks-some, allocate-change, free-change}
-use Rattle.checks.specs.Checks.{heapTests, requestTests, objectTests, wordTests}
 use Rattle.heap.specs.Answers.{status, placed, unplacedBy, freed, surveyed, loaded}
 
 -- a signed number is what its 32 bits say

@@ -11,7 +11,7 @@ use Rattle.rules.specs.Words.{wordsOf}
 use Rattle.rules.specs.Entries.{FREE}
 use Rattle.rules.specs.Tables.{entryAt, wellFormed, blockCount, used}
 use Rattle.rules.specs.Outcomes.{Heap, Outcome, heapOf, unlessRefused}
-use Rattle.rules.specs.Refusals.{Test, firstOf, badLists, illFormed, manyRoots, longStack}
+use Rattle.rules.specs.Refusals.{firstOf, badLists, illFormed, manyRoots, longStack, collectionTests}
 use Rattle.rules.specs.Calls.{collecting, collect}
 use Rattle.rules.specs.Meaning.{Accepted}
 use Rattle.rules.proofs.Entries.{entriesOf-lt}
@@ -24,20 +24,16 @@ use Rattle.keeping.proofs.Kept.{keeps}
 use Rattle.keeping.proofs.Counts.{few-rescans, used-less}
 use Rattle.keeping.proofs.Same.{any-room}
 
--- the tests of a collection
-abbrev pub tests : ℕ → Heap → List ℕ → List ℕ → List Test
-tests base h roots stack = badLists base h roots stack ∷ illFormed h ∷ manyRoots roots ∷ longStack stack ∷ []
-
--- what it does if none of them holds
+-- what a collection does if none of its tests holds
 abbrev pub acted : ℕ → Heap → List ℕ → List ℕ → Outcome
 acted base h roots stack = collecting h stack (marking base h (wordsOf roots) (length stack / 4))
 
 pub collect-from : (base : ℕ) (h : Heap) (roots stack : List ℕ)
-    → collect base h roots stack ≡ unlessRefused (firstOf (tests base h roots stack)) h stack (acted base h roots stack)
+    → collect base h roots stack ≡ unlessRefused (firstOf (collectionTests base h roots stack)) h stack (acted base h roots stack)
 unfolding collect marking
 collect-from base h roots stack = refl
 
-tests-well : (base : ℕ) (h : Heap) (roots stack : List ℕ) → firstOf (tests base h roots stack) ≡ 0 → wellFormed (h .entries) ≡ true
+tests-well : (base : ℕ) (h : Heap) (roots stack : List ℕ) → firstOf (collectionTests base h roots stack) ≡ 0 → wellFormed (h .entries) ≡ true
 tests-well base h roots stack e =
     let ts = first-none (badLists base h roots stack) (illFormed h ∷ manyRoots roots ∷ longStack stack ∷ []) (omega arith) e .1 in
     not-false (wellFormed (h .entries)) (first-none (illFormed h) (manyRoots roots ∷ longStack stack ∷ []) (omega arith) ts .0)
@@ -45,8 +41,8 @@ tests-well base h roots stack e =
 -- ---- one collection
 
 module _ (base : ℕ) (h : Heap) (roots stack : List ℕ) (accepted : Accepted (collect base h roots stack)) where
-  no-refusal : firstOf (tests base h roots stack) ≡ 0
-  no-refusal = accepted-none (firstOf (tests base h roots stack)) h stack (acted base h roots stack) (rw (collect-from base h roots stack) at accepted)
+  no-refusal : firstOf (collectionTests base h roots stack) ≡ 0
+  no-refusal = accepted-none (firstOf (collectionTests base h roots stack)) h stack (acted base h roots stack) (rw (collect-from base h roots stack) at accepted)
 
   pub collect-is : collect base h roots stack ≡ acted base h roots stack
   collect-is = collect-from base h roots stack ∙ accepts h stack (acted base h roots stack) no-refusal

@@ -2,18 +2,18 @@
 -- Assumes nothing.
 use mathlib.Core.Path.{_≡_, refl, ap, _∙_}
 use mathlib.Core.Bool.{false}
-use mathlib.Core.List.{List, [], _∷_}
+use mathlib.Core.List.{List, []}
 use Prim.Native.Nat.{ℕ, zero, suc, _+_, _*_, _/_}
 use native.Mathlib.Omega.{arith}
 use lib.ListN.{length, replicate}
-use Rattle.rules.specs.Tests.{isNone, orElse}
+use Rattle.rules.specs.Tests.{orElse}
 use Rattle.rules.specs.Words.{wordAt, withWord, wordsOf}
 use Rattle.rules.specs.Entries.{FREE}
 use Rattle.rules.specs.Tables.{blockCount, firstRun, used, objects, longest}
 use Rattle.rules.specs.Outcomes.{Heap, Outcome, onlyRefusal, surveyed, loaded, leaves, unlessRefused}
-use Rattle.rules.specs.Refusals.{Test, firstOf, badShape, badLists, illFormed, manyRoots, longStack, noBytes, outside, noHead, noWord, noRoom}
+use Rattle.rules.specs.Refusals.{Test, firstOf, badShape, illFormed, noBytes, outside, noHead, noRoom, initTests, heapTests, objectTests, wordTests, collectionTests}
 use Rattle.rules.specs.Marking.{markAll}
-use Rattle.rules.specs.Calls.{Way, stay, shrink, grow, move, noWay, isNoWay, wayTo, along, placing, taken, freed, blocksFor, init, allocate, free, reallocate, collecting, collect, survey, load, store}
+use Rattle.rules.specs.Calls.{Way, stay, shrink, grow, move, noWay, isNoWay, wayOf, allocateTests, reallocateTests, along, placing, taken, freed, blocksFor, init, allocate, free, reallocate, collecting, collect, survey, load, store}
 use Rattle.rules.specs.Meaning.{Accepted}
 use Rattle.rules.proofs.Refusals.{true-not-false, first-none, first-rest, accepts}
 use Rattle.promises.specs.Promises.{Refused}
@@ -56,34 +56,18 @@ module _ {h : Heap} {stack : List ℕ} {ts : List Test} {act r : Outcome} (c : C
 abbrev pub startOf : Heap → ℕ → ℕ
 startOf h bytes = orElse (firstRun (h .entries) (blocksFor bytes)) 0
 
--- which way reallocate goes
-abbrev pub wayOf : Heap → ℕ → ℕ → Way
-wayOf h k bytes = wayTo (h .entries) k (blockCount (h .entries) k) (blocksFor bytes)
-
 module _ (base : ℕ) (h : Heap) where
-  abbrev pub testsOfInit : List Test
-  testsOfInit = badShape base h ∷ []
-
-  pub init-checked : Checked h [] testsOfInit (leaves (onlyRefusal 0) (record { pool = h .pool; entries = replicate (length (h .entries)) FREE })) (init base h)
+  pub init-checked : Checked h [] (initTests base h) (leaves (onlyRefusal 0) (record { pool = h .pool; entries = replicate (length (h .entries)) FREE })) (init base h)
   unfolding init
   init-checked = record { is = refl; fine = λ _. refl }
 
-  abbrev pub testsOfAllocate : ℕ → List Test
-  testsOfAllocate bytes = badShape base h ∷ illFormed h ∷ noBytes bytes ∷ noRoom (isNone (firstRun (h .entries) (blocksFor bytes))) ∷ []
-
-  pub allocate-checked : (bytes : ℕ) → Checked h [] (testsOfAllocate bytes) (placing h (startOf h bytes) (taken h (startOf h bytes) (blocksFor bytes))) (allocate base h bytes)
+  pub allocate-checked : (bytes : ℕ) → Checked h [] (allocateTests base h bytes) (placing h (startOf h bytes) (taken h (startOf h bytes) (blocksFor bytes))) (allocate base h bytes)
   unfolding allocate placing
   allocate-checked bytes = record { is = refl; fine = λ _. refl }
 
-  abbrev pub testsOfFree : ℕ → List Test
-  testsOfFree k = badShape base h ∷ illFormed h ∷ outside h k ∷ noHead h k ∷ []
-
-  pub free-checked : (k : ℕ) → Checked h [] (testsOfFree k) (placing h 0 (freed h k)) (free base h k)
+  pub free-checked : (k : ℕ) → Checked h [] (objectTests base h k) (placing h 0 (freed h k)) (free base h k)
   unfolding free placing
   free-checked k = record { is = refl; fine = λ _. refl }
-
-  abbrev pub testsOfReallocate : ℕ → ℕ → List Test
-  testsOfReallocate k bytes = badShape base h ∷ illFormed h ∷ noBytes bytes ∷ outside h k ∷ noHead h k ∷ noRoom (isNoWay (wayOf h k bytes)) ∷ []
 
   along-fine : (w : Way) (k b c : ℕ) → isNoWay w ≡ false → Accepted (along w h k b c)
   unfolding along placing
@@ -94,7 +78,7 @@ module _ (base : ℕ) (h : Heap) where
   along-fine noWay k b c e = absurd (true-not-false refl e)
 
   pub reallocate-checked : (k bytes : ℕ)
-      → Checked h [] (testsOfReallocate k bytes) (along (wayOf h k bytes) h k (blockCount (h .entries) k) (blocksFor bytes)) (reallocate base h k bytes)
+      → Checked h [] (reallocateTests base h k bytes) (along (wayOf h k bytes) h k (blockCount (h .entries) k) (blocksFor bytes)) (reallocate base h k bytes)
   unfolding reallocate
   reallocate-checked k bytes = record {
     is = refl;
@@ -107,31 +91,22 @@ module _ (base : ℕ) (h : Heap) where
         along-fine (wayOf h k bytes) k (blockCount (h .entries) k) (blocksFor bytes) (first-none (noRoom (isNoWay (wayOf h k bytes))) [] (omega arith) e5 .0);
   }
 
-  abbrev pub testsOfCollect : List ℕ → List ℕ → List Test
-  testsOfCollect roots stack = badLists base h roots stack ∷ illFormed h ∷ manyRoots roots ∷ longStack stack ∷ []
-
   pub collect-checked : (roots stack : List ℕ)
-      → Checked h stack (testsOfCollect roots stack)
+      → Checked h stack (collectionTests base h roots stack)
       (collecting h stack (markAll (record { base = base; pool = h .pool; room = length stack / 4 }) (wordsOf roots) (h .entries)))
       (collect base h roots stack)
   unfolding collect collecting
   collect-checked roots stack = record { is = refl; fine = λ _. refl }
 
-  abbrev pub testsOfSurvey : List Test
-  testsOfSurvey = badShape base h ∷ illFormed h ∷ []
-
-  pub survey-checked : Checked h [] testsOfSurvey (leaves (surveyed (used (h .entries)) (objects (h .entries)) (longest (h .entries))) h) (survey base h)
+  pub survey-checked : Checked h [] (heapTests base h) (leaves (surveyed (used (h .entries)) (objects (h .entries)) (longest (h .entries))) h) (survey base h)
   unfolding survey
   survey-checked = record { is = refl; fine = λ _. refl }
 
-  abbrev pub testsOfWord : ℕ → ℕ → List Test
-  testsOfWord k i = badShape base h ∷ illFormed h ∷ outside h k ∷ noHead h k ∷ noWord h k i ∷ []
-
-  pub load-checked : (k i : ℕ) → Checked h [] (testsOfWord k i) (leaves (loaded (wordAt (h .pool) (4 * k + i))) h) (load base h k i)
+  pub load-checked : (k i : ℕ) → Checked h [] (wordTests base h k i) (leaves (loaded (wordAt (h .pool) (4 * k + i))) h) (load base h k i)
   unfolding load
   load-checked k i = record { is = refl; fine = λ _. refl }
 
   pub store-checked : (k i w : ℕ)
-      → Checked h [] (testsOfWord k i) (leaves (onlyRefusal 0) (record { pool = withWord (h .pool) (4 * k + i) w; entries = h .entries })) (store base h k i w)
+      → Checked h [] (wordTests base h k i) (leaves (onlyRefusal 0) (record { pool = withWord (h .pool) (4 * k + i) w; entries = h .entries })) (store base h k i w)
   unfolding store
   store-checked k i w = record { is = refl; fine = λ _. refl }

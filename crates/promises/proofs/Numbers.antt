@@ -14,15 +14,15 @@ use Rattle.rules.specs.Entries.{HEAD}
 use Rattle.rules.specs.Tables.{entryAt, isHead, wellFormed, blockCount, firstRun}
 use Rattle.rules.specs.Meaning.{Well, Lowest, Shape, Passed, Accepted}
 use Rattle.rules.specs.Outcomes.{Heap}
-use Rattle.rules.specs.Refusals.{Test, firstOf, goodShape, wholeWords, badShape, badLists, illFormed, manyRoots, longStack, noBytes, outside, noHead, noWord, noRoom}
-use Rattle.rules.specs.Calls.{Way, stay, shrink, grow, move, noWay, isNoWay, wayTo, blocksFor, init, allocate, free, reallocate, collect, survey, load, store}
+use Rattle.rules.specs.Refusals.{Test, firstOf, goodShape, wholeWords, badShape, badLists, illFormed, manyRoots, longStack, noBytes, outside, noHead, noWord, noRoom, wordTests}
+use Rattle.rules.specs.Calls.{Way, stay, shrink, grow, move, noWay, isNoWay, wayTo, blocksFor, init, allocate, free, reallocate, collect, survey, load, store, wayOf}
 use Rattle.rules.specs.Runs.{Call, Init, Allocate, Free, Reallocate, Collect, Survey, Load, Store, step}
 use Rattle.rules.proofs.Refusals.{true-not-false, both-left, both-right, not-true, not-false, first-yes, first-no, passes, asks, names, shape-true, shape-of}
 use Rattle.rules.proofs.Tables.{entry-inside, extent-of, well-says, well-of, first-lowest, none-first}
 use Rattle.rules.proofs.Calls.{Ways, stays, shrinks, grows, moves, stuck, way-says, way-is, blocks-some, blocks-enough, blocks-least, blocks-more}
 use Rattle.promises.specs.Conditions.{Condition, when, First, NoRun, NoWay, ofInit, ofAllocate, ofFree, ofReallocate, ofCollect, ofSurvey, ofWord}
 use Rattle.promises.specs.Promises.{Object, Refused}
-use Rattle.promises.proofs.Checked.{number, refuses, wayOf, testsOfWord, init-checked, allocate-checked, free-checked, reallocate-checked, collect-checked, survey-checked, load-checked, store-checked}
+use Rattle.promises.proofs.Checked.{number, refuses, init-checked, allocate-checked, free-checked, reallocate-checked, collect-checked, survey-checked, load-checked, store-checked}
 
 -- ---- the first test that holds
 
@@ -207,7 +207,7 @@ module _ (base : ℕ) (h : Heap) where
   survey-refusal = rw (number (survey-checked base h)) (shape-step _ _ (λ _. well-step [] [] first-end))
 
   -- the tests of load and store
-  word-refusal : (k i : ℕ) → First (ofWord base h k i) (firstOf (testsOfWord base h k i))
+  word-refusal : (k i : ℕ) → First (ofWord base h k i) (firstOf (wordTests base h k i))
   unfolding ofWord
   word-refusal k i = shape-step _ _ (λ _. well-step _ _ (object-step k _ _ (λ _. word-step k i)))
 

@@ -13,14 +13,14 @@ use Rattle.rules.specs.Tables.{blockCount, used, placed, released}
 use Rattle.rules.specs.Meaning.{Run, Lowest, Extent, Passed, Named, Accepted}
 use Rattle.rules.specs.Outcomes.{Heap, changeFrom}
 use Rattle.rules.specs.Refusals.{badShape, illFormed, noBytes, outside, noHead, noRoom}
-use Rattle.rules.specs.Calls.{Way, stay, shrink, grow, move, noWay, isNoWay, along, shrunk, grown, moved, placing, blocksFor, reallocate}
+use Rattle.rules.specs.Calls.{Way, stay, shrink, grow, move, noWay, isNoWay, along, shrunk, grown, moved, placing, blocksFor, reallocate, wayOf}
 use Rattle.rules.proofs.Refusals.{passed, named, true-not-false, first-none, first-rest}
 use Rattle.rules.proofs.Tables.{entry-inside, extent-of, run-apart}
 use Rattle.rules.proofs.Changes.{placed-length, placed-out, placed-apart, released-length, released-in, released-out, extended-length, extended-out, freed-apart, shrunk-well, shrunk-count, shrunk-other, grown-well, grown-count, grown-apart, grown-other, moved-well, moved-head, moved-count, moved-other}
 use Rattle.rules.proofs.Pools.{cleared-length, cleared-in, cleared-out, moved-length, moved-out, moved-kept, moved-zero}
 use Rattle.rules.proofs.Calls.{Ways, stays, shrinks, grows, moves, way-says, blocks-some, sub-same, shrink-change, grow-change, move-change}
 use Rattle.promises.specs.Promises.{Object, Same, Reallocated}
-use Rattle.promises.proofs.Checked.{wayOf, reallocate-checked, no-refusal, acts}
+use Rattle.promises.proofs.Checked.{reallocate-checked, no-refusal, acts}
 use Rattle.promises.proofs.Counting.{counts-of, shape-kept}
 
 module _ (base : ℕ) (h : Heap) (k c : ℕ) (good : Passed base h) (object : Named h k) (some-block : 0 < c) where

@@ -12,13 +12,13 @@ use Rattle.rules.specs.Words.{wordAt, withWord}
 use Rattle.rules.specs.Tables.{blockCount}
 use Rattle.rules.specs.Meaning.{Extent, Passed, Named, Accepted}
 use Rattle.rules.specs.Outcomes.{Heap, Answer, Outcome, leaves, loaded, onlyRefusal, unlessRefused}
-use Rattle.rules.specs.Refusals.{firstOf, goodShape, badShape, illFormed, outside, noHead, noWord}
+use Rattle.rules.specs.Refusals.{firstOf, goodShape, badShape, illFormed, outside, noHead, noWord, wordTests}
 use Rattle.rules.specs.Calls.{survey, load, store}
 use Rattle.rules.proofs.Words.{length-withWord, withWord-in, withWord-out, wordAt-withWord, wordAt-other}
 use Rattle.rules.proofs.Refusals.{passed, passes, named, names, first-none, first-last, first-rest}
 use Rattle.rules.proofs.Tables.{entry-inside, extent-of, objects-apart, longest-says}
 use Rattle.promises.specs.Promises.{Object, Same, Loaded, Stored, Surveyed}
-use Rattle.promises.proofs.Checked.{testsOfWord, load-checked, store-checked, survey-checked, number, no-refusal, acts}
+use Rattle.promises.proofs.Checked.{load-checked, store-checked, survey-checked, number, no-refusal, acts}
 use Rattle.promises.proofs.Counting.{shape-kept}
 
 -- what a call on word i of the object k knows once it is not refused
@@ -27,7 +27,7 @@ record Word (base : ℕ) (h : Heap) (k i : ℕ) : Type 0 where
   object : Named h k
   inside : i < 4 * blockCount (h .entries) k
 
-word-of : (base : ℕ) (h : Heap) (k i : ℕ) → firstOf (testsOfWord base h k i) ≡ 0 → Word base h k i
+word-of : (base : ℕ) (h : Heap) (k i : ℕ) → firstOf (wordTests base h k i) ≡ 0 → Word base h k i
 word-of base h k i e =
     let e2 = first-rest (illFormed h) _ (omega arith) (first-rest (badShape base h) _ (omega arith) e) in
     let e3 = first-rest (noHead h k) _ (omega arith) (first-rest (outside h k) _ (omega arith) e2) in
@@ -37,7 +37,7 @@ word-of base h k i e =
       inside = leb-false (4 * blockCount (h .entries) k) i (first-none (noWord h k i) [] (omega arith) e3 .0);
     }
 
-of-word : (base : ℕ) (h : Heap) (k i : ℕ) → Word base h k i → firstOf (testsOfWord base h k i) ≡ 0
+of-word : (base : ℕ) (h : Heap) (k i : ℕ) → Word base h k i → firstOf (wordTests base h k i) ≡ 0
 of-word base h k i v =
     passes base h _ (v .good)
     ∙ names h k _ (v .object)
@@ -68,7 +68,7 @@ module _ (base : ℕ) (h : Heap) (k i w : ℕ) where
   unfolding goodShape
   same-shape = rw length-withWord
 
-  same-tests : (o j : ℕ) → firstOf (testsOfWord base after o j) ≡ firstOf (testsOfWord base h o j)
+  same-tests : (o j : ℕ) → firstOf (wordTests base after o j) ≡ firstOf (wordTests base h o j)
   same-tests o j = rw same-shape
 
   module _ (v : Word base h k i) where
@@ -103,7 +103,7 @@ module _ (base : ℕ) (h : Heap) (k i w : ℕ) where
     load-other : (o j : ℕ) → (o ≢ k) ⊎ (j ≢ i) → load base after o j .answer ≡ load base h o j .answer
     load-other o j other =
         rw (load-checked base after o j .is, load-checked base h o j .is, same-tests o j)
-        (same-answer (firstOf (testsOfWord base h o j)) after h _ _
+        (same-answer (firstOf (wordTests base h o j)) after h _ _
         (λ e. ap loaded (wordAt-other (h .pool) (4 * k + i) (4 * o + j) w (words-apart base h k i o j v (word-of base h o j e) other))))
 
     after-stored : Stored base h k i w (leaves (onlyRefusal 0) after)

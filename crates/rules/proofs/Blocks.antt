@@ -1,10 +1,9 @@
 -- The answered block is a block of the table, so that it is below 4,096 whatever the call was given.
 -- Assumes nothing.
 use mathlib.Core.Path.{_≡_, refl}
-use mathlib.Core.Bool.{Bool, true, false}
 use mathlib.Core.List.{List, [], _∷_}
 use mathlib.Core.Option.{Option, some, none}
-use Prim.Native.Nat.{ℕ, zero, suc, _+_, _≤_, _<_}
+use Prim.Native.Nat.{ℕ, zero, suc, _≤_, _<_}
 use native.Mathlib.Omega.{arith}
 use lib.ListN.{length}
 use Rattle.rules.specs.Tests.{isNone, orElse}
@@ -15,7 +14,7 @@ use Rattle.rules.specs.Refusals.{Test, firstOf, badShape, illFormed, noB
 use Rattle.rules.specs.Calls.{Way, stay, shrink, grow, move, noWay, wayTo, isNoWay, blocksFor, placing, along, allocate, reallocate}
 use Rattle.rules.proofs.Tables.{extent-of, first-run}
 use Rattle.rules.proofs.Refusals.{passed, asked, named-resize}
-use Rattle.rules.proofs.Calls.{blocks-some, Ways, stays, shrinks, grows, moves, stuck, way-says}
+use Rattle.rules.proofs.Calls.{blocks-some, Ways, moves, way-says}
 
 -- a refusal answers 0, so the act alone counts
 unless-small : (r : ℕ) (h : Heap) (stack : List ℕ) (acted : Outcome) → (r ≡ 0 → acted .answer .block < 4096) → unlessRefused r h stack acted .answer .block < 4096

@@ -1,19 +1,19 @@
 -- The eight calls. Each is one outcome for every input: the tests that concern its arguments in rising order, then the act.
 -- Assumes nothing.
-use mathlib.Core.Bool.{Bool, true, false, not}
+use mathlib.Core.Bool.{Bool, true, false}
 use mathlib.Core.List.{List, [], _∷_, _++_}
 use mathlib.Core.Option.{Option, some, none}
-use Prim.Native.Nat.{ℕ, zero, suc, _+_, _-_, _*_, _/_}
+use Prim.Native.Nat.{ℕ, _+_, _-_, _*_, _/_}
 use lib.Dec.{eqb, leb, ltb}
 use lib.ListN.{length, take, drop, replicate}
 use lib.Seq.{sets}
 use Rattle.rules.specs.Tests.{pick, isNone, orElse}
 use Rattle.rules.specs.Words.{wordAt, withWord, wordsOf}
 use Rattle.rules.specs.Entries.{FREE}
-use Rattle.rules.specs.Tables.{wellFormed, blockCount, fits, freeFrom, firstRun, placed, released, extended, used, objects, longest}
-use Rattle.rules.specs.Outcomes.{Heap, Answer, Outcome, changeFrom, onlyRefusal, placedAt, collectedTo, surveyed, loaded, leaves, unlessRefused, clearedBlocks}
-use Rattle.rules.specs.Refusals.{firstOf, badShape, badLists, illFormed, manyRoots, longStack, noBytes, outside, noHead, noWord, noRoom}
-use Rattle.rules.specs.Marking.{Scene, State, Marked, markAll, sweep}
+use Rattle.rules.specs.Tables.{blockCount, freeFrom, firstRun, placed, released, extended, used, objects, longest}
+use Rattle.rules.specs.Outcomes.{Heap, Outcome, changeFrom, onlyRefusal, placedAt, collectedTo, surveyed, loaded, leaves, unlessRefused, clearedBlocks}
+use Rattle.rules.specs.Refusals.{Test, firstOf, noRoom, initTests, heapTests, requestTests, objectTests, resizeTests, wordTests, collectionTests}
+use Rattle.rules.specs.Marking.{Marked, markAll, sweep}
 
 -- how many blocks hold a number of bytes
 unfoldable pub blocksFor : ℕ → ℕ
@@ -22,7 +22,7 @@ blocksFor bytes = (bytes + 15) / 16
 -- Init: the table becomes all zero, the pool is not touched
 unfoldable pub init : ℕ → Heap → Outcome
 init base h =
-    unlessRefused (firstOf (badShape base h ∷ [])) h []
+    unlessRefused (firstOf (initTests base h)) h []
     (leaves (onlyRefusal 0) (record { pool = h .pool; entries = replicate (length (h .entries)) FREE }))
 
 -- the heap with a new object of b blocks at s, all its bytes zero
@@ -33,12 +33,15 @@ taken h s b = record { pool = clearedBlocks (h .pool) s b; entries = placed (h .
 unfoldable pub placing : Heap → ℕ → Heap → Outcome
 placing h k after = leaves (placedAt k (changeFrom (h .entries) (after .entries))) after
 
--- Allocate: the lowest start at which the blocks fit
+-- Allocate: the lowest start at which the blocks fit. 9 if there is none
+abbrev pub allocateTests : ℕ → Heap → ℕ → List Test
+allocateTests base h bytes = requestTests base h bytes ++ noRoom (isNone (firstRun (h .entries) (blocksFor bytes))) ∷ []
+
 unfoldable pub allocate : ℕ → Heap → ℕ → Outcome
 allocate base h bytes =
     let b : ℕ = blocksFor bytes in
     let start : Option ℕ = firstRun (h .entries) b in
-    unlessRefused (firstOf (badShape base h ∷ illFormed h ∷ noBytes bytes ∷ noRoom (isNone start) ∷ [])) h []
+    unlessRefused (firstOf (allocateTests base h bytes)) h []
     (placing h (orElse start 0) (taken h (orElse start 0) b))
 
 -- Free: the object's head and all its TAILs become FREE, bytes stay
@@ -47,7 +50,7 @@ freed h k = record { pool = h .pool; entries = released (h .entries) k (blockCou
 
 unfoldable pub free : ℕ → Heap → ℕ → Outcome
 free base h k =
-    unlessRefused (firstOf (badShape base h ∷ illFormed h ∷ outside h k ∷ noHead h k ∷ [])) h []
+    unlessRefused (firstOf (objectTests base h k)) h []
     (placing h 0 (freed h k))
 
 -- the ways to reallocate an object of b blocks at k to c blocks
@@ -99,14 +102,17 @@ along grow h k b c = placing h k (grown h k b c)
 along (move s) h k b c = placing h s (moved h k b c s)
 along noWay h k b c = leaves (onlyRefusal 9) h
 
--- Reallocate
+-- Reallocate: 9 if no way is left
+abbrev pub wayOf : Heap → ℕ → ℕ → Way
+wayOf h k bytes = wayTo (h .entries) k (blockCount (h .entries) k) (blocksFor bytes)
+
+abbrev pub reallocateTests : ℕ → Heap → ℕ → ℕ → List Test
+reallocateTests base h k bytes = resizeTests base h k bytes ++ noRoom (isNoWay (wayOf h k bytes)) ∷ []
+
 unfoldable pub reallocate : ℕ → Heap → ℕ → ℕ → Outcome
 reallocate base h k bytes =
-    let b : ℕ = blockCount (h .entries) k in
-    let c : ℕ = blocksFor bytes in
-    let way : Way = wayTo (h .entries) k b c in
-    unlessRefused (firstOf (badShape base h ∷ illFormed h ∷ noBytes bytes ∷ outside h k ∷ noHead h k ∷ noRoom (isNoWay way) ∷ [])) h []
-    (along way h k b c)
+    unlessRefused (firstOf (reallocateTests base h k bytes)) h []
+    (along (wayOf h k bytes) h k (blockCount (h .entries) k) (blocksFor bytes))
 
 -- Collect: roots and mark stack are bytes, four to an entry. The pool is not written, and every stack entry is then zero
 unfoldable pub collecting : Heap → List ℕ → Marked → Outcome
@@ -120,23 +126,23 @@ collecting h stack m =
 
 unfoldable pub collect : ℕ → Heap → List ℕ → List ℕ → Outcome
 collect base h roots stack =
-    unlessRefused (firstOf (badLists base h roots stack ∷ illFormed h ∷ manyRoots roots ∷ longStack stack ∷ [])) h stack
+    unlessRefused (firstOf (collectionTests base h roots stack)) h stack
     (collecting h stack (markAll (record { base = base; pool = h .pool; room = length stack / 4 }) (wordsOf roots) (h .entries)))
 
 -- Survey
 unfoldable pub survey : ℕ → Heap → Outcome
 survey base h =
-    unlessRefused (firstOf (badShape base h ∷ illFormed h ∷ [])) h []
+    unlessRefused (firstOf (heapTests base h)) h []
     (leaves (surveyed (used (h .entries)) (objects (h .entries)) (longest (h .entries))) h)
 
 -- Load: word i of the object with head k
 unfoldable pub load : ℕ → Heap → ℕ → ℕ → Outcome
 load base h k i =
-    unlessRefused (firstOf (badShape base h ∷ illFormed h ∷ outside h k ∷ noHead h k ∷ noWord h k i ∷ [])) h []
+    unlessRefused (firstOf (wordTests base h k i)) h []
     (leaves (loaded (wordAt (h .pool) (4 * k + i))) h)
 
 -- Store: those four bytes only
 unfoldable pub store : ℕ → Heap → ℕ → ℕ → ℕ → Outcome
 store base h k i w =
-    unlessRefused (firstOf (badShape base h ∷ illFormed h ∷ outside h k ∷ noHead h k ∷ noWord h k i ∷ [])) h []
+    unlessRefused (firstOf (wordTests base h k i)) h []
     (leaves (onlyRefusal 0) (record { pool = withWord (h .pool) (4 * k + i) w; entries = h .entries }))

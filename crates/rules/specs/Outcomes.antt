@@ -1,6 +1,6 @@
 -- A heap, an answer, and the outcome of a call.
 -- Assumes nothing.
-use mathlib.Core.List.{List, [], _∷_}
+use mathlib.Core.List.{List, []}
 use Prim.Native.Nat.{ℕ, zero, suc, _*_}
 use lib.IntN.{ℤ, pos, subℕ}
 use lib.ListN.{replicate}

@@ -1,11 +1,12 @@
--- The refusal numbers: the test behind each, and the tests of each call in rising order. The first that holds gives the answer.
+-- The refusal numbers: the test behind each, and the tests of the calls in rising order. The first that holds gives the answer.
+-- Calls that can run out of room test 9 after these.
 -- Assumes nothing.
-use mathlib.Core.Bool.{Bool, true, false, not}
+use mathlib.Core.Bool.{Bool, not}
 use mathlib.Core.List.{List, [], _∷_}
 use Prim.Native.Nat.{ℕ, _*_, _/_, _%_}
 use lib.Dec.{eqb, leb, ltb}
 use lib.ListN.{length}
-use Rattle.rules.specs.Tests.{pick, both, either}
+use Rattle.rules.specs.Tests.{pick, both}
 use Rattle.rules.specs.Tables.{entryAt, isHead, wellFormed, blockCount}
 use Rattle.rules.specs.Pointers.{goodBase}
 use Rattle.rules.specs.Outcomes.{Heap}
@@ -70,3 +71,37 @@ noWord h k i = test 8 (leb (4 * blockCount (h .entries) k) i)
 -- 9: no room, as each call defines it
 abbrev pub noRoom : Bool → Test
 noRoom b = test 9 b
+
+-- ---- the tests of the calls, in rising order
+
+-- of init: 1
+abbrev pub initTests : ℕ → Heap → List Test
+initTests base h = badShape base h ∷ []
+
+-- of a heap: 1 2
+abbrev pub heapTests : ℕ → Heap → List Test
+heapTests base h = badShape base h ∷ illFormed h ∷ []
+
+-- of a request for room: 1 2 5
+abbrev pub requestTests : ℕ → Heap → ℕ → List Test
+requestTests base h bytes = badShape base h ∷ illFormed h ∷ noBytes bytes ∷ []
+
+-- of a block that is to name an object: 6 7
+abbrev pub nameTests : Heap → ℕ → List Test
+nameTests h k = outside h k ∷ noHead h k ∷ []
+
+-- of an object: 1 2 6 7
+abbrev pub objectTests : ℕ → Heap → ℕ → List Test
+objectTests base h k = badShape base h ∷ illFormed h ∷ outside h k ∷ noHead h k ∷ []
+
+-- of a request for an object: 1 2 5 6 7
+abbrev pub resizeTests : ℕ → Heap → ℕ → ℕ → List Test
+resizeTests base h k bytes = badShape base h ∷ illFormed h ∷ noBytes bytes ∷ outside h k ∷ noHead h k ∷ []
+
+-- of a word of an object: 1 2 6 7 8
+abbrev pub wordTests : ℕ → Heap → ℕ → ℕ → List Test
+wordTests base h k i = badShape base h ∷ illFormed h ∷ outside h k ∷ noHead h k ∷ noWord h k i ∷ []
+
+-- of a collection: 1 2 3 4
+abbrev pub collectionTests : ℕ → Heap → List ℕ → List ℕ → List Test
+collectionTests base h roots stack = badLists base h roots stack ∷ illFormed h ∷ manyRoots roots ∷ longStack stack ∷ []

@@ -3,11 +3,11 @@
 use mathlib.Core.Bool.{Bool, true, false, not}
 use mathlib.Core.List.{List, [], _∷_}
 use mathlib.Core.Option.{Option, some, none}
-use Prim.Native.Nat.{ℕ, zero, suc, _+_, _-_, max}
+use Prim.Native.Nat.{ℕ, zero, suc, _-_, max}
 use lib.Dec.{eqb, leb}
 use lib.ListN.{getD, drop, replicate}
 use lib.Seq.{sets}
-use Rattle.rules.specs.Tests.{pick, both, count, leading}
+use Rattle.rules.specs.Tests.{both, count, leading}
 use Rattle.rules.specs.Entries.{FREE, HEAD, TAIL, MARK}
 
 -- the entry of block k; outside the table, FREE

@@ -15,7 +15,7 @@ use Rattle.rules.specs.Words.{wordsOf}
 use Rattle.rules.specs.Entries.{FREE, entriesOf}
 use Rattle.rules.specs.Tables.{entryAt, wellFormed}
 use Rattle.rules.specs.Outcomes.{Heap, heapOf}
-use Rattle.rules.specs.Refusals.{firstOf, wholeWords, badLists, illFormed}
+use Rattle.rules.specs.Refusals.{firstOf, wholeWords, badLists, illFormed, collectionTests}
 use Rattle.rules.specs.Calls.{collecting, collect}
 use Rattle.rules.specs.Runs.{Collect}
 use Rattle.rules.specs.Meaning.{Accepted}
@@ -26,7 +26,7 @@ use Rattle.keeping.specs.Keeping.{collected, Agree}
 use Rattle.keeping.proofs.Owners.{table-proper}
 use Rattle.keeping.proofs.Kept.{collected-used}
 use Rattle.keeping.proofs.Alike.{agree-words, marking-alike, collected-alike, collected-bytes}
-use Rattle.keeping.proofs.Collections.{tests, acted, collect-from, collect-is, used-agree}
+use Rattle.keeping.proofs.Collections.{acted, collect-from, collect-is, used-agree}
 use Rattle.runs.specs.Noninterference.{SameStacks, equally-long, both-good, SameAnswer, equal, but-rescans}
 use Rattle.runs.proofs.Same.{Same}
 
@@ -68,7 +68,7 @@ module _ (base : ℕ) (roots es p q stack stack′ : List ℕ) (well : wellForme
 -- ---- a collection on pools that match
 
 -- a collection that is not refused has a pool that suits the table, and a well-formed table
-suits : (base : ℕ) (h : Heap) (roots stack : List ℕ) → firstOf (tests base h roots stack) ≡ 0
+suits : (base : ℕ) (h : Heap) (roots stack : List ℕ) → firstOf (collectionTests base h roots stack) ≡ 0
     → (length (h .pool) ≡ 16 * length (h .entries)) × (wellFormed (h .entries) ≡ true)
 suits base h roots stack z =
     let a = first-none (badLists base h roots stack) _ (omega arith) z in

@@ -1,17 +1,15 @@
 -- `checks::collection` meets its contract: one law for each way out. Assumes nothing.
 use mathlib.Core.Path.{_≡_, refl, sym, ap, _∙_}
 use mathlib.Core.Bool.{Bool, true, false, not}
-use mathlib.Core.List.{List, [], _∷_}
+use mathlib.Core.List.{List}
 use Prim.Native.Nat.{ℕ, _/_, _%_, _≤_, _<_}
-use native.Mathlib.Omega.{arith}
 use borrow.Author.Tests.{eq-eqb, ne-eqb, lt-ltb, le-ltb}
 use lib.ListN.{length}
 use Rattle.rules.specs.Tests.{both}
 use Rattle.rules.specs.Tables.{wellFormed}
-use Rattle.rules.specs.Outcomes.{Heap, heapOf}
-use Rattle.rules.specs.Refusals.{firstOf, goodShape, wholeWords, badLists, illFormed, manyRoots, longStack}
+use Rattle.rules.specs.Outcomes.{heapOf}
+use Rattle.rules.specs.Refusals.{firstOf, goodShape, wholeWords, badLists, collectionTests}
 use Rattle.rules.proofs.Refusals.{first-yes, first-no, first-last, both-false, true-not-false}
-use Rattle.checks.specs.Checks.{collectionTests}
 use Rattle.checks.proofs.collection.Statement.{statement}
 use Rattle.checks.proofs.collection.Tie as tie
 

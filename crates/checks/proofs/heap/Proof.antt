@@ -1,7 +1,6 @@
 -- `checks::heap` meets its contract. Assumes nothing.
-use mathlib.Core.Path.{_≡_, refl, sym, ap, _∙_}
-use mathlib.Core.Bool.{Bool, true, false, not}
-use borrow.Author.Needs.{needs}
+use mathlib.Core.Path.{sym, ap, _∙_}
+use mathlib.Core.Bool.{not}
 use Rattle.rules.proofs.Refusals.{first-yes, first-no, first-last}
 use Rattle.checks.proofs.heap.Statement.{statement}
 use Rattle.checks.proofs.heap.Tie as tie

@@ -1,5 +1,5 @@
 -- `checks::named` meets its contract. Assumes nothing.
-use mathlib.Core.Path.{_≡_, refl, sym, ap, _∙_}
+use mathlib.Core.Path.{_≡_, sym, ap, _∙_}
 use mathlib.Core.Bool.{not}
 use mathlib.Core.List.{List, []}
 use Prim.Native.Nat.{ℕ, _≤_, _<_}
@@ -10,9 +10,8 @@ use lib.ListN.{length}
 use Rattle.rules.specs.Entries.{entriesOf, HEAD}
 use Rattle.rules.specs.Tables.{entryAt}
 use Rattle.rules.specs.Outcomes.{heapOf}
-use Rattle.rules.specs.Refusals.{firstOf}
+use Rattle.rules.specs.Refusals.{firstOf, nameTests}
 use Rattle.rules.proofs.Refusals.{first-yes, first-no, first-last}
-use Rattle.checks.specs.Checks.{nameTests}
 use Rattle.checks.proofs.named.Statement.{statement}
 use Rattle.checks.proofs.named.Tie as tie
 

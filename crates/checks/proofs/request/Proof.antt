@@ -1,6 +1,5 @@
 -- `checks::request` meets its contract. Assumes nothing.
-use mathlib.Core.Path.{_≡_, refl, sym}
-use borrow.Author.Needs.{needs}
+use mathlib.Core.Path.{refl, sym}
 use borrow.Author.Tests.{eq-eqb, ne-eqb}
 use Rattle.rules.proofs.Refusals.{first-yes, first-last, refused-first, refused-next}
 use Rattle.checks.proofs.request.Statement.{statement}

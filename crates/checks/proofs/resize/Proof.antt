@@ -1,5 +1,5 @@
 -- `checks::resize` meets its contract. Assumes nothing.
-use mathlib.Core.Path.{_≡_, refl, sym, _∙_}
+use mathlib.Core.Path.{refl, sym, _∙_}
 use Rattle.rules.proofs.Refusals.{refused-first, refused-next, passed, few-bytes}
 use Rattle.checks.proofs.resize.Statement.{statement}
 use Rattle.checks.proofs.resize.Tie as tie

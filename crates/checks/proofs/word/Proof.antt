@@ -1,14 +1,12 @@
 -- `checks::word` meets its contract. Assumes nothing.
-use mathlib.Core.Path.{_≡_, refl, sym, ap, _∙_}
-use mathlib.Core.List.{List, [], _∷_}
+use mathlib.Core.Path.{_≡_, refl, sym, _∙_}
+use mathlib.Core.List.{[], _∷_}
 use Prim.Native.Nat.{ℕ, _*_, _≤_, _<_}
 use native.Mathlib.Omega.{arith}
 use borrow.Author.Tests.{le-leb, lt-leb}
-use lib.ListN.{length}
-use Rattle.rules.specs.Entries.{entriesOf}
 use Rattle.rules.specs.Tables.{blockCount}
 use Rattle.rules.specs.Outcomes.{Heap, heapOf}
-use Rattle.rules.specs.Refusals.{firstOf, outside, noHead, noWord}
+use Rattle.rules.specs.Refusals.{firstOf, noWord}
 use Rattle.rules.proofs.Refusals.{first-yes, first-last, refused-first, refused-next, passed, few-bytes, named-object}
 use Rattle.checks.proofs.word.Statement.{statement}
 use Rattle.checks.proofs.word.Tie as tie

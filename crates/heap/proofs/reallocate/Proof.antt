@@ -13,13 +13,12 @@ use borrow.Author.Tests.{leb-true, leb-false}
 use Rattle.rules.specs.Entries.{entriesOf}
 use Rattle.rules.specs.Tables.{blockCount, freeFrom}
 use Rattle.rules.specs.Outcomes.{heapOf, onlyRefusal, leaves}
-use Rattle.rules.specs.Refusals.{firstOf}
+use Rattle.rules.specs.Refusals.{firstOf, resizeTests}
 use Rattle.rules.specs.Calls.{blocksFor, reallocate}
 use Rattle.rules.specs.Meaning.{Run}
 use Rattle.rules.proofs.Tables.{run-le}
 use Rattle.rules.proofs.Refusals.{passed, named-resize, few-bytes}
 use Rattle.rules.proofs.Calls.{blocks-some, blocks-least, request-no-way, reallocate-refused, reallocate-stuck, reallocate-shrinks, reallocate-grows, reallocate-moves}
-use Rattle.checks.specs.Checks.{resizeTests}
 use Rattle.heap.specs.Held.{Held}
 use Rattle.heap.proofs.Held.{held-few, held-room, held-run}
 use Rattle.heap.proofs.reallocate.Statement.{statement}
