@@ -58,13 +58,6 @@ module _ {base : ℕ} {roots : List ℕ} {h g : Heap} (a : AgreeInWords base roo
   reachable-back k (root m q) = root m (rw (← a .table) at q)
   reachable-back k (edge {o = o} r x) = edge (reachable-back o r) (edge-back o k (reachable-back o r) x)
 
-pub agree-sym : {base : ℕ} {roots : List ℕ} {h g : Heap} → Agree base roots h g → Agree base roots g h
-agree-sym a =
-    record {
-      table = sym (a .table);
-      bytes = λ o r i l. sym (a .bytes o (reachable-back (agree-words a) o r) i (rw (a .table) l));
-    }
-
 -- ---- the same steps are taken
 
 module _ (base : ℕ) (h g : Heap) (roots : List ℕ) (room : ℕ)

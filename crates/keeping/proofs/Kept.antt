@@ -130,10 +130,6 @@ module _ (base : ℕ) (h : Heap) (roots : List ℕ) (room : ℕ) (well : wellFor
       head-free (tail t f) = absurd (omega (arith, still))
       head-free (freed m t) = refl
 
-  pub collected-freed : (o k : ℕ) → (Reachable base h roots o → ⊥) → Owns old o k → entryAt new k ≡ FREE
-  collected-freed o k dead w =
-      unmarked-freed o k (⊎-elim (λ q. q ∙ w .head) (λ q. absurd (dead (end .reached o (q .1)))) (marks .at o)) w
-
   -- ---- with each entry one of the four there is nothing else
 
   module _ (small : (k : ℕ) → entryAt old k < 4) where

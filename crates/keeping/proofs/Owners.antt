@@ -6,7 +6,7 @@ use mathlib.Core.Bool.{true}
 use mathlib.Core.List.{List}
 use Prim.Native.Nat.{ℕ, zero, suc, _+_, _*_, _-_, _<_}
 use native.Mathlib.Omega.{arith}
-use native.Mathlib.Decide.{ℕ-discrete, decLt}
+use native.Mathlib.Decide.{ℕ-discrete}
 use Rattle.rules.specs.Entries.{FREE, HEAD, TAIL, MARK, entriesOf}
 use Rattle.rules.specs.Tables.{entryAt, wellFormed, blockCount}
 use Rattle.rules.specs.Words.{wordAt}
@@ -47,24 +47,6 @@ owns-cases es o k w = go (ℕ-discrete k o)
 pub owns-used : (es : List ℕ) (o k : ℕ) → Owns es o k → entryAt es k ≢ FREE
 owns-used es o k w free =
     ⊎-elim (λ q. let e = w .head in let z : entryAt es o ≡ FREE = rw q at free in omega arith) (λ q. let e = q .1 in omega arith) (owns-cases es o k w)
-
--- a block has one owner
-pub owns-one : (es : List ℕ) (o p k : ℕ) → Owns es o k → Owns es p k → o ≡ p
-owns-one es o p k v w = go (decLt o p) (decLt p o)
-  where
-    -- an object does not reach over a later head
-    over : (o p : ℕ) → Owns es o k → Owns es p k → o < p → ⊥
-    over o p v w l =
-        let f = w .from in
-        let u = v .to in
-        let e : o + (p - o) ≡ p = omega arith in
-        let t : entryAt es p ≡ TAIL = rw e at (extent-of es o (head-inside es o (v .head)) .tail (p - o) (omega arith) (omega arith)) in
-        omega (arith, w .head)
-
-    go : Dec (o < p) → Dec (p < o) → o ≡ p
-    go (yes l) d = absurd (over o p v w l)
-    go (no l) (yes r) = absurd (over p o w v r)
-    go (no l) (no r) = omega arith
 
 pub owns-head : (es : List ℕ) (o : ℕ) → entryAt es o ≡ HEAD → Owns es o o
 owns-head es o h = record { head = h; from = omega arith; to = omega (arith, extent-of es o (head-inside es o h) .some-block) }

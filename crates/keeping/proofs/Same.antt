@@ -13,34 +13,14 @@ use Rattle.rules.specs.Tables.{entryAt, wellFormed}
 use Rattle.rules.specs.Outcomes.{Heap}
 use Rattle.rules.specs.Reach.{Reachable}
 use Rattle.rules.specs.Marking.{sweep}
-use Rattle.keeping.specs.Keeping.{marking, collected, Held, Keeps}
+use Rattle.keeping.specs.Keeping.{marking, collected, Keeps}
 use Rattle.keeping.proofs.Sound.{Sound, sound}
 use Rattle.keeping.proofs.Complete.{complete}
 use Rattle.keeping.proofs.Owners.{well-fresh}
 
 -- ---- the statement determines the table
 
-module _ {base : ℕ} {h : Heap} {roots after : List ℕ} (s : Keeps base h roots after) where
-  -- what belongs to no reachable object is FREE
-  pub keeps-free : (k : ℕ) → (Held base h roots k → ⊥) → entryAt after k ≡ FREE
-  keeps-free k dead = go (ℕ-discrete (entryAt after k) FREE)
-    where
-      go : Dec (entryAt after k ≡ FREE) → entryAt after k ≡ FREE
-      go (yes q) = q
-      go (no q) = absurd (dead (s .rest k q))
-
-  -- what is not FREE is as it was
-  pub keeps-used : (k : ℕ) → entryAt after k ≢ FREE → entryAt after k ≡ entryAt (h .entries) k
-  keeps-used k n = s .whole k (s .rest k n)
-
-  -- what was FREE is FREE
-  pub keeps-freed : (k : ℕ) → entryAt (h .entries) k ≡ FREE → entryAt after k ≡ FREE
-  keeps-freed k f = go (ℕ-discrete (entryAt after k) FREE)
-    where
-      go : Dec (entryAt after k ≡ FREE) → entryAt after k ≡ FREE
-      go (yes q) = q
-      go (no q) = keeps-used k q ∙ f
-
+-- So a collection that marks in another order, or through another stack, leaves the same table as soon as it is shown to keep exactly the reachable objects.
 pub keeps-one : {base : ℕ} {h : Heap} {roots a b : List ℕ} → Keeps base h roots a → Keeps base h roots b → a ≡ b
 keeps-one {h = h} {a = a} {b = b} s t =
     ext-getD FREE a b (s .long ∙ sym (t .long)) (λ k l. go k (ℕ-discrete (entryAt a k) FREE) (ℕ-discrete (entryAt b k) FREE))
@@ -83,7 +63,7 @@ module _ (base : ℕ) (h g : Heap) (roots roots′ : List ℕ) (room room′ : �
       go k (inr p) x = p .1 ∙ sym (complete base g roots′ room′ fresh′ k (there k (s .reached k (p .1))))
       go k (inl p) (inr q) = complete base h roots room fresh k (back k (t .reached k (q .1))) ∙ sym (q .1)
 
-  -- and after the sweep
+  -- and after the sweep: another list of roots that reaches the same objects leaves the same table
   pub collected-same : collected base h roots room ≡ collected base g roots′ room′
   unfolding collected
   collected-same = ap sweep marking-same

@@ -1,14 +1,11 @@
 -- Used blocks are the sum of the answered changes: each call answers the change that it makes, a refused one none.
 -- Assumes nothing.
 use mathlib.Core.Path.{_≡_, refl, sym, ap, _∙_}
-use mathlib.Core.Bool.{Bool, true, false, not, cond}
+use mathlib.Core.Bool.{true, not}
 use mathlib.Core.List.{List, [], _∷_}
-use Prim.Native.Nat.{ℕ, zero, suc, _-_, _≤_}
-use native.Mathlib.Omega.{arith}
-use lib.Dec.{ltb}
-use lib.IntN.{ℤ, pos, negsuc, subℕ, _+ℤ_, +ℤ-idr}
+use Prim.Native.Nat.{ℕ, zero, suc}
+use lib.IntN.{ℤ, pos, _+ℤ_, +ℤ-idr}
 use lib.ListN.{length, replicate}
-use borrow.Author.Tests.{ltb-true, ltb-false, le-ltb}
 use Rattle.rules.specs.Tables.{used, isFree}
 use Rattle.rules.specs.Entries.{FREE}
 use Rattle.rules.specs.Outcomes.{Heap, Outcome, onlyRefusal, changeFrom, leaves, unlessRefused}
@@ -17,23 +14,8 @@ use Rattle.rules.specs.Calls.{Way, stay, shrink, grow, move, noWay, init, placi
 use Rattle.rules.specs.Runs.{Call, Init, Allocate, Free, Reallocate, Collect, Survey, Load, Store, Turn, step, after}
 use Rattle.rules.proofs.Lists.{count-none}
 use Rattle.rules.proofs.Refusals.{first-last, accepts}
+use Rattle.rules.proofs.Calls.{sub-add}
 use Rattle.plain.specs.Refines.{counted, changes, UsedIsSum}
-
--- ---- whole numbers
-
-pub sub-le : (a b : ℕ) → b ≤ a → subℕ a b ≡ pos (a - b)
-sub-le a b h = rw (le-ltb a b h)
-
--- a change added to what was used before gives what is used after
-change-adds : (a b : ℕ) → pos b +ℤ subℕ a b ≡ pos a
-change-adds a b = go (ltb a b) refl
-  where
-    go : (t : Bool) → ltb a b ≡ t → pos b +ℤ cond t (negsuc (b - suc a)) (pos (a - b)) ≡ pos a
-    go true e =
-        let l = ltb-true a b e in
-        let m : b - suc (b - suc a) ≡ a = omega arith in
-        sub-le b (suc (b - suc a)) (omega arith) ∙ ap pos m
-    go false e = let l = ltb-false a b e in ap pos (omega arith)
 
 -- ---- one call
 
@@ -42,28 +24,28 @@ abbrev Sums : Heap → ℤ → Type 0
 Sums h d = d ≡ pos (used (h .entries))
 
 -- an outcome answers the change that it makes
-record Honest (h : Heap) (o : Outcome) : Type 0 where
+record Accounted (h : Heap) (o : Outcome) : Type 0 where
   sums : (d : ℤ) → Sums h d → Sums (o .heap) (d +ℤ o .answer .change)
 
-honest-same : (h : Heap) (o : Outcome) → o .heap .entries ≡ h .entries → o .answer .change ≡ pos 0 → Honest h o
-honest-same h o e c = record { sums = λ d s. rw (c, e) (+ℤ-idr d ∙ s) }
+accounted-same : (h : Heap) (o : Outcome) → o .heap .entries ≡ h .entries → o .answer .change ≡ pos 0 → Accounted h o
+accounted-same h o e c = record { sums = λ d s. rw (c, e) (+ℤ-idr d ∙ s) }
 
-honest-change : (h : Heap) (o : Outcome) → o .answer .change ≡ changeFrom (h .entries) (o .heap .entries) → Honest h o
+accounted-change : (h : Heap) (o : Outcome) → o .answer .change ≡ changeFrom (h .entries) (o .heap .entries) → Accounted h o
 unfolding changeFrom
-honest-change h o c = record { sums = λ d s. rw (c, s) (change-adds (used (o .heap .entries)) (used (h .entries))) }
+accounted-change h o c = record { sums = λ d s. rw (c, s) (sub-add (used (o .heap .entries)) (used (h .entries))) }
 
-honest-refused : (r : ℕ) (h : Heap) (stack : List ℕ) (acted : Outcome) → Honest h acted → Honest h (unlessRefused r h stack acted)
+accounted-refused : (r : ℕ) (h : Heap) (stack : List ℕ) (acted : Outcome) → Accounted h acted → Accounted h (unlessRefused r h stack acted)
 unfolding unlessRefused
-honest-refused zero h stack acted p = p
-honest-refused (suc r) h stack acted p = honest-same h (unlessRefused (suc r) h stack acted) refl refl
+accounted-refused zero h stack acted p = p
+accounted-refused (suc r) h stack acted p = accounted-same h (unlessRefused (suc r) h stack acted) refl refl
 
-honest-along : (w : Way) (h : Heap) (k b c : ℕ) → Honest h (along w h k b c)
+accounted-along : (w : Way) (h : Heap) (k b c : ℕ) → Accounted h (along w h k b c)
 unfolding along placing
-honest-along stay h k b c = honest-change h (along stay h k b c) refl
-honest-along shrink h k b c = honest-change h (along shrink h k b c) refl
-honest-along grow h k b c = honest-change h (along grow h k b c) refl
-honest-along (move s) h k b c = honest-change h (along (move s) h k b c) refl
-honest-along noWay h k b c = honest-same h (along noWay h k b c) refl refl
+accounted-along stay h k b c = accounted-change h (along stay h k b c) refl
+accounted-along shrink h k b c = accounted-change h (along shrink h k b c) refl
+accounted-along grow h k b c = accounted-change h (along grow h k b c) refl
+accounted-along (move s) h k b c = accounted-change h (along (move s) h k b c) refl
+accounted-along noWay h k b c = accounted-same h (along noWay h k b c) refl refl
 
 none-used : (n : ℕ) → used (replicate n FREE) ≡ 0
 unfolding used
@@ -79,13 +61,13 @@ init-sums (suc r) base h acted d e a s = s
 step-sums : (c : Call) (stack : List ℕ) (h : Heap) (d : ℤ) → Sums h d → Sums (step c stack h .heap) (counted c (step c stack h .answer) d)
 unfolding step counted init allocate free reallocate collect survey load store placing collecting
 step-sums (Init base) stack h d s = init-sums _ base h _ d (none-used (length (h .entries))) refl s
-step-sums (Allocate base bytes) stack h d s = honest-refused _ h [] _ (honest-change h _ refl) .sums d s
-step-sums (Free base k) stack h d s = honest-refused _ h [] _ (honest-change h _ refl) .sums d s
-step-sums (Reallocate base k bytes) stack h d s = honest-refused _ h [] _ (honest-along _ h k _ _) .sums d s
-step-sums (Collect base roots) stack h d s = honest-refused _ h stack _ (honest-change h _ refl) .sums d s
-step-sums (Survey base) stack h d s = honest-refused _ h [] _ (honest-same h _ refl refl) .sums d s
-step-sums (Load base k i) stack h d s = honest-refused _ h [] _ (honest-same h _ refl refl) .sums d s
-step-sums (Store base k i w) stack h d s = honest-refused _ h [] _ (honest-same h _ refl refl) .sums d s
+step-sums (Allocate base bytes) stack h d s = accounted-refused _ h [] _ (accounted-change h _ refl) .sums d s
+step-sums (Free base k) stack h d s = accounted-refused _ h [] _ (accounted-change h _ refl) .sums d s
+step-sums (Reallocate base k bytes) stack h d s = accounted-refused _ h [] _ (accounted-along _ h k _ _) .sums d s
+step-sums (Collect base roots) stack h d s = accounted-refused _ h stack _ (accounted-change h _ refl) .sums d s
+step-sums (Survey base) stack h d s = accounted-refused _ h [] _ (accounted-same h _ refl refl) .sums d s
+step-sums (Load base k i) stack h d s = accounted-refused _ h [] _ (accounted-same h _ refl refl) .sums d s
+step-sums (Store base k i w) stack h d s = accounted-refused _ h [] _ (accounted-same h _ refl refl) .sums d s
 
 -- ---- calls in a row
 

@@ -9,7 +9,7 @@ use Prim.Native.Nat.{ℕ, zero, suc, _+_, _-_, _*_, _≤_, _<_}
 use native.Mathlib.Decide.{ℕ-discrete, decLt}
 use native.Mathlib.Omega.{arith}
 use lib.Dec.{leb}
-use lib.IntN.{pos, negℤ, subℕ}
+use lib.IntN.{pos, negℤ, subℕ, _+ℤ_}
 use lib.ListN.{length}
 use borrow.Author.Tests.{lt-ltb, le-ltb, eq-eqb, ne-eqb, le-leb, leb-true}
 use Rattle.rules.specs.Tests.{pick}
@@ -39,6 +39,16 @@ sub-more a b = let n : a + b - a ≡ b = omega arith in rw (le-ltb (a + b) a (om
 pub sub-less : (a b : ℕ) → subℕ a (a + b) ≡ negℤ (pos b)
 sub-less a zero = let n : a + 0 ≡ a = omega arith in let z : a - a ≡ 0 = omega arith in rw (n, le-ltb a a (omega arith), z)
 sub-less a (suc b) = let n : a + suc b - suc a ≡ b = omega arith in rw (lt-ltb a (a + suc b) (omega arith), n)
+
+-- a difference added to what it was taken from
+pub sub-add : (a b : ℕ) → pos b +ℤ subℕ a b ≡ pos a
+sub-add a b = go (decLt a b)
+  where
+    go : Dec (a < b) → pos b +ℤ subℕ a b ≡ pos a
+    go (yes l) =
+        let e : b - suc (b - suc a) ≡ a = omega arith in
+        rw (lt-ltb a b l, le-ltb b (suc (b - suc a)) (omega arith), e)
+    go (no l) = let e : b + (a - b) ≡ a = omega arith in rw (le-ltb a b (omega arith), e)
 
 -- ---- the change in used blocks
 

@@ -8,15 +8,14 @@ use mathlib.Core.List.{List, [], _∷_}
 use Prim.Native.Nat.{ℕ, zero, suc, _+_, _-_, _≤_, _<_}
 use native.Mathlib.Decide.{ℕ-discrete, decLt}
 use native.Mathlib.Omega.{arith}
-use lib.ListN.{length, getD, set, drop, replicate, length-set, length-replicate, getD-replicate}
-use lib.Seq.{sets, length-sets, getD-set-other}
+use lib.ListN.{length, replicate, length-replicate, getD-replicate}
+use lib.Seq.{sets, length-sets}
 use borrow.Author.Tests.{ne-eqb}
-use Rattle.rules.specs.Tests.{leading}
 use Rattle.rules.specs.Entries.{FREE, HEAD, TAIL}
-use Rattle.rules.specs.Tables.{entryAt, isFree, isHead, isTail, mayFollow, wellAfter, wellFormed, blockCount, placed, released, extended, used, objects}
+use Rattle.rules.specs.Tables.{entryAt, isFree, mayFollow, wellAfter, wellFormed, blockCount, placed, released, extended, used}
 use Rattle.rules.specs.Meaning.{Extent, Run}
 use Rattle.rules.proofs.Refusals.{both-left, both-right}
-use Rattle.rules.proofs.Lists.{sets-out, sets-in, sets-cons, sets-below, one, count-set, count-all, count-none, count-cons, count-sets-fresh, count-sets-gone}
+use Rattle.rules.proofs.Lists.{sets-out, sets-in, sets-cons, count-all, count-cons, count-sets-fresh, count-sets-gone}
 use Rattle.rules.proofs.Tables.{both-of, may-not-mark, may-of, extent-of, extent-used, extent-before, objects-apart, run-apart, run-next, count-is, entry-inside}
 
 -- ---- entries
@@ -71,27 +70,6 @@ unfolding extended
 extended-out es s b i out = sets-out es s (replicate b TAIL) i FREE (λ l r. out l (omega (arith, length-replicate b TAIL)))
 
 -- entries stay below 4
-
-same-below : (n v : ℕ) → v < 4 → (j : ℕ) → getD (replicate n v) j FREE < 4
-same-below zero v h j = omega arith
-same-below (suc n) v h zero = h
-same-below (suc n) v h (suc j) = same-below n v h j
-
-pub placed-below : (es : List ℕ) (s b : ℕ) → ((i : ℕ) → entryAt es i < 4) → (i : ℕ) → entryAt (placed es s b) i < 4
-unfolding placed
-placed-below es s b small = sets-below es s (HEAD ∷ replicate (b - 1) TAIL) FREE 4 small go
-  where
-    go : (j : ℕ) → getD (HEAD ∷ replicate (b - 1) TAIL) j FREE < 4
-    go zero = omega arith
-    go (suc j) = same-below (b - 1) TAIL (omega arith) j
-
-pub released-below : (es : List ℕ) (s b : ℕ) → ((i : ℕ) → entryAt es i < 4) → (i : ℕ) → entryAt (released es s b) i < 4
-unfolding released
-released-below es s b small = sets-below es s (replicate b FREE) FREE 4 small (same-below b FREE (omega arith))
-
-pub extended-below : (es : List ℕ) (s b : ℕ) → ((i : ℕ) → entryAt es i < 4) → (i : ℕ) → entryAt (extended es s b) i < 4
-unfolding extended
-extended-below es s b small = sets-below es s (replicate b TAIL) FREE 4 small (same-below b TAIL (omega arith))
 
 -- ---- well-formed
 
@@ -177,9 +155,6 @@ free-unused e h = rw h
 other-used : (e : ℕ) → e ≢ FREE → isUsed e ≡ true
 other-used e h = rw (ne-eqb e FREE h)
 
-free-headless : (e : ℕ) → e ≡ FREE → isHead e ≡ false
-free-headless e h = rw h
-
 -- each new block counts as used
 pub placed-used : (es : List ℕ) (s b : ℕ) → 0 < b → Run es b s → used (placed es s b) ≡ used es + b
 unfolding used placed
@@ -199,30 +174,6 @@ extended-used es s b r =
 pub released-used : (es : List ℕ) (s b : ℕ) → s + b ≤ length es → ((j : ℕ) → j < b → entryAt es (s + j) ≢ FREE) → used (released es s b) + b ≡ used es
 unfolding used released
 released-used es s b r taken = count-sets-gone isUsed es s b FREE FREE refl r (λ j h. other-used _ (taken j h))
-
--- a new object is one more
-pub placed-objects : (es : List ℕ) (s b : ℕ) → 0 < b → Run es b s → objects (placed es s b) ≡ objects es + 1
-unfolding objects placed
-placed-objects es s b h r =
-    let l : length (replicate (b - 1) TAIL) ≡ b - 1 = length-replicate (b - 1) TAIL in
-    let rest = count-sets-fresh isHead es s (HEAD ∷ replicate (b - 1) TAIL) FREE (omega (arith, r .room)) (λ j i. free-headless _ (r .free j (omega arith))) in
-    omega (arith, rest, count-cons isHead HEAD (replicate (b - 1) TAIL), count-none isHead (b - 1) TAIL refl)
-
--- TAILs are none
-pub extended-objects : (es : List ℕ) (s b : ℕ) → Run es b s → objects (extended es s b) ≡ objects es
-unfolding objects extended
-extended-objects es s b r =
-    let l : length (replicate b TAIL) ≡ b = length-replicate b TAIL in
-    let rest = count-sets-fresh isHead es s (replicate b TAIL) FREE (omega (arith, r .room)) (λ j i. free-headless _ (r .free j (omega arith))) in
-    omega (arith, rest, count-none isHead b TAIL refl)
-
--- blocks without a HEAD are no object
-pub released-objects : (es : List ℕ) (s b : ℕ) → s + b ≤ length es → ((j : ℕ) → j < b → entryAt es (s + j) ≢ HEAD) → objects (released es s b) ≡ objects es
-unfolding objects released
-released-objects es s b r other =
-    let l : length (replicate b FREE) ≡ b = length-replicate b FREE in
-    let rest = count-sets-fresh isHead es s (replicate b FREE) FREE (omega arith) (λ j i. ne-eqb _ HEAD (other j (omega arith))) in
-    omega (arith, rest, count-none isHead b FREE refl)
 
 -- ---- the blocks of each object
 
@@ -300,17 +251,6 @@ module _ (es : List ℕ) (k : ℕ) (head : entryAt es k ≡ HEAD) where
   pub freed-used : used (released es k (blockCount es k)) + blockCount es k ≡ used es
   freed-used = released-used es k (blockCount es k) (whole .room) (extent-used es k (blockCount es k) whole (λ e. omega arith))
 
-  pub freed-objects : objects (released es k (blockCount es k)) + 1 ≡ objects es
-  unfolding objects released blockCount
-  freed-objects =
-      let n : ℕ = leading isTail (drop (suc k) es) in
-      let r : k < length es = entry-inside es k (λ e. omega arith) in
-      let h : one (isHead (entryAt es k)) ≡ 1 = rw head in
-      let rest = released-objects (set es k FREE) (suc k) n (omega (arith, length-set es k FREE, whole .room))
-      (λ j l. let i : suc k + j ≡ k + suc j = omega arith in
-      rw (i, getD-set-other es k (k + suc j) FREE FREE (λ q. omega arith)) (λ e. omega (arith, e, whole .tail (suc j) (omega arith) (omega arith)))) in
-      omega (arith, h, rest, count-set isHead es k FREE FREE r)
-
   -- another object is outside this one
   pub freed-apart : (o : ℕ) → entryAt es o ≡ HEAD → o ≢ k → k ≤ o → o < k + blockCount es k → ⊥
   freed-apart o other ne l r =
@@ -342,11 +282,6 @@ module _ (es : List ℕ) (k : ℕ) (head : entryAt es k ≡ HEAD) where
     shrunk-used =
         released-used es (k + c) (blockCount es k - c) (omega (arith, whole .room))
         (λ j h. rw (shrunk-at j) (extent-used es k (blockCount es k) whole (λ e. omega arith) (c + j) (omega arith)))
-
-    pub shrunk-objects : objects (released es (k + c) (blockCount es k - c)) ≡ objects es
-    shrunk-objects =
-        released-objects es (k + c) (blockCount es k - c) (omega (arith, whole .room))
-        (λ j h. rw (shrunk-at j) (λ e. omega (arith, e, whole .tail (c + j) (omega arith) (omega arith))))
 
     pub shrunk-count : blockCount (released es (k + c) (blockCount es k - c)) k ≡ c
     shrunk-count =
@@ -435,9 +370,6 @@ module _ (es : List ℕ) (k : ℕ) (head : entryAt es k ≡ HEAD) (c s : ℕ) (s
 
   pub moved-used : used (released (placed es s c) k (blockCount es k)) + blockCount es k ≡ used es + c
   moved-used = rw held-count at (freed-used (placed es s c) k held-head) ∙ placed-used es s c some-block run
-
-  pub moved-objects : objects (released (placed es s c) k (blockCount es k)) ≡ objects es
-  moved-objects = omega (arith, rw held-count at (freed-objects (placed es s c) k held-head), placed-objects es s c some-block run)
 
   -- the new object
   pub moved-head : entryAt (released (placed es s c) k (blockCount es k)) s ≡ HEAD

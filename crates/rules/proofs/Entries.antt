@@ -57,11 +57,6 @@ byteWith-other b j i e hj hi he =
     (four (λ (i : ℕ). i ≢ 3 → (b / 256 * 256 + e * 64 + b % 64) / 4 ^ i % 4 ≡ b / 4 ^ i % 4) (omega arith) (omega arith) (omega arith) (omega arith) i hi)
     j hj
 
-pub byteWith-small : (b j e : ℕ) → j < 4 → e < 4 → b < 256 → byteWith b j e < 256
-unfolding byteWith
-byteWith-small b j e hj he hb =
-    four (λ (j : ℕ). b / 4 ^ (j + 1) * 4 ^ (j + 1) + e * 4 ^ j + b % 4 ^ j < 256) (omega arith) (omega arith) (omega arith) (omega arith) j hj
-
 -- ---- the entries of a table
 
 pub length-entriesOf : (t : List ℕ) → length (entriesOf t) ≡ 4 * length t
@@ -94,14 +89,6 @@ entriesOf-replicate (suc n) =
 
 -- ---- there and back
 
-pub length-tableOf : (es : List ℕ) → length (tableOf es) ≡ length es / 4
-unfolding tableOf
-length-tableOf [] = refl
-length-tableOf (a ∷ []) = refl
-length-tableOf (a ∷ b ∷ []) = refl
-length-tableOf (a ∷ b ∷ c ∷ []) = refl
-length-tableOf (a ∷ b ∷ c ∷ d ∷ es) = omega (arith, length-tableOf es)
-
 pub tableOf-entriesOf : (t : List ℕ) → ((i : ℕ) → getD t i 0 < 256) → tableOf (entriesOf t) ≡ t
 unfolding entriesOf tableOf
 tableOf-entriesOf [] small = refl
@@ -123,16 +110,6 @@ entriesOf-tableOf (a ∷ b ∷ c ∷ []) m small = absurd (omega arith)
 entriesOf-tableOf (a ∷ b ∷ c ∷ d ∷ es) m small =
     let at = entries-byte a b c d (small 0) (small 1) (small 2) (small 3) in
     rw (at 0 (omega arith), at 1 (omega arith), at 2 (omega arith), at 3 (omega arith), entriesOf-tableOf es (omega arith) (λ k. small (suc (suc (suc (suc k))))))
-
--- the table of entries holds bytes
-pub tableOf-small : (es : List ℕ) → ((k : ℕ) → getD es k 0 < 4) → (i : ℕ) → getD (tableOf es) i 0 < 256
-unfolding tableOf
-tableOf-small [] small i = omega arith
-tableOf-small (a ∷ []) small i = omega arith
-tableOf-small (a ∷ b ∷ []) small i = omega arith
-tableOf-small (a ∷ b ∷ c ∷ []) small i = omega arith
-tableOf-small (a ∷ b ∷ c ∷ d ∷ es) small zero = omega (arith, small 0, small 1, small 2, small 3)
-tableOf-small (a ∷ b ∷ c ∷ d ∷ es) small (suc i) = tableOf-small es (λ k. small (suc (suc (suc (suc k))))) i
 
 -- two tables with the same entries are the same
 pub entriesOf-injective : TableIsEntries

@@ -8,7 +8,7 @@ use native.Mathlib.Numerals.{add-one}
 use native.Mathlib.Decide.{ℕ-discrete, decLt}
 use native.Mathlib.Omega.{arith}
 use lib.ListN.{length, getD, set, drop, replicate, length-set, length-replicate, drop-of-length-le}
-use lib.Seq.{sets, drop-cons, getD-set-same, getD-set-other, set-out}
+use lib.Seq.{sets, drop-cons, getD-set-same, getD-set-other}
 use Rattle.rules.specs.Tests.{pick, count, leading, tabulate}
 
 -- ---- a run of stores
@@ -49,16 +49,6 @@ pub sets-cons : (x : ℕ) (l : List ℕ) (at : ℕ) (vs : List ℕ) → sets (x 
 sets-cons x l at [] = refl
 sets-cons x l at (v ∷ vs) = sets-cons x (set l at v) (suc at) vs
 
--- a bound that every element and every stored value has
-pub sets-below : (l : List ℕ) (at : ℕ) (vs : List ℕ) (d m : ℕ) → ((i : ℕ) → getD l i d < m) → ((j : ℕ) → getD vs j d < m) → (i : ℕ) → getD (sets l at vs) i d < m
-sets-below l at [] d m small stored = small
-sets-below l at (v ∷ vs) d m small stored = sets-below (set l at v) (suc at) vs d m (λ i. go i (ℕ-discrete i at) (decLt at (length l))) (λ j. stored (suc j))
-  where
-    go : (i : ℕ) → Dec (i ≡ at) → Dec (at < length l) → getD (set l at v) i d < m
-    go i (yes e) (yes h) = rw (e, getD-set-same l at v d h) (stored 0)
-    go i (yes e) (no h) = rw (set-out l at v (omega arith)) (small i)
-    go i (no e) _ = rw (getD-set-other l at i v d e) (small i)
-
 -- a run of stores in two parts
 pub sets-append : (l : List ℕ) (at : ℕ) (vs ws : List ℕ) → sets l at (vs ++ ws) ≡ sets (sets l at vs) (at + length vs) ws
 sets-append l at [] ws = let e : at + 0 ≡ at = omega arith in rw e
@@ -79,9 +69,6 @@ pub sets-more : (l : List ℕ) (at n v : ℕ) → sets l at (replicate (n + 1) v
 sets-more l at n v =
     let e : length (replicate n v) ≡ n = length-replicate n v in
     rw (add-one, replicate-snoc n v, sets-snoc l at (replicate n v) v, e)
-
-pub sets-none : (l : List ℕ) (at v : ℕ) → sets l at (replicate 0 v) ≡ l
-sets-none l at v = refl
 
 -- ---- how many elements pass a test
 

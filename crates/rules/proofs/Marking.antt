@@ -3,7 +3,7 @@
 -- Assumes nothing.
 use mathlib.Core.Path.{_≡_, refl, ap, sym, _∙_, subst}
 use mathlib.Core.Bool.{Bool, true, false}
-use mathlib.Core.List.{List, [], _∷_, _++_, append-assoc, append-nil, List·Memᴰ, List·Memᴰ·head, List·Memᴰ·tail, List·Memᴰ·cases-cons, List·Memᴰ·not-nil}
+use mathlib.Core.List.{List, [], _∷_, _++_, append-assoc, append-nil, List·Memᴰ, List·Memᴰ·tail, List·Memᴰ·cases-cons, List·Memᴰ·not-nil}
 use mathlib.Core.Logic.{⊎-elim}
 use mathlib.Core.Option.{Option, some, none}
 use Prim.Native.Nat.{ℕ, zero, suc, _+_, _*_, _-_, _≤_, _<_}
@@ -12,7 +12,7 @@ use native.Mathlib.Omega.{arith}
 use lib.Dec.{eqb, ltb}
 use lib.ListN.{length, getD, set, take, drop, length-set, drop-of-length-le}
 use lib.Seq.{drop-cons, take-all, take-suc-set, drop-set-lt}
-use borrow.Author.Tests.{lt-ltb, le-ltb, eq-eqb, ne-eqb, ltb-true, ltb-false, eqb-true, eqb-false}
+use borrow.Author.Tests.{eq-eqb, ne-eqb, ltb-true, ltb-false, eqb-true, eqb-false}
 use Rattle.rules.specs.Tests.{pick}
 use Rattle.rules.specs.Words.{wordAt}
 use Rattle.rules.specs.Entries.{FREE, HEAD, MARK}
@@ -65,25 +65,6 @@ visits c w s = to (leadsTo (c .base) (s .entries) w) refl
     to none q = stays (λ k l h. not-some (sym q ∙ l))
     to (some k) q = at k q (eqb (entryAt (s .entries) k) HEAD) refl (ltb (length (s .stack)) (c .room)) refl
 
--- the same as equations, one for each case
-pub visit-none : (c : Scene) (w : ℕ) (s : State) → leadsTo (c .base) (s .entries) w ≡ none → visit c w s ≡ s
-unfolding visit visitTo
-visit-none c w s q = rw q
-
-pub visit-stays : (c : Scene) (w k : ℕ) (s : State) → leadsTo (c .base) (s .entries) w ≡ some k → (entryAt (s .entries) k ≡ HEAD → ⊥) → visit c w s ≡ s
-unfolding visit visitTo
-visit-stays c w k s q h = rw (q, ne-eqb _ _ h)
-
-pub visit-pushes : (c : Scene) (w k : ℕ) (s : State) → leadsTo (c .base) (s .entries) w ≡ some k → entryAt (s .entries) k ≡ HEAD → length (s .stack) < c .room
-    → visit c w s ≡ state (set (s .entries) k MARK) (k ∷ s .stack) (s .overflow)
-unfolding visit visitTo pushed
-visit-pushes c w k s q h r = rw (q, eq-eqb _ _ h, lt-ltb (length (s .stack)) (c .room) r)
-
-pub visit-loses : (c : Scene) (w k : ℕ) (s : State) → leadsTo (c .base) (s .entries) w ≡ some k → entryAt (s .entries) k ≡ HEAD → c .room ≤ length (s .stack)
-    → visit c w s ≡ state (set (s .entries) k MARK) (s .stack) true
-unfolding visit visitTo pushed
-visit-loses c w k s q h r = rw (q, eq-eqb _ _ h, le-ltb (length (s .stack)) (c .room) r)
-
 -- What a root does. Nothing, if it leads to no HEAD; else that becomes MARK and is traced.
 pub data Rooted (c : Scene) (w : ℕ) (s : State) : State → Type 0 where
   idle : ((k : ℕ) → leadsTo (c .base) (s .entries) w ≡ some k → entryAt (s .entries) k ≡ HEAD → ⊥) → Rooted c w s s
@@ -101,19 +82,6 @@ rooted c w s = to (leadsTo (c .base) (s .entries) w) refl
     to : (o : Option ℕ) → leadsTo (c .base) (s .entries) w ≡ o → Rooted c w s (rootTo c s o)
     to none q = idle (λ k l h. not-some (sym q ∙ l))
     to (some k) q = at k q (eqb (entryAt (s .entries) k) HEAD) refl
-
-pub root-none : (c : Scene) (w : ℕ) (s : State) → leadsTo (c .base) (s .entries) w ≡ none → markRoot c w s ≡ s
-unfolding markRoot rootTo
-root-none c w s q = rw q
-
-pub root-idle : (c : Scene) (w k : ℕ) (s : State) → leadsTo (c .base) (s .entries) w ≡ some k → (entryAt (s .entries) k ≡ HEAD → ⊥) → markRoot c w s ≡ s
-unfolding markRoot rootTo
-root-idle c w k s q h = rw (q, ne-eqb _ _ h)
-
-pub root-takes : (c : Scene) (w k : ℕ) (s : State) → leadsTo (c .base) (s .entries) w ≡ some k → entryAt (s .entries) k ≡ HEAD
-    → markRoot c w s ≡ trace c k (marked k s)
-unfolding markRoot rootTo
-root-takes c w k s q h = rw (q, eq-eqb _ _ h)
 
 -- What a pass does at a block. Nothing at what is no MARK; else it is traced.
 pub data Passed (c : Scene) (k : ℕ) (s : State) : State → Type 0 where
@@ -373,15 +341,6 @@ module _ {c : Scene} {n : ℕ} where
   pub sane-pop : {es : List ℕ} {k : ℕ} {st : List ℕ} {o : Bool} → Sane c n (state es (k ∷ st) o) → Sane c n (state es st o)
   sane-pop g = let f = g .fits in record { long = g .long; below = λ i m. g .below i (List·Memᴰ·tail m); fits = omega arith }
 
-  pub sane-top : {es : List ℕ} {k : ℕ} {st : List ℕ} {o : Bool} → Sane c n (state es (k ∷ st) o) → k < n
-  sane-top {k = k} g = g .below k (List·Memᴰ·head refl)
-
-  pub sane-flag : {es st : List ℕ} {o : Bool} (o′ : Bool) → Sane c n (state es st o) → Sane c n (state es st o′)
-  sane-flag o′ g = record { long = g .long; below = g .below; fits = g .fits }
-
-  pub sane-mark : (k : ℕ) (s : State) → Sane c n s → Sane c n (marked k s)
-  sane-mark k s g = record { long = simp length-set (g .long); below = g .below; fits = g .fits }
-
   sane-visits : {w : ℕ} {s z : State} → Visits c w s z → Sane c n s → Sane c n z
   sane-visits (stays _) g = g
   sane-visits {s = s} (pushes k q h r) g =
@@ -404,39 +363,6 @@ module _ {c : Scene} {n : ℕ} where
   unfolding walk
   sane-walk k s g = sane-words (4 * k) (4 * blockCount (s .entries) k) s g
 
-  pub sane-drain : (s : State) → Sane c n s → Sane c n (drain c s)
-  sane-drain s g = drain-keeps c (Sane c n) (λ es k st o q. sane-walk k (state es st o) (sane-pop q)) s g
-
-  pub sane-trace : (k : ℕ) (s : State) → Sane c n s → Sane c n (trace c k s)
-  unfolding trace
-  sane-trace k s g = sane-drain (walk c k s) (sane-walk k s g)
-
-  sane-rooted : {w : ℕ} {s z : State} → Rooted c w s z → Sane c n s → Sane c n z
-  sane-rooted (idle _) g = g
-  sane-rooted {s = s} (takes k q h) g = sane-trace k (marked k s) (sane-mark k s g)
-
-  pub sane-root : (w : ℕ) (s : State) → Sane c n s → Sane c n (markRoot c w s)
-  sane-root w s g = sane-rooted (rooted c w s) g
-
-  pub sane-roots : (ws : List ℕ) (s : State) → Sane c n s → Sane c n (markRoots c ws s)
-  unfolding markRoots
-  sane-roots [] s g = g
-  sane-roots (w ∷ ws) s g = sane-roots ws (markRoot c w s) (sane-root w s g)
-
-  sane-passed : {k : ℕ} {s z : State} → Passed c k s z → Sane c n s → Sane c n z
-  sane-passed (skips _) g = g
-  sane-passed {k = k} {s = s} (walks h) g = sane-trace k s g
-
-  pub sane-block : (k : ℕ) (s : State) → Sane c n s → Sane c n (passBlock c k s)
-  sane-block k s g = sane-passed (passed c k s) g
-
-  pub sane-passes : (k m : ℕ) (s : State) → Sane c n s → Sane c n (passFrom c k m s)
-  sane-passes k m s g = pass-keeps c (λ k. Sane c n) (λ k z q. sane-block k z q) k m s g
-
-  pub sane-pass : (s : State) → Sane c n s → Sane c n (pass c s)
-  unfolding pass
-  sane-pass s g = sane-passes 0 (length (s .entries)) (state (s .entries) (s .stack) false) (sane-flag false g)
-
 -- Turns and ends of the loops, for what is left to do. `c′` is the scene as it is at the turn.
 pub words-turn : (c : Scene) (first n : ℕ) (s : State) {c′ : Scene} {s′ z : State} → 0 < n → c′ ≡ c → s′ ≡ visit c′ (wordAt (c′ .pool) (first + (n - 1))) s
     → walkWords c first n s ≡ z → walkWords c first (n - 1) s′ ≡ z
@@ -447,10 +373,6 @@ words-turn c first (suc n) s h e q i = let m : suc n - 1 ≡ n = omega arith in 
 pub words-end : (c : Scene) (first n : ℕ) (s : State) {z : State} → n ≤ 0 → walkWords c first n s ≡ z → s ≡ z
 unfolding walkWords
 words-end c first n s h i = let m : n ≡ 0 = omega arith in rw m at i
-
-pub drain-turn : (c : Scene) (es : List ℕ) (k : ℕ) (st : List ℕ) (o : Bool) {c′ : Scene} {s′ z : State} → c′ ≡ c → s′ ≡ walk c′ k (state es st o)
-    → drain c (state es (k ∷ st) o) ≡ z → drain c s′ ≡ z
-drain-turn c es k st o e q i = rw (q, e) (sym (drain-pop c es k st o) ∙ i)
 
 pub drain-end : (c : Scene) (es : List ℕ) (o : Bool) {z : State} → drain c (state es [] o) ≡ z → state es [] o ≡ z
 drain-end c es o i = sym (drain-nil c es o) ∙ i

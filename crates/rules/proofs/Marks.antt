@@ -5,7 +5,7 @@ use mathlib.Core.Logic.{_⊎_, inl, inr, ⊎-elim}
 use mathlib.Core.Bool.{Bool, true, false}
 use mathlib.Core.List.{List, [], _∷_}
 use mathlib.Core.Option.{Option, some, none}
-use Prim.Native.Nat.{ℕ, suc, _+_, _<_}
+use Prim.Native.Nat.{ℕ, suc, _+_}
 use native.Mathlib.Omega.{arith}
 use native.Mathlib.Decide.{ℕ-discrete}
 use lib.Dec.{eqb}
@@ -16,7 +16,6 @@ use Rattle.rules.specs.Tests.{pick, either, leading}
 use Rattle.rules.specs.Entries.{FREE, HEAD, TAIL, MARK}
 use Rattle.rules.specs.Tables.{entryAt, isTail, blockCount}
 use Rattle.rules.specs.Pointers.{targetOf, headsObject, headAt, leadsTo}
-use Rattle.rules.proofs.Tables.{entry-inside}
 use Rattle.rules.proofs.Marking.{head-inside}
 
 -- the entries es are es₀ with some HEADs made MARK
@@ -107,6 +106,3 @@ leads-head base es w k q = go (targetOf base (length es) w) q
     go : (o : Option ℕ) → headAt es o ≡ some k → (entryAt es k ≡ HEAD) ⊎ (entryAt es k ≡ MARK)
     go none l = let z : _≡_ {A = ℕ} 0 1 = cc in absurd (omega arith)
     go (some j) l = at j (eqb (entryAt es j) HEAD) refl (eqb (entryAt es j) MARK) refl l
-
-pub leads-inside : (base : ℕ) (es : List ℕ) (w k : ℕ) → leadsTo base es w ≡ some k → k < length es
-leads-inside base es w k q = entry-inside es k (λ h. ⊎-elim (λ p. omega arith) (λ p. omega arith) (leads-head base es w k q))

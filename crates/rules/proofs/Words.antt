@@ -3,14 +3,14 @@
 use mathlib.Core.Path.{_≡_, refl}
 use mathlib.Core.Logic.{_≢_}
 use mathlib.Core.List.{List, [], _∷_}
-use Prim.Native.Nat.{ℕ, zero, suc, _+_, _*_, _/_, _%_, _^_, _≤_, _<_}
+use Prim.Native.Nat.{ℕ, _+_, _*_, _/_, _%_, _^_, _≤_, _<_}
 use native.Mathlib.Nat.{div-div-eq-div-mul}
 use native.Mathlib.Decide.{decLt}
 use native.Mathlib.Omega.{arith}
 use lib.ListN.{length, getD}
 use lib.Seq.{length-sets}
 use Rattle.rules.specs.Words.{number, bytesOf, wordAt, withWord, wordsOf}
-use Rattle.rules.proofs.Lists.{sets-before, sets-after, sets-in, sets-below, length-tabulate, getD-tabulate}
+use Rattle.rules.proofs.Lists.{sets-before, sets-after, sets-in, length-tabulate, getD-tabulate}
 
 -- ---- a number and its bytes
 
@@ -47,25 +47,7 @@ pub length-bytesOf : (w : ℕ) → length (bytesOf w) ≡ 4
 unfolding bytesOf
 length-bytesOf w = refl
 
-pub bytesOf-lt : (w i : ℕ) → getD (bytesOf w) i 0 < 256
-unfolding bytesOf
-bytesOf-lt w zero = omega arith
-bytesOf-lt w (suc zero) = omega arith
-bytesOf-lt w (suc (suc zero)) = omega arith
-bytesOf-lt w (suc (suc (suc zero))) = omega arith
-bytesOf-lt w (suc (suc (suc (suc i)))) = omega arith
-
-pub number-lt : (a b c d : ℕ) → a < 256 → b < 256 → c < 256 → d < 256 → number a b c d < 2 ^ 32
-unfolding number
-number-lt a b c d ha hb hc hd = omega arith
-
 -- ---- a word of a list of bytes
-
-pub wordAt-lt : (bs : List ℕ) (i : ℕ) → ((k : ℕ) → getD bs k 0 < 256) → wordAt bs i < 2 ^ 32
-unfolding wordAt
-wordAt-lt bs i small =
-    number-lt (getD bs (4 * i) 0) (getD bs (4 * i + 1) 0) (getD bs (4 * i + 2) 0) (getD bs (4 * i + 3) 0)
-    (small (4 * i)) (small (4 * i + 1)) (small (4 * i + 2)) (small (4 * i + 3))
 
 -- a word depends on its four bytes alone
 pub wordAt-same : (bs cs : List ℕ) (i j : ℕ) → ((k : ℕ) → k < 4 → getD bs (4 * i + k) 0 ≡ getD cs (4 * j + k) 0) → wordAt bs i ≡ wordAt cs j
@@ -89,11 +71,6 @@ getD-wordsOf bs i h = getD-tabulate (length bs / 4) (wordAt bs) i 0 (omega arith
 pub length-withWord : (bs : List ℕ) (i w : ℕ) → length (withWord bs i w) ≡ length bs
 unfolding withWord
 length-withWord bs i w = length-sets bs (4 * i) (bytesOf w)
-
--- bytes stay bytes
-pub withWord-lt : (bs : List ℕ) (i w : ℕ) → ((k : ℕ) → getD bs k 0 < 256) → (k : ℕ) → getD (withWord bs i w) k 0 < 256
-unfolding withWord
-withWord-lt bs i w small = sets-below bs (4 * i) (bytesOf w) 0 256 small (λ j. bytesOf-lt w j)
 
 -- a byte of the word
 pub withWord-in : (bs : List ℕ) (i w k : ℕ) → 4 * i + 4 ≤ length bs → k < 4 → getD (withWord bs i w) (4 * i + k) 0 ≡ getD (bytesOf w) k 0
