@@ -49,10 +49,8 @@ fn sweep_entries(ones: u64, b: u64, keeping: u64) -> Lanes
     let marks = low & high;
     let tails = high - marks;
     let sum = 3 * (ones - (low - marks)) + marks + keeping;
-    Lanes {
-        entries: marks + 2 * (tails - (tails & sum)),
-        sum,
-    }
+    let entries = marks + 2 * (tails - (tails & sum));
+    Lanes { entries, sum }
 }
 
 // A HEAD and its TAILs become FREE, a MARK becomes HEAD and keeps its TAILs.

@@ -27,14 +27,14 @@ add-sum c = record { fits = omega (arith, c .pre .0, and-le-r (c .args .b / 2) (
 add-sum-2 : tie.Need-add-sum-2
 add-sum-2 c = record { fits = omega (arith, c .pre .0, c .pre .1, and-le-r (c .args .b / 2) (c .args .ones), and-le-r (low (c .args .ones) (c .args .b)) (high (c .args .ones) (c .args .b))) }
 
-sub-t12 : tie.Need-sub-t12
-sub-t12 c = and-le-l (tails (c .args .ones) (c .args .b)) _
+sub-entries : tie.Need-sub-entries
+sub-entries c = and-le-l (tails (c .args .ones) (c .args .b)) _
 
-mul-t11 : tie.Need-mul-t11
-mul-t11 c = record { fits = omega (arith, c .pre .0, and-le-r (c .args .b / 2) (c .args .ones)) }
+mul-entries : tie.Need-mul-entries
+mul-entries c = record { fits = omega (arith, c .pre .0, and-le-r (c .args .b / 2) (c .args .ones)) }
 
-add-t10 : tie.Need-add-t10
-add-t10 c = record { fits = omega (arith, c .pre .0, and-le-r (c .args .b / 2) (c .args .ones), and-le-r (low (c .args .ones) (c .args .b)) (high (c .args .ones) (c .args .b))) }
+add-entries : tie.Need-add-entries
+add-entries c = record { fits = omega (arith, c .pre .0, and-le-r (c .args .b / 2) (c .args .ones), and-le-r (low (c .args .ones) (c .args .b)) (high (c .args .ones) (c .args .b))) }
 
 returns : tie.Need-returns
 unfolding carried swept
@@ -50,7 +50,7 @@ sweep-entries-spec =
     mul-sum
     add-sum
     add-sum-2
-    sub-t12
-    mul-t11
-    add-t10
+    sub-entries
+    mul-entries
+    add-entries
     returns)
