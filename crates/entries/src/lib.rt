@@ -133,7 +133,7 @@ fn may_start_in_16(table: &[u8], i: usize, count: usize) -> u8
     any
 }
 
-// The first byte from byte i on, by sixteens, with no run of count blocks starting before it.
+// A byte from byte i on with no run of count blocks starting before it, found sixteen bytes at a time.
 fn pass_by_16(table: &[u8], i: usize, count: usize) -> usize
     requires { ⌜ (i ≤ length (now table)) × (0 < count) ⌝ }
     ensures { λ r. ⌜ (r ≤ length (now (table .entry))) × ((i ≤ r) × NoStart (entriesOf (now (table .entry))) count (4 * i) (4 * r)) ⌝ }
@@ -149,7 +149,7 @@ fn pass_by_16(table: &[u8], i: usize, count: usize) -> usize
     at
 }
 
-// A block from `from` on with no run of count blocks starting before it. Whole bytes are passed over, so a block inside a byte is itself the answer.
+// A block from `from` on with no run of count blocks starting before it. Only whole bytes are passed: a block inside a byte is its own answer.
 pub fn skip(table: &[u8], from: Block, count: usize) -> Block
     requires { ⌜ (length (now table) ≤ 1024) × ((from .0 ≤ length (entriesOf (now table))) × (0 < count)) ⌝ }
     ensures { λ r. ⌜ (r .0 ≤ length (entriesOf (now (table .entry)))) × ((from .0 ≤ r .0) × NoStart (entriesOf (now (table .entry))) count (from .0) (r .0)) ⌝ }
@@ -159,7 +159,14 @@ pub fn skip(table: &[u8], from: Block, count: usize) -> Block
         return from;
     }
     let n = table.len();
-    let mut i = pass_by_16(table, first / 4, count);
+    let byte = first / 4;
+    if n - byte < 2 {
+        return from;
+    }
+    if may_start(table, byte, count) != 0 {
+        return from;
+    }
+    let mut i = pass_by_16(table, byte + 1, count);
     while 1 < n - i {
         if may_start(table, i, count) != 0 {
             return Block(4 * i);

@@ -1,6 +1,6 @@
--- `skip`: no run starts from `from` to before byte i. Where `from` is at a byte's border, so are the sixteens passed before the loop.
+-- `skip`: no run starts from `from` to before byte i. The first byte is passed alone, those after it by sixteens and then one by one.
 -- Assumes nothing.
-use Prim.Native.Nat.{_+_, _-_, _*_, _≤_}
+use Prim.Native.Nat.{_+_, _-_, _*_, _/_, _≤_}
 use native.Mathlib.Omega.{arith}
 use lib.ListN.{length}
 use borrow.Author.Needs.{needs}
@@ -12,35 +12,58 @@ use Rattle.entries.proofs.skip.Statement.{statement}
 use Rattle.entries.proofs.skip.Tie as tie
 
 abbrev Inv-loop : tie.InvT-loop
-Inv-loop table count first n i₀ i = (i ≤ length table) × ((first ≤ 4 * i) × NoStart (entriesOf table) count first (4 * i))
+Inv-loop table count first n byte i₀ i = (i ≤ length table) × ((first ≤ 4 * i) × NoStart (entriesOf table) count first (4 * i))
 
 abbrev μ-loop : tie.MeasureT-loop
-μ-loop table count first n i₀ i = length table - i
+μ-loop table count first n byte i₀ i = length table - i
 
 returns : tie.Need-returns Inv-loop μ-loop
 returns c = (search needs, (search needs, λ q l h r. omega arith))
 
-pass-by-16-requires : tie.Need-pass-by-16-requires Inv-loop μ-loop
-pass-by-16-requires c κs = omega (arith, length-entriesOf (c .before .before .args .table .now))
+sub-if2 : tie.Need-sub-if2 Inv-loop μ-loop
+sub-if2 c = omega (arith, length-entriesOf (c .before .before .args .table .now))
 
-loop-holds : tie.Need-loop-holds Inv-loop μ-loop
-loop-holds c =
-    let r = c .pass-by-16 .ensures in
-    (r .0, (omega arith, λ q l h. r .1 .1 q (omega arith) h))
-
-sub-loop : tie.Need-sub-loop Inv-loop μ-loop
-sub-loop c = search needs
+returns-2 : tie.Need-returns-2 Inv-loop μ-loop
+returns-2 c = (search needs, (search needs, λ q l h r. omega arith))
 
 may-start-requires : tie.Need-may-start-requires Inv-loop μ-loop
 may-start-requires c κs = search needs
 
-mul-t12 : tie.Need-mul-t12 Inv-loop μ-loop
-mul-t12 c = search needs
+returns-3 : tie.Need-returns-3 Inv-loop μ-loop
+returns-3 c = (search needs, (search needs, λ q l h r. omega arith))
 
-returns-2 : tie.Need-returns-2 Inv-loop μ-loop
-returns-2 c =
+add-pass-by-16 : tie.Need-add-pass-by-16 Inv-loop μ-loop
+add-pass-by-16 c = search needs
+
+pass-by-16-requires : tie.Need-pass-by-16-requires Inv-loop μ-loop
+pass-by-16-requires c κs = search needs
+
+loop-holds : tie.Need-loop-holds Inv-loop μ-loop
+loop-holds c =
+    let a = c .before .before .before .before .before .before .args in
+    let r = c .pass-by-16 .ensures in
+    let byte = a .from .0 / 4 in (
+      r .0,
+      (
+        omega arith,
+        no-start-join (entriesOf (a .table .now)) (a .count) (a .from .0) (4 * (byte + 1)) (4 * c .pass-by-16 .result)
+            (λ q h k. c .before .before .may-start .ensures (c .before .if3 .left) q (omega arith) (omega arith)) (r .1 .1),
+      ),
+    )
+
+sub-loop : tie.Need-sub-loop Inv-loop μ-loop
+sub-loop c = search needs
+
+may-start-requires-2 : tie.Need-may-start-requires-2 Inv-loop μ-loop
+may-start-requires-2 c κs = search needs
+
+mul-t14 : tie.Need-mul-t14 Inv-loop μ-loop
+mul-t14 c = search needs
+
+returns-4 : tie.Need-returns-4 Inv-loop μ-loop
+returns-4 c =
     let l = c .before .before .before .loop in
-    (omega (arith, length-entriesOf (c .before .before .before .before .before .before .before .args .table .now)), l .inv .1)
+    (omega (arith, length-entriesOf (c .before .before .before .before .before .before .before .before .before .before .args .table .now)), l .inv .1)
 
 add-i : tie.Need-add-i Inv-loop μ-loop
 add-i c = search needs
@@ -50,23 +73,23 @@ loop-less c = search needs
 
 loop-again : tie.Need-loop-again Inv-loop μ-loop
 loop-again c =
-    let a = c .before .before .before .before .before .before .before .args in
+    let a = c .before .before .before .before .before .before .before .before .before .before .args in
     let l = c .before .before .before .loop in (
       omega arith,
       (
         omega arith,
         no-start-join (entriesOf (a .table .now)) (a .count) (a .from .0) (4 * l .i) (4 * (l .i + 1)) (l .inv .1 .1)
-            (λ q h k. c .before .may-start .ensures (c .if2 .left) q h (omega arith)),
+            (λ q h k. c .before .may-start2 .ensures (c .if4 .left) q h (omega arith)),
       ),
     )
 
-mul-t7 : tie.Need-mul-t7 Inv-loop μ-loop
-mul-t7 c = search needs
+mul-t8 : tie.Need-mul-t8 Inv-loop μ-loop
+mul-t8 c = search needs
 
-returns-3 : tie.Need-returns-3 Inv-loop μ-loop
-returns-3 c =
+returns-5 : tie.Need-returns-5 Inv-loop μ-loop
+returns-5 c =
     let l = c .before .loop in
-    (omega (arith, length-entriesOf (c .before .before .before .before .before .args .table .now)), l .inv .1)
+    (omega (arith, length-entriesOf (c .before .before .before .before .before .before .before .before .args .table .now)), l .inv .1)
 
 pub skip-spec : {M : Type 1} → statement M
 skip-spec =
@@ -75,14 +98,19 @@ skip-spec =
     Inv-loop
     μ-loop
     returns
+    sub-if2
+    returns-2
+    may-start-requires
+    returns-3
+    add-pass-by-16
     pass-by-16-requires
     loop-holds
     sub-loop
-    may-start-requires
-    mul-t12
-    returns-2
+    may-start-requires-2
+    mul-t14
+    returns-4
     add-i
     loop-less
     loop-again
-    mul-t7
-    returns-3)
+    mul-t8
+    returns-5)
