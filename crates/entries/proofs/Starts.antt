@@ -1,14 +1,13 @@
 -- What the free bits of a byte and the next say of the runs that start in it. Two tests, which antt computes: the masks pick out the
 -- FREE entries of each byte, and bits that are all clear leave no place for a run's first blocks.
 -- Assumes nothing.
-use mathlib.Core.Path.{_≡_, refl, sym, ap, _∙_}
-use mathlib.Core.Logic.{_≢_}
+use mathlib.Core.Path.{_≡_, ap, _∙_}
 use mathlib.Core.Bool.{Bool, true, false, not}
 use mathlib.Core.List.{List}
 use Prim.Native.Nat.{ℕ, zero, suc, _+_, _-_, _*_, _/_, _%_, _^_, _≤_, _<_}
 use native.Mathlib.Decide.{decLt}
 use native.Mathlib.Omega.{arith}
-use lib.Dec.{T, eqb, ltb, eqb→eq, ltb→lt}
+use lib.Dec.{T, eqb, ltb, eqb→eq}
 use lib.ListN.{getD}
 use lib.Bits.{bitAnd, bitOr}
 use borrow.Author.Tests.{eq-eqb, lt-ltb, le-ltb}
@@ -25,14 +24,15 @@ use Rattle.entries.specs.Starts.{NoStart}
 abbrev pub freeBits : ℕ → ℕ
 freeBits b = bitAnd (255 - bitOr b (b / 2)) 85
 
--- what is left of the free bits f of a byte, with those of the next byte, g, and what spares the second and the third block of a run
-abbrev pub left : ℕ → ℕ → ℕ → ℕ → ℕ
-left f g second third =
-    bitAnd (bitAnd f (bitOr (bitOr (f / 4) (g * 64 % 256)) second)) (bitOr (bitOr (f / 16) (g * 16 % 256)) third)
+-- what is left of the free bits f of a byte, with those of the next byte, g, and what spares the blocks of a run after its first
+abbrev pub left : ℕ → ℕ → (ℕ → ℕ) → ℕ
+left f g spares =
+    bitAnd (bitAnd (bitAnd (bitAnd f (bitOr (bitOr (f / 4) (g * 64 % 256)) (spares 1))) (bitOr (bitOr (f / 16) (g * 16 % 256)) (spares 2)))
+    (bitOr (bitOr (f / 64) (g * 4 % 256)) (spares 3))) (bitOr g (spares 4))
 
 -- what spares block i of a run of count blocks
 abbrev pub sparedOf : ℕ → ℕ → ℕ
-sparedOf i count = pick (ltb i count) 0 255
+sparedOf count i = pick (ltb i count) 0 255
 
 -- ---- one byte: the four tests for FREE as one number below 16
 
@@ -87,9 +87,9 @@ row x y c j = allBelow (suc c) (λ (d : ℕ). eqb (flag x y (j + d)) 1)
 -- if nothing is left, there is no such row
 left-right : ℕ → ℕ → ℕ → Bool
 left-right x y c =
-    either (not (eqb (left (spread x) (spread y) (sparedOf 1 (suc c)) (sparedOf 2 (suc c))) 0)) (allBelow 4 (λ (j : ℕ). not (row x y c j)))
+    either (not (eqb (left (spread x) (spread y) (sparedOf (suc c))) 0)) (allBelow 4 (λ (j : ℕ). not (row x y c j)))
 
-all-left : T (allBelow 16 (λ (x : ℕ). allBelow 16 (λ (y : ℕ). allBelow 3 (left-right x y))))
+all-left : T (allBelow 16 (λ (x : ℕ). allBelow 16 (λ (y : ℕ). allBelow 5 (left-right x y))))
 unfolding left-right
 all-left = tt
 
@@ -110,12 +110,12 @@ not-T : (a : Bool) → T (not a) → T a → ⊥
 not-T true t u = t
 not-T false t u = u
 
-no-row : (x y c j : ℕ) → x < 16 → y < 16 → c < 3 → j < 4 → left (spread x) (spread y) (sparedOf 1 (suc c)) (sparedOf 2 (suc c)) ≡ 0
+no-row : (x y c j : ℕ) → x < 16 → y < 16 → c < 5 → j < 4 → left (spread x) (spread y) (sparedOf (suc c)) ≡ 0
     → ((d : ℕ) → d ≤ c → flag x y (j + d) ≡ 1) → ⊥
 unfolding left-right
 no-row x y c j hx hy hc hj none all =
-    let t = below 3 (left-right x y) (below 16 (λ (y : ℕ). allBelow 3 (left-right x y)) (below 16 (λ (x : ℕ). allBelow 16 (λ (y : ℕ). allBelow 3 (left-right x y))) all-left x hx) y hy) c hc in
-    let l : ℕ = left (spread x) (spread y) (sparedOf 1 (suc c)) (sparedOf 2 (suc c)) in
+    let t = below 5 (left-right x y) (below 16 (λ (y : ℕ). allBelow 5 (left-right x y)) (below 16 (λ (x : ℕ). allBelow 16 (λ (y : ℕ). allBelow 5 (left-right x y))) all-left x hx) y hy) c hc in
+    let l : ℕ = left (spread x) (spread y) (sparedOf (suc c)) in
     let e : not (eqb l 0) ≡ false = ap not (eq-eqb l 0 none) in
     not-T (row x y c j)
     (below 4 (λ (j : ℕ). not (row x y c j)) (either-T (not (eqb l 0)) (allBelow 4 (λ (j : ℕ). not (row x y c j))) e t) j hj)
@@ -138,8 +138,8 @@ flag-at t i k small h free = go (decLt k 4)
         rw (le-ltb k 4 (omega arith)) (quad-at (getD t (i + 1) 0) (k - 4) (small (i + 1)) (omega arith) (rw (getD-entriesOf t (4 * i + k), d, m) at free))
 
 -- a run of more than c blocks has no place in byte i
-no-place : (t : List ℕ) (i count c q : ℕ) → ((i : ℕ) → getD t i 0 < 256) → c < 3 → c < count → 4 * i ≤ q → q < 4 * i + 4
-    → left (freeBits (getD t i 0)) (freeBits (getD t (i + 1) 0)) (sparedOf 1 (suc c)) (sparedOf 2 (suc c)) ≡ 0 → Run (entriesOf t) count q → ⊥
+no-place : (t : List ℕ) (i count c q : ℕ) → ((i : ℕ) → getD t i 0 < 256) → c < 5 → c < count → 4 * i ≤ q → q < 4 * i + 4
+    → left (freeBits (getD t i 0)) (freeBits (getD t (i + 1) 0)) (sparedOf (suc c)) ≡ 0 → Run (entriesOf t) count q → ⊥
 no-place t i count c q small hc l h k none r =
     no-row (quad (getD t i 0)) (quad (getD t (i + 1) 0)) c (q - 4 * i) (quad-lt (getD t i 0)) (quad-lt (getD t (i + 1) 0)) hc (omega arith)
     (rw (free-bits (getD t i 0) (small i), free-bits (getD t (i + 1) 0) (small (i + 1))) at none)
@@ -147,13 +147,16 @@ no-place t i count c q small hc l h k none r =
     flag-at t i (q - 4 * i + d) small (omega arith) (rw e at (r .free d (omega arith))))
 
 pub no-start : (t : List ℕ) (i count : ℕ) → ((i : ℕ) → getD t i 0 < 256) → 0 < count
-    → left (freeBits (getD t i 0)) (freeBits (getD t (i + 1) 0)) (sparedOf 1 count) (sparedOf 2 count) ≡ 0 → NoStart (entriesOf t) count (4 * i) (4 * i + 4)
-no-start t i count small h none q l k r = go (decLt 1 count) (decLt 2 count)
+    → left (freeBits (getD t i 0)) (freeBits (getD t (i + 1) 0)) (sparedOf count) ≡ 0 → NoStart (entriesOf t) count (4 * i) (4 * i + 4)
+no-start t i count small h none q l k r = go (decLt count 5)
   where
-    go : Dec (1 < count) → Dec (2 < count) → ⊥
-    go (yes m) (yes n) = no-place t i count 2 q small (omega arith) (omega arith) l k (rw (lt-ltb 1 count m, lt-ltb 2 count n) at none) r
-    go (yes m) (no n) = no-place t i count 1 q small (omega arith) (omega arith) l k (rw (lt-ltb 1 count m, le-ltb 2 count (omega arith)) at none) r
-    go (no m) _ = no-place t i count 0 q small (omega arith) (omega arith) l k (rw (le-ltb 1 count (omega arith), le-ltb 2 count (omega arith)) at none) r
+    go : Dec (count < 5) → ⊥
+    go (yes m) =
+        let e : suc (count - 1) ≡ count = omega arith in
+        no-place t i count (count - 1) q small (omega arith) (omega arith) l k (rw e none) r
+    go (no m) =
+        no-place t i count 4 q small (omega arith) (omega arith) l k
+        (rw (lt-ltb 1 count (omega arith), lt-ltb 2 count (omega arith), lt-ltb 3 count (omega arith), lt-ltb 4 count (omega arith)) at none) r
 
 -- no start in two parts that join is no start in both
 pub no-start-join : (es : List ℕ) (b s m e : ℕ) → NoStart es b s m → NoStart es b m e → NoStart es b s e

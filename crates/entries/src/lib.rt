@@ -105,7 +105,7 @@ fn spared(i: usize, count: usize) -> u8
     255
 }
 
-// Zero if no run of count blocks starts in byte i. Up to three blocks of a run are looked at, which lie in this byte and the next.
+// Zero if no run of count blocks starts in byte i. Up to five blocks of a run are looked at, which lie in this byte and the next.
 fn may_start(table: &[u8], i: usize, count: usize) -> u8
     requires { ⌜ (i + 1 < length (now table)) × (0 < count) ⌝ }
     ensures { λ r. ⌜ (r ≡ 0 → NoStart (entriesOf (now (table .entry))) count (4 * i) (4 * i + 4)) ⌝ }
@@ -117,6 +117,8 @@ fn may_start(table: &[u8], i: usize, count: usize) -> u8
     free
         & ((free >> 2) | (next << 6) | spared(1, count))
         & ((free >> 4) | (next << 4) | spared(2, count))
+        & ((free >> 6) | (next << 2) | spared(3, count))
+        & (next | spared(4, count))
 }
 
 // Zero if no run of count blocks starts in the 16 bytes from byte i on. No early exit.

@@ -61,11 +61,7 @@ pub fn first_run(table: &[u8], count: usize) -> Found
         let mut i = 0;
         while i < count {
             if entries::entry(table, Block(start + i)) != entries::FREE {
-                if i == 0 {
-                    start = entries::skip(table, Block(start + 1), count).0;
-                    continue 'starts;
-                }
-                start = start + i + 1;
+                start = entries::skip(table, Block(start + i + 1), count).0;
                 continue 'starts;
             }
             i += 1;

@@ -20,12 +20,17 @@ spared-requires c κs = search needs
 spared-requires-2 : tie.Need-spared-requires-2
 spared-requires-2 c κs = search needs
 
+spared-requires-3 : tie.Need-spared-requires-3
+spared-requires-3 c κs = search needs
+
+spared-requires-4 : tie.Need-spared-requires-4
+spared-requires-4 c κs = search needs
+
 returns : tie.Need-returns
 returns c =
-    let s = c .before .before .before .before .before in
-    let t = s .args .table .now in
-    rw (c .before .spared .ensures, c .spared2 .ensures)
-    (no-start t (s .args .i) (s .args .count) (λ k. c .before .before .shared-slice-known3 .given k .fits) (s .pre .1))
+    let s = c .before .before .before .before .before .before .before in
+    rw (c .before .before .before .spared .ensures, c .before .before .spared2 .ensures, c .before .spared3 .ensures, c .spared4 .ensures)
+    (no-start (s .args .table .now) (s .args .i) (s .args .count) (λ k. c .before .before .before .before .shared-slice-known3 .given k .fits) (s .pre .1))
 
 pub may-start-spec : {M : Type 1} → statement M
 may-start-spec =
@@ -36,4 +41,6 @@ may-start-spec =
     shared-slice-read-b
     spared-requires
     spared-requires-2
+    spared-requires-3
+    spared-requires-4
     returns)

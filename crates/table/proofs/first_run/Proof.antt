@@ -49,8 +49,13 @@ add-t13 c = search needs
 entry-requires : tie.Need-entry-requires Inv-loop μ-loop Inv-starts μ-starts
 entry-requires c κs = search needs
 
+add-t16 : tie.Need-add-t16 Inv-loop μ-loop Inv-starts μ-starts
+add-t16 c = search needs
+
 add-t17 : tie.Need-add-t17 Inv-loop μ-loop Inv-starts μ-starts
-add-t17 c = search needs
+add-t17 c =
+    let s = c .before .before .before .before .before .before .before .before .before .before in
+    omega (arith, s .pre, length-entriesOf (s .args .table .now))
 
 skip-requires-2 : tie.Need-skip-requires-2 Inv-loop μ-loop Inv-starts μ-starts
 skip-requires-2 c κs = search needs
@@ -60,28 +65,12 @@ starts-less c = search needs
 
 starts-again : tie.Need-starts-again Inv-loop μ-loop Inv-starts μ-starts
 starts-again c =
-    let t = c .before .before in
-    let l = t .before .before .before in
+    let l = c .before .before .before .before in
     let e = l .loop .inv .0 .0 in
+    let t = c .before in
     λ q. no-start-join _ _ 0 _ _
     (λ q z h. run-skip _ _ _ (l .loop .i) (l .before .before .starts .inv) (search needs) (λ z. t .if2 .taken (t .before .entry .ensures ∙ rw e z)) q (omega arith))
     (c .skip2 .ensures .1 .1) q (omega arith)
-
-add-start : tie.Need-add-start Inv-loop μ-loop Inv-starts μ-starts
-add-start c = search needs
-
-add-start-2 : tie.Need-add-start-2 Inv-loop μ-loop Inv-starts μ-starts
-add-start-2 c = search needs
-
-starts-less-2 : tie.Need-starts-less-2 Inv-loop μ-loop Inv-starts μ-starts
-starts-less-2 c = search needs
-
-starts-again-2 : tie.Need-starts-again-2 Inv-loop μ-loop Inv-starts μ-starts
-starts-again-2 c =
-    let t = c .before in
-    let l = t .before .before .before in
-    let e = l .loop .inv .0 .0 in
-    λ q h. run-skip _ _ _ (l .loop .i) (l .before .before .starts .inv) (search needs) (λ z. t .if2 .taken (t .before .entry .ensures ∙ rw e z)) q (omega arith)
 
 add-i : tie.Need-add-i Inv-loop μ-loop Inv-starts μ-starts
 add-i c = search needs
@@ -119,14 +108,11 @@ first-run-spec =
     loop-holds
     add-t13
     entry-requires
+    add-t16
     add-t17
     skip-requires-2
     starts-less
     starts-again
-    add-start
-    add-start-2
-    starts-less-2
-    starts-again-2
     add-i
     loop-less
     loop-again
