@@ -37,7 +37,7 @@ fn run(base: Address, pool: &[u8], table: &mut [u8], roots: &[u8], stack: &mut [
 }
 
 // A collection: the objects that are reachable from the roots are kept, all others become FREE. The pool is not written, and every
-// entry of the mark stack is then zero.
+// entry of the mark stack is then zero. That the definition does so is shown in the crate keeping (keeps-exactly).
 pub fn collect(
     base: Address,
     pool: &[u8],

@@ -1,11 +1,10 @@
 // The calls on a heap: init, allocate, free, reallocate, survey, load and store. Each checks its arguments first and then acts:
 // a refused call has written nothing.
 ghost use mathlib.Core.Path.{_≡_};
-ghost use mathlib.Core.Logic.{_⊎_};
 ghost use Prim.Native.Nat.{_+_, _-_, _*_, _≤_, _<_};
 ghost use lib.ListN.{length};
-ghost use Rattle.rules.specs.Entries.{entriesOf, HEAD};
-ghost use Rattle.rules.specs.Tables.{blockCount, entryAt, wellFormed, firstRun, freeFrom};
+ghost use Rattle.rules.specs.Entries.{entriesOf};
+ghost use Rattle.rules.specs.Tables.{firstRun, freeFrom};
 ghost use Rattle.rules.specs.Outcomes.{heapOf, clearedBlocks};
 ghost use Rattle.rules.specs.Calls.{init as initOf, allocate as allocateOf, free as freeOf, reallocate as reallocateOf, survey as surveyOf, load as loadOf, store as storeOf, taken, placing, shrunk, grown, movesTo, along};
 ghost use Rattle.heap.specs.Held.{Held};

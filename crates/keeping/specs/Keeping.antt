@@ -104,7 +104,7 @@ AnyStack =
     let o′ : Outcome = collect base (heapOf pool table) roots stack′ in
     Accepted o → Accepted o′ → (o .heap ≡ o′ .heap) × (butRescans (o .answer) ≡ butRescans (o′ .answer))
 
--- Two heaps that differ in dead bytes alone: the same table, and the same bytes in each object that is reachable in the first.
+-- Two heaps that differ in bytes of unreachable objects and of free blocks alone: the same table, and the same bytes in each object that is reachable in the first.
 pub record Agree (base : ℕ) (roots : List ℕ) (h g : Heap) : Type 0 where
   pub table : h .entries ≡ g .entries
   pub bytes : (o : ℕ) → Reachable base h roots o → (i : ℕ) → i < 16 * blockCount (h .entries) o → getD (h .pool) (16 * o + i) 0 ≡ getD (g .pool) (16 * o + i) 0

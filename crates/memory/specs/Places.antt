@@ -1,4 +1,4 @@
--- What a search or a pointer answers, as the rules have it.
+-- The block that a search found or that an address is of, as the rules have it.
 -- Assumes nothing.
 use mathlib.Core.Option.{Option, some, none}
 use Prim.Native.Nat.{ℕ}

@@ -13,13 +13,13 @@ ghost use Rattle.memory.specs.Places.{found};
 // A block's number in the pool, from 0.
 pub struct Block(pub usize);
 
-// An address as a word holds it, or the end of the address space.
+// An address. A base that is not tested yet may be any number; that of a block fits a word, and the end of the last is at most 2^32.
 pub struct Address(pub u64);
 
 // A count of bytes, or an offset into the pool.
 pub struct Bytes(pub usize);
 
-// What a search or a pointer comes to.
+// The block that a search found or that an address is of, or none.
 pub enum Found {
     At(Block),
     Nowhere,

@@ -1,4 +1,4 @@
--- Free, allocate and reallocate agree with the plain list: an object removed, put into a gap, cut, extended, or moved.
+-- Free and allocate agree with the plain list: an object removed, or put into a gap.
 -- Assumes nothing.
 use mathlib.Core.Path.{_≡_, refl, sym, ap, _∙_}
 use mathlib.Core.Logic.{_≢_}

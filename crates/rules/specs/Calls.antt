@@ -77,11 +77,12 @@ moved h k b c s = record {
   entries = released (placed (h .entries) s c) k b;
 }
 
--- more blocks are wanted: in place if the blocks directly after are FREE, else where c blocks fit
+-- to the start that was found
 unfoldable pub movesTo : Option ℕ → Way
 movesTo none = noWay
 movesTo (some s) = move s
 
+-- more blocks are wanted: in place if the blocks directly after are FREE, else where c blocks fit
 unfoldable pub wayToGrow : List ℕ → ℕ → ℕ → ℕ → Way
 wayToGrow es k b c = pick (leb (c - b) (freeFrom es (k + b))) grow (movesTo (firstRun es c))
 
@@ -102,7 +103,7 @@ along grow h k b c = placing h k (grown h k b c)
 along (move s) h k b c = placing h s (moved h k b c s)
 along noWay h k b c = leaves (onlyRefusal 9) h
 
--- Reallocate: 9 if no way is left
+-- Reallocate: the way for the object at k and so many bytes. 9 if there is none
 abbrev pub wayOf : Heap → ℕ → ℕ → Way
 wayOf h k bytes = wayTo (h .entries) k (blockCount (h .entries) k) (blocksFor bytes)
 

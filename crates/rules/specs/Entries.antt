@@ -25,7 +25,7 @@ unfoldable pub entriesOf : List ℕ → List ℕ
 entriesOf [] = []
 entriesOf (b ∷ bs) = entryOf b 0 ∷ entryOf b 1 ∷ entryOf b 2 ∷ entryOf b 3 ∷ entriesOf bs
 
--- the table of a list of entries, whose number is a multiple of four: the inverse of entriesOf
+-- the table of a list of entries, whose number is a multiple of four: the inverse of entriesOf (laws tableOf-entriesOf, entriesOf-tableOf)
 unfoldable pub tableOf : List ℕ → List ℕ
 tableOf [] = []
 tableOf (a ∷ []) = []

@@ -1,6 +1,7 @@
 -- The collection cycle: marking from the roots with a bounded mark stack, rescans after an overflow, and the sweep.
 -- This order fixes the number of rescans; that it keeps exactly the reachable objects is a theorem about it.
--- Three loops count down a number so that they are definitions: each is given enough, which is a law too.
+-- Two loops, drainFor and rescanFor, count down a number so that they are definitions. drain and rescan give them enough, and nobody
+-- sees the number again: the stack is then empty (law drained) and the flag clear (law rescanned).
 -- Assumes nothing.
 use mathlib.Core.Bool.{Bool, true, false}
 use mathlib.Core.List.{List, [], _∷_}

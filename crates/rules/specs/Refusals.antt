@@ -33,7 +33,7 @@ goodShape base h =
 abbrev pub badShape : ℕ → Heap → Test
 badShape base h = test 1 (not (goodShape base h))
 
--- 1, of a collection: the shape, or roots or a mark stack that are not whole words
+-- 1, of a collection: the shape is not good, or roots or mark stack are not whole words
 unfoldable pub wholeWords : List ℕ → Bool
 wholeWords bs = eqb (length bs % 4) 0
 

@@ -1,10 +1,9 @@
 -- Words in bytes: 32 bits, lowest byte first, on every host. Only this module knows the byte order.
 -- Assumes nothing.
-use mathlib.Core.List.{List}
+use mathlib.Core.List.{List, [], _∷_}
 use Prim.Native.Nat.{ℕ, _+_, _*_, _/_, _%_}
 use lib.ListN.{length, getD}
 use lib.Seq.{sets}
-use mathlib.Core.List.{[], _∷_}
 use Rattle.rules.specs.Tests.{tabulate}
 
 -- the number in four bytes, the first the lowest
