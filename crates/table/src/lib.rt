@@ -16,14 +16,14 @@ pub fn block_count(table: &[u8], k: Block) -> usize
 {
     let n = entries::blocks(table);
     let first = k.0;
-    let mut i = first + 1;
-    while i < n {
-        if entries::entry(table, Block(i)) != entries::TAIL {
-            return i - first;
+    let mut count = 1;
+    while first + count < n {
+        if entries::entry(table, Block(first + count)) != entries::TAIL {
+            return count;
         }
-        i += 1;
+        count += 1;
     }
-    i - first
+    count
 }
 
 // Whether the count blocks from `from` on are blocks of the table, and FREE.

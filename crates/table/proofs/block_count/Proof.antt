@@ -16,47 +16,38 @@ use Rattle.table.proofs.block_count.Statement.{statement}
 use Rattle.table.proofs.block_count.Tie as tie
 
 abbrev Inv-loop : tie.InvT-loop
-Inv-loop table n first i₀ i = ((first < i) × (i ≤ n)) × ((j : ℕ) → j < i → first < j → entryAt (entriesOf table) j ≡ TAIL)
+Inv-loop table n first count₀ count = ((0 < count) × (first + count ≤ n)) × ((j : ℕ) → j < count → 0 < j → entryAt (entriesOf table) (first + j) ≡ TAIL)
 
 abbrev μ-loop : tie.MeasureT-loop
-μ-loop table n first i₀ i = n - i
+μ-loop table n first count₀ count = n - count
 
--- TAILs from after k up to before i, and none at i
-counted : (es : List ℕ) (k i : ℕ) → k < i → i ≤ length es → ((j : ℕ) → j < i → k < j → entryAt es j ≡ TAIL) → entryAt es i ≢ TAIL
-    → (i - k ≡ blockCount es k) × (k + (i - k) ≤ length es)
-counted es k i h r tails next =
-    let e : k + (i - k) ≡ i = omega arith in (
-      sym (count-is es k (i - k) (record {
-        some-block = omega arith;
-        room = omega arith;
-        tail = λ j l m. tails (k + j) (omega arith) (omega arith);
-        next = rw e next;
-      })),
-      omega arith,
-    )
+-- TAILs in the b blocks from k on, save the first, and none after them
+counted : (es : List ℕ) (k b : ℕ) → 0 < b → k + b ≤ length es → ((j : ℕ) → j < b → 0 < j → entryAt es (k + j) ≡ TAIL) → entryAt es (k + b) ≢ TAIL
+    → (b ≡ blockCount es k) × (k + b ≤ length es)
+counted es k b h r tails next = (sym (count-is es k b (record { some-block = h; room = r; tail = λ j l m. tails j m l; next = next })), r)
 
 blocks-requires : tie.Need-blocks-requires Inv-loop μ-loop
 blocks-requires c κs = search needs
 
-add-i : tie.Need-add-i Inv-loop μ-loop
-add-i c = omega (arith, length-entriesOf (c .before .before .args .table .now))
-
 loop-holds : tie.Need-loop-holds Inv-loop μ-loop
 loop-holds c = (search needs, λ j l m. absurd (omega arith))
+
+add-loop : tie.Need-add-loop Inv-loop μ-loop
+add-loop c = record { fits = omega (arith, c .before .before .before .pre .0, length-entriesOf (c .before .before .before .args .table .now)) }
+
+add-t6 : tie.Need-add-t6 Inv-loop μ-loop
+add-t6 c = search needs
 
 entry-requires : tie.Need-entry-requires Inv-loop μ-loop
 entry-requires c κs = search needs
 
-sub-result : tie.Need-sub-result Inv-loop μ-loop
-sub-result c = search needs
-
 returns : tie.Need-returns Inv-loop μ-loop
 returns c =
     let l = c .before .before .before .loop in
-    counted _ _ (l .i) (omega arith) (omega arith) (l .inv .1) (λ t. c .if1 .taken (c .before .entry .ensures ∙ t))
+    counted _ _ (l .count) (omega arith) (omega arith) (l .inv .1) (λ t. c .if1 .taken (c .before .entry .ensures ∙ t))
 
-add-i-2 : tie.Need-add-i-2 Inv-loop μ-loop
-add-i-2 c = search needs
+add-count : tie.Need-add-count Inv-loop μ-loop
+add-count c = search needs
 
 loop-less : tie.Need-loop-less Inv-loop μ-loop
 loop-less c = search needs
@@ -66,14 +57,12 @@ loop-again c =
     let l = c .before .before .before .loop in
     (search needs, below-more _ _ (l .inv .1) (λ m. sym (c .before .entry .ensures) ∙ c .if1 .left))
 
-sub-result-2 : tie.Need-sub-result-2 Inv-loop μ-loop
-sub-result-2 c = search needs
-
 returns-2 : tie.Need-returns-2 Inv-loop μ-loop
 returns-2 c =
     let l = c .before .loop in
-    let es = entriesOf (c .before .before .before .before .args .table .now) in
-    counted es _ (l .i) (omega arith) (omega arith) (l .inv .1) (λ t. omega (arith, t, entry-outside es (l .i) (omega arith)))
+    let a = c .before .before .before .before .args in
+    let es = entriesOf (a .table .now) in
+    counted es (a .k .0) (l .count) (omega arith) (omega arith) (l .inv .1) (λ t. omega (arith, t, entry-outside es (a .k .0 + l .count) (omega arith)))
 
 pub block-count-spec : {M : Type 1} → statement M
 block-count-spec =
@@ -82,13 +71,12 @@ block-count-spec =
     Inv-loop
     μ-loop
     blocks-requires
-    add-i
     loop-holds
+    add-loop
+    add-t6
     entry-requires
-    sub-result
     returns
-    add-i-2
+    add-count
     loop-less
     loop-again
-    sub-result-2
     returns-2)
