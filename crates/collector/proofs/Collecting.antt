@@ -13,19 +13,19 @@ use Rattle.rules.specs.Tables.{used}
 use Rattle.rules.specs.Tests.{both}
 use Rattle.rules.specs.Outcomes.{Outcome, heapOf, changeFrom}
 use Rattle.rules.specs.Refusals.{firstOf, goodShape, wholeWords, badLists, illFormed, manyRoots, longStack}
-use Rattle.rules.specs.Marking.{Scene, Marked, markedIn, markAll}
+use Rattle.rules.specs.Marking.{Context, Marked, markedIn, markAll}
 use Rattle.rules.specs.Calls.{collecting, collect}
 use Rattle.rules.proofs.Refusals.{both-left, not-false, first-none, refuses, accepts, shape-true, few-bytes}
 use Rattle.rules.proofs.Calls.{sub-less}
 use Rattle.rules.proofs.Used.{marking-used}
 use Rattle.sweeper.specs.declared.Swept.{Swept}
 use Rattle.collector.specs.declared.Collected.{Collected}
-use Rattle.marker.specs.Variables.{idle, sceneOf, Shape}
+use Rattle.marker.specs.Variables.{idle, contextOf, Shape}
 use Rattle.sweeper.specs.Sweeps.{TableSwept}
 use Rattle.collector.specs.Answers.{outcomeOf}
 
 -- `table₁` is the table after marking, `table₂` after the sweep
-module _ (c : Scene) (pool table table₁ table₂ stack stack₂ roots : List ℕ) (r : ℕ) (s : Swept) (change : ℤ)
+module _ (c : Context) (pool table table₁ table₂ stack stack₂ roots : List ℕ) (r : ℕ) (s : Swept) (change : ℤ)
     (mark : markedIn (idle table₁ false) r ≡ markAll c (wordsOf roots) (entriesOf table)) (swept : TableSwept (entriesOf table₁) (entriesOf table₂) s) where
   freed-is : s .freed + used (entriesOf table₂) ≡ used (entriesOf table)
   freed-is =
@@ -51,7 +51,7 @@ module _ (base : ℕ) (pool table roots stack : List ℕ) (r : ℕ)
   collect-refused ne = sym (refuses r (heapOf pool table) stack _ (sym first) (omega arith))
 
   pub collect-accepted : (a : Collected) (table′ stack′ : List ℕ) → r ≡ 0
-      → outcomeOf a pool table′ stack′ ≡ collecting (heapOf pool table) stack (markAll (sceneOf base pool stack) (wordsOf roots) (entriesOf table))
+      → outcomeOf a pool table′ stack′ ≡ collecting (heapOf pool table) stack (markAll (contextOf base pool stack) (wordsOf roots) (entriesOf table))
       → outcomeOf a pool table′ stack′ ≡ collect base (heapOf pool table) roots stack
   unfolding collect
   collect-accepted a table′ stack′ e q = q ∙ sym (accepts (heapOf pool table) stack _ (sym first ∙ e))

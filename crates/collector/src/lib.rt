@@ -5,7 +5,7 @@ ghost use Rattle.rules.specs.Entries.{entriesOf};
 ghost use Rattle.rules.specs.Outcomes.{heapOf};
 ghost use Rattle.rules.specs.Marking.{markAll};
 ghost use Rattle.rules.specs.Calls.{collecting, collect as collectOf};
-ghost use Rattle.marker.specs.Variables.{sceneOf, Shape};
+ghost use Rattle.marker.specs.Variables.{contextOf, Shape};
 ghost use Rattle.collector.specs.Answers.{outcomeOf};
 use memory::Address;
 
@@ -22,7 +22,7 @@ fn run(base: Address, pool: &[u8], table: &mut [u8], roots: &[u8], stack: &mut [
     requires { ⌜ Shape (now pool) (now table) ⌝ }
     ensures { λ r. ⌜ outcomeOf r (now (pool .entry)) (now (table .exit)) (now (stack .exit))
         ≡ collecting (heapOf (now (pool .entry)) (now (table .entry))) (now (stack .entry))
-        (markAll (sceneOf (base .0) (now (pool .entry)) (now (stack .entry))) (wordsOf (now (roots .entry))) (entriesOf (now (table .entry)))) ⌝ }
+        (markAll (contextOf (base .0) (now (pool .entry)) (now (stack .entry))) (wordsOf (now (roots .entry))) (entriesOf (now (table .entry)))) ⌝ }
 {
     let rescans = marker::mark(base, pool, &mut *table, &mut *stack, roots);
     let swept = sweeper::sweep(&mut *table);

@@ -17,10 +17,10 @@ use Rattle.rules.specs.Tables.{entryAt, objects, wellFormed, blockCount}
 use Rattle.rules.specs.Pointers.{leadsTo}
 use Rattle.rules.specs.Outcomes.{Heap}
 use Rattle.rules.specs.Reach.{Edge, Reachable, root, edge}
-use Rattle.rules.specs.Marking.{Scene, State, state, marked, pushed, visitTo, visit, walkWords, walk, drainFor, drain, trace, rootTo, markRoot, markRoots, passBlock, passFrom, pass, rescanFor, rescan, markAll}
+use Rattle.rules.specs.Marking.{Context, State, state, marked, pushed, visitTo, visit, walkWords, walk, drainFor, drain, trace, rootTo, markRoot, markRoots, passBlock, passFrom, pass, rescanFor, rescan, markAll}
 use Rattle.rules.proofs.Words.{wordAt-same}
 use Rattle.rules.proofs.Marks.{marks-count, marks-leads, mark-here}
-use Rattle.keeping.specs.Keeping.{sceneOf, marking, collected, Proper, Agree, AgreeInWords}
+use Rattle.keeping.specs.Keeping.{contextOf, marking, collected, Proper, Agree, AgreeInWords}
 use Rattle.keeping.proofs.Sound.{Sound, sound-start, sound-mark, sound-walk, sound-popped, sound-root, sound-roots, sound-block, sound-pass}
 use Rattle.keeping.proofs.Owners.{well-fresh}
 use Rattle.keeping.proofs.Kept.{collected-rest}
@@ -62,11 +62,11 @@ module _ {base : ℕ} {roots : List ℕ} {h g : Heap} (a : AgreeInWords base roo
 
 module _ (base : ℕ) (h g : Heap) (roots : List ℕ) (room : ℕ)
     (words : (o : ℕ) → Reachable base h roots o → (i : ℕ) → i < 4 * blockCount (h .entries) o → wordAt (h .pool) (4 * o + i) ≡ wordAt (g .pool) (4 * o + i)) where
-  abbrev c : Scene
-  c = sceneOf base h room
+  abbrev c : Context
+  c = contextOf base h room
 
-  abbrev d : Scene
-  d = sceneOf base g room
+  abbrev d : Context
+  d = contextOf base g room
 
   abbrev Fine : State → Type 0
   Fine = Sound base h roots room
@@ -178,7 +178,7 @@ module _ (base : ℕ) (h g : Heap) (roots : List ℕ) (well : wellFormed (h .ent
   pub marking-alike : AgreeInWords base roots h g → (room : ℕ) → marking base h roots room ≡ marking base g roots room
   unfolding marking
   marking-alike a room =
-      markAll-alike base h g roots room (a .words) (well-fresh (h .entries) well) ∙ ap (λ (es : List ℕ). markAll (sceneOf base g room) roots es) (a .table)
+      markAll-alike base h g roots room (a .words) (well-fresh (h .entries) well) ∙ ap (λ (es : List ℕ). markAll (contextOf base g room) roots es) (a .table)
 
   -- with any room: the same table
   pub collected-alike : AgreeInWords base roots h g → (room room′ : ℕ) → collected base h roots room ≡ collected base g roots room′

@@ -16,14 +16,14 @@ use Rattle.rules.specs.Tables.{entryAt, blockCount}
 use Rattle.rules.specs.Pointers.{leadsTo}
 use Rattle.rules.specs.Outcomes.{Heap}
 use Rattle.rules.specs.Reach.{Edge, Reachable, root, edge}
-use Rattle.rules.specs.Marking.{Scene, State, state, marked, visit, walkWords, walk, drain, trace, markRoot, markRoots, passFrom, pass, rescan, markAll}
+use Rattle.rules.specs.Marking.{Context, State, state, marked, visit, walkWords, walk, drain, trace, markRoot, markRoots, passFrom, pass, rescan, markAll}
 use Rattle.rules.proofs.Marking.{mark-inside, Visits, stays, pushes, loses, visits, Rooted, idle, takes, rooted, Passed, skips, walks, passed, words-keep, walk-keeps, drain-keeps, pass-keeps, rescan-keeps, traced, rescanned}
 use Rattle.rules.proofs.Marks.{Marks, marks-none, marks-more, mark-stays, mark-cases, mark-here, marks-count, marks-leads, leads-head}
-use Rattle.keeping.specs.Keeping.{sceneOf, marking}
+use Rattle.keeping.specs.Keeping.{contextOf, marking}
 
 module _ (base : ℕ) (h : Heap) (room : ℕ) where
-  abbrev c : Scene
-  c = sceneOf base h room
+  abbrev c : Context
+  c = contextOf base h room
 
   visits-marks : {w : ℕ} {s z : State} → Visits c w s z → Marks (h .entries) (s .entries) → Marks (h .entries) (z .entries)
   visits-marks (stays _) g = g
@@ -243,10 +243,10 @@ complete base h roots room fresh k r = go k r
     s₀ = state (h .entries) [] false
 
     s₁ : State
-    s₁ = markRoots (sceneOf base h room) roots s₀
+    s₁ = markRoots (contextOf base h room) roots s₀
 
     z : State
-    z = rescan (sceneOf base h room) s₁ 0 .last
+    z = rescan (contextOf base h room) s₁ 0 .last
 
     M : ℕ → Type 0
     M k = ⊥ ⊎ Led base h room roots k
@@ -255,10 +255,10 @@ complete base h roots room fresh k r = go k r
     start = record { empty = refl; so = record { marks = marks-none (h .entries); has = λ i. absurd; grey = λ u o m. absurd (fresh o m) } }
 
     end : Rest base h room M z
-    end = rescan-keeps (sceneOf base h room) (Rest base h room M) (rest-pass base h room M) s₁ 0 (rest-roots base h room roots (λ k. ⊥) s₀ start)
+    end = rescan-keeps (contextOf base h room) (Rest base h room M) (rest-pass base h room M) s₁ 0 (rest-roots base h room roots (λ k. ⊥) s₀ start)
 
     go : (k : ℕ) → Reachable base h roots k → entryAt (z .entries) k ≡ MARK
     go k (root m q) = end .so .has k (inr (record { word = _; among = m; leads = q }))
     go k (edge {o = o} r x) =
         ⊎-elim (λ e. absurd e) (λ y. ⊎-elim (λ l. absurd (List·Memᴰ·not-nil (rw (end .empty) at l))) (λ l. l k x) y)
-        (end .so .grey (rescanned (sceneOf base h room) s₁ 0) o (go o r))
+        (end .so .grey (rescanned (contextOf base h room) s₁ 0) o (go o r))

@@ -15,7 +15,7 @@ use Rattle.rules.specs.Outcomes.{Heap}
 use Rattle.rules.specs.Marking.{sweptEntry, freeingAfter, sweepFrom, sweep}
 use Rattle.rules.proofs.Lists.{one, count-cons}
 use Rattle.rules.proofs.Marks.{Marks}
-use Rattle.keeping.specs.Keeping.{sceneOf, marking, collected, FewRescans}
+use Rattle.keeping.specs.Keeping.{contextOf, marking, collected, FewRescans}
 use Rattle.keeping.proofs.Sound.{sound}
 use Rattle.keeping.proofs.Rescans.{rescans-few, rescans-none}
 use Rattle.keeping.proofs.Swept.{Swept, kept, tail, freed, swept-entry}
@@ -79,8 +79,8 @@ module _ (base : ℕ) (h : Heap) (roots : List ℕ) (room : ℕ) (well : wellFor
   few-rescans =
       let q = collected-objects in
       record {
-        few = ⊎-elim (λ x. omega arith) (λ x. omega arith) (rescans-few (sceneOf base h room) roots (h .entries));
-        none = λ l. rescans-none (sceneOf base h room) roots (h .entries) (omega arith);
+        few = ⊎-elim (λ x. omega arith) (λ x. omega arith) (rescans-few (contextOf base h room) roots (h .entries));
+        none = λ l. rescans-none (contextOf base h room) roots (h .entries) (omega arith);
       }
 
   -- no more blocks are used than before

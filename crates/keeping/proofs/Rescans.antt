@@ -11,13 +11,13 @@ use Rattle.rules.specs.Tests.{pick}
 use Rattle.rules.specs.Words.{wordAt}
 use Rattle.rules.specs.Entries.{HEAD}
 use Rattle.rules.specs.Tables.{entryAt, objects}
-use Rattle.rules.specs.Marking.{Scene, State, state, marked, walk, drain, trace, markRoot, markRoots, pass, Marked, rescanFor, rescan, markAll}
+use Rattle.rules.specs.Marking.{Context, State, state, marked, walk, drain, trace, markRoot, markRoots, pass, Marked, rescanFor, rescan, markAll}
 use Rattle.rules.proofs.Lists.{one}
 use Rattle.rules.proofs.Marking.{objects-mark, Visits, stays, pushes, loses, visits, Rooted, idle, takes, rooted, walk-keeps, drain-keeps, traced, potential, pass-potential, rescan-done, rescan-more}
 
 -- m HEADs at the start, and something was marked since: fewer HEADs with the stack, fewer with the flag,
 -- and if the flag is set, then more objects than the stack has room for were marked after the first
-module _ (c : Scene) (m : ℕ) where
+module _ (c : Context) (m : ℕ) where
   record Spent (s : State) : Type 0 where
     stacked : objects (s .entries) + length (s .stack) < m
     flagged : objects (s .entries) + one (s .overflow) < m
@@ -73,7 +73,7 @@ module _ (c : Scene) (m : ℕ) where
   begun-roots [] s g = g
   begun-roots (w ∷ ws) s g = begun-roots ws (markRoot c w s) (begun-rooted (rooted c w s) g)
 
-module _ (c : Scene) where
+module _ (c : Context) where
   -- each rescan costs a HEAD, or the flag
   rescans-cost : (s : State) (r : ℕ) → rescan c s r .rescans + objects (rescan c s r .last .entries) ≤ r + potential s
   unfolding rescan rescanFor potential

@@ -11,17 +11,17 @@ use Rattle.rules.specs.Entries.{FREE, HEAD}
 use Rattle.rules.specs.Tables.{entryAt, wellFormed, blockCount, objects}
 use Rattle.rules.specs.Outcomes.{Heap, Answer, Outcome, heapOf, changeFrom}
 use Rattle.rules.specs.Reach.{Reachable}
-use Rattle.rules.specs.Marking.{Scene, Marked, markAll, sweep}
+use Rattle.rules.specs.Marking.{Context, Marked, markAll, sweep}
 use Rattle.rules.specs.Calls.{collect}
 use Rattle.rules.specs.Meaning.{Accepted}
 
 -- what the marking of a heap reads, with a mark stack that has room for so many entries
-abbrev pub sceneOf : ℕ → Heap → ℕ → Scene
-sceneOf base h room = record { base = base; pool = h .pool; room = room }
+abbrev pub contextOf : ℕ → Heap → ℕ → Context
+contextOf base h room = record { base = base; pool = h .pool; room = room }
 
 -- the marking of a heap from the roots
 unfoldable pub marking : ℕ → Heap → List ℕ → ℕ → Marked
-marking base h roots room = markAll (sceneOf base h room) roots (h .entries)
+marking base h roots room = markAll (contextOf base h room) roots (h .entries)
 
 -- the entries that the collection leaves
 unfoldable pub collected : ℕ → Heap → List ℕ → ℕ → List ℕ

@@ -13,7 +13,7 @@ use Rattle.rules.specs.Tests.{pick, both}
 use Rattle.rules.specs.Entries.{HEAD, MARK}
 use Rattle.rules.specs.Tables.{entryAt, isHead}
 use Rattle.rules.specs.Pointers.{targetOf, headsObject, headAt, leadsTo}
-use Rattle.rules.specs.Marking.{Scene, State, marked, pushed, visitTo, visit, trace, rootTo, markRoot}
+use Rattle.rules.specs.Marking.{Context, State, marked, pushed, visitTo, visit, trace, rootTo, markRoot}
 use Rattle.rules.proofs.Marking.{head-inside}
 use Rattle.marker.specs.Variables.{ifHead, unmarkedTo}
 
@@ -86,7 +86,7 @@ module _ (base : ℕ) (es : List ℕ) (w : ℕ) where
     led-to : (k : ℕ) → some k ≡ unmarkedTo base es w → f (leadsTo base es w) ≡ g k
     led-to k q = let u = unmarked-leads k q in rw (u .0, at-some k, eq-eqb _ _ (u .1))
 
-module _ (c : Scene) (w : ℕ) (s : State) where
+module _ (c : Context) (w : ℕ) (s : State) where
   pub visit-stays : none ≡ unmarkedTo (c .base) (s .entries) w → visit c w s ≡ s
   unfolding visit visitTo
   visit-stays q = led-nowhere (c .base) (s .entries) w (visitTo c s) (λ k. pushed c k (marked k s)) s refl (λ k. refl) q

@@ -14,7 +14,7 @@ use Rattle.rules.specs.Entries.{entriesOf, MARK}
 use Rattle.rules.specs.Marking.{pushed, visit}
 use Rattle.rules.proofs.Words.{length-withWord, wordAt-withWord, wordAt-other}
 use Rattle.marker.specs.declared.Marking.{Marking}
-use Rattle.marker.specs.Variables.{unmarkedTo, stacked, sceneOf, stateOf, Came}
+use Rattle.marker.specs.Variables.{unmarkedTo, stacked, contextOf, stateOf, Came}
 use Rattle.marker.proofs.Pointing.{visit-stays, visit-takes}
 
 pub stacked-length : (stack : List ℕ) (d : ℕ) → length (stacked stack d) ≡ d
@@ -38,26 +38,26 @@ stacked-pop stack (suc d) h = let e : suc d - 1 ≡ d = omega arith in rw e
 
 -- the three ends of a visit
 module _ (base : ℕ) (table stack : List ℕ) (m : Marking) (w : ℕ) (deep : m .depth ≤ length stack / 4) (pool : List ℕ) where
-  pub came-stays : none ≡ unmarkedTo base (entriesOf table) w → Came (visit (sceneOf base pool stack) w (stateOf table stack m)) table stack m
-  came-stays q = record { same = sym (visit-stays (sceneOf base pool stack) w (stateOf table stack m) q); deep = deep }
+  pub came-stays : none ≡ unmarkedTo base (entriesOf table) w → Came (visit (contextOf base pool stack) w (stateOf table stack m)) table stack m
+  came-stays q = record { same = sym (visit-stays (contextOf base pool stack) w (stateOf table stack m) q); deep = deep }
 
   pub came-pushes : (k : ℕ) {table′ stack′ : List ℕ} → some k ≡ unmarkedTo base (entriesOf table) w → k < 2 ^ 32 → m .depth < length stack / 4
       → entriesOf table′ ≡ set (entriesOf table) k MARK → stack′ ≡ withWord stack (m .depth) k
-      → Came (visit (sceneOf base pool stack) w (stateOf table stack m)) table′ stack′ (record { depth = m .depth + 1; overflow = m .overflow })
+      → Came (visit (contextOf base pool stack) w (stateOf table stack m)) table′ stack′ (record { depth = m .depth + 1; overflow = m .overflow })
   unfolding pushed
   came-pushes k q b r e f =
       record {
         same =
-            rw (visit-takes (sceneOf base pool stack) w (stateOf table stack m) k q, stacked-length stack (m .depth), lt-ltb (m .depth) (length stack / 4) r, e, f, stacked-push stack k (m .depth) (omega arith) b);
+            rw (visit-takes (contextOf base pool stack) w (stateOf table stack m) k q, stacked-length stack (m .depth), lt-ltb (m .depth) (length stack / 4) r, e, f, stacked-push stack k (m .depth) (omega arith) b);
         deep = rw (f, length-withWord stack (m .depth) k) (omega arith);
       }
 
   pub came-loses : (k : ℕ) {table′ : List ℕ} → some k ≡ unmarkedTo base (entriesOf table) w → length stack / 4 ≤ m .depth
       → entriesOf table′ ≡ set (entriesOf table) k MARK
-      → Came (visit (sceneOf base pool stack) w (stateOf table stack m)) table′ stack (record { depth = m .depth; overflow = true })
+      → Came (visit (contextOf base pool stack) w (stateOf table stack m)) table′ stack (record { depth = m .depth; overflow = true })
   unfolding pushed
   came-loses k q r e =
       record {
-        same = rw (visit-takes (sceneOf base pool stack) w (stateOf table stack m) k q, stacked-length stack (m .depth), le-ltb (m .depth) (length stack / 4) r, e);
+        same = rw (visit-takes (contextOf base pool stack) w (stateOf table stack m) k q, stacked-length stack (m .depth), le-ltb (m .depth) (length stack / 4) r, e);
         deep = deep;
       }

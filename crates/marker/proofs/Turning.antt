@@ -11,35 +11,35 @@ use lib.ListN.{length, getD, set, drop}
 use Rattle.rules.specs.Words.{wordAt, wordsOf}
 use Rattle.rules.specs.Tables.{entryAt, blockCount}
 use Rattle.rules.specs.Entries.{entriesOf, MARK}
-use Rattle.rules.specs.Marking.{Scene, State, state, markedIn, visit, walkWords, walk, drain, trace, markRoot, markRoots, passBlock, passFrom, pass, rescan, markAll}
+use Rattle.rules.specs.Marking.{Context, State, state, markedIn, visit, walkWords, walk, drain, trace, markRoot, markRoots, passBlock, passFrom, pass, rescan, markAll}
 use Rattle.rules.proofs.Words.{length-wordsOf, getD-wordsOf}
 use Rattle.rules.proofs.Entries.{length-entriesOf}
 use Rattle.rules.proofs.Marking.{words-turn, words-end, roots-turn, pass-walks, pass-turn, pass-end, toDrain, pop-measure, drain-pop, drain-nil, toRescan, pass-measure, rescan-more, rescan-done, markAll-from, Sane, sane-start, sane-pop, sane-walk}
 use Rattle.marker.specs.declared.Marking.{Marking}
-use Rattle.marker.specs.Variables.{unmarkedTo, stacked, sceneOf, stateOf, idle, Shape, Came, CanDrain}
+use Rattle.marker.specs.Variables.{unmarkedTo, stacked, contextOf, stateOf, idle, Shape, Came, CanDrain}
 use Rattle.marker.proofs.Pointing.{root-marks}
 use Rattle.marker.proofs.Stacking.{stacked-length, stacked-pop}
 
--- a stack of the same length makes the same scene
-pub scene-same : (base : ℕ) (pool stack stack′ : List ℕ) → length stack′ ≡ length stack → sceneOf base pool stack′ ≡ sceneOf base pool stack
-scene-same base pool stack stack′ e = rw e
+-- a stack of the same length makes the same context
+pub context-same : (base : ℕ) (pool stack stack′ : List ℕ) → length stack′ ≡ length stack → contextOf base pool stack′ ≡ contextOf base pool stack
+context-same base pool stack stack′ e = rw e
 
 module _ (base : ℕ) (pool stack₀ : List ℕ) where
   pub walk-turn : (first i w : ℕ) (stack : List ℕ) (s : State) {s′ z : State} → 0 < i → length stack ≡ length stack₀ → w ≡ wordAt pool (first + (i - 1))
-      → s′ ≡ visit (sceneOf base pool stack) w s → walkWords (sceneOf base pool stack₀) first i s ≡ z → walkWords (sceneOf base pool stack₀) first (i - 1) s′ ≡ z
+      → s′ ≡ visit (contextOf base pool stack) w s → walkWords (contextOf base pool stack₀) first i s ≡ z → walkWords (contextOf base pool stack₀) first (i - 1) s′ ≡ z
   walk-turn first i w stack s h e v q r =
-      words-turn (sceneOf base pool stack₀) first i s h (scene-same base pool stack₀ stack e) (q ∙ ap (λ (u : ℕ). visit (sceneOf base pool stack) u s) v) r
+      words-turn (contextOf base pool stack₀) first i s h (context-same base pool stack₀ stack e) (q ∙ ap (λ (u : ℕ). visit (contextOf base pool stack) u s) v) r
 
   pub walk-end : (k n first i : ℕ) (s s₀ : State) → i ≤ 0 → first ≡ 4 * k → n ≡ blockCount (s₀ .entries) k
-      → walkWords (sceneOf base pool stack₀) first i s ≡ walkWords (sceneOf base pool stack₀) first (4 * n) s₀ → s ≡ walk (sceneOf base pool stack₀) k s₀
+      → walkWords (contextOf base pool stack₀) first i s ≡ walkWords (contextOf base pool stack₀) first (4 * n) s₀ → s ≡ walk (contextOf base pool stack₀) k s₀
   unfolding walk
-  walk-end k n first i s s₀ h f e r = words-end (sceneOf base pool stack₀) first i s h r ∙ rw (f, e)
+  walk-end k n first i s s₀ h f e r = words-end (contextOf base pool stack₀) first i s h r ∙ rw (f, e)
 
 -- what a turn of draining leaves
 pub record Popped (base : ℕ) (pool stack₀ table stack : List ℕ) (m : Marking) (table′ stack′ : List ℕ) (m′ : Marking) : Type 0 where
   pub can : CanDrain pool table′ stack′ m′
   pub less : toDrain (stateOf table′ stack′ m′) < toDrain (stateOf table stack m)
-  pub same : drain (sceneOf base pool stack₀) (stateOf table′ stack′ m′) ≡ drain (sceneOf base pool stack₀) (stateOf table stack m)
+  pub same : drain (contextOf base pool stack₀) (stateOf table′ stack′ m′) ≡ drain (contextOf base pool stack₀) (stateOf table stack m)
 
 -- the popped word is a block
 pub top-below : (pool table stack : List ℕ) (m : Marking) → CanDrain pool table stack m → 0 < m .depth → wordAt stack (m .depth - 1) < length (entriesOf table)
@@ -50,19 +50,19 @@ pub shape-same : (pool table table′ : List ℕ) → Shape pool table → lengt
 shape-same pool table table′ s e = record { small = omega (arith, s .small); whole = rw (length-entriesOf table′, e) (rw (length-entriesOf table) at (s .whole)) }
 
 module _ (base : ℕ) (pool stack₀ table stack : List ℕ) (m : Marking) (can : CanDrain pool table stack m) (long : length stack ≡ length stack₀) where
-  pub sane : Sane (sceneOf base pool stack₀) (length (entriesOf table)) (stateOf table stack m)
+  pub sane : Sane (contextOf base pool stack₀) (length (entriesOf table)) (stateOf table stack m)
   sane = record { long = refl; below = can .below; fits = rw (stacked-length stack (m .depth), ← long) (can .deep) }
 
   pub popped : (w : ℕ) (table′ stack′ : List ℕ) (m′ : Marking) → 0 < m .depth → w ≡ wordAt stack (m .depth - 1)
       → length table′ ≡ length table
-      → Came (walk (sceneOf base pool stack) w (stateOf table stack (record { depth = m .depth - 1; overflow = m .overflow }))) table′ stack′ m′
+      → Came (walk (contextOf base pool stack) w (stateOf table stack (record { depth = m .depth - 1; overflow = m .overflow }))) table′ stack′ m′
       → Popped base pool stack₀ table stack m table′ stack′ m′
   popped w table′ stack′ m′ h e t came =
-      let c : Scene = sceneOf base pool stack₀ in
+      let c : Context = contextOf base pool stack₀ in
       let st : List ℕ = stacked stack (m .depth - 1) in
       let rest : State = state (entriesOf table) st (m .overflow) in
       let full : stateOf table stack m ≡ state (entriesOf table) (w ∷ st) (m .overflow) = rw (e, stacked-pop stack (m .depth) h) in
-      let q : stateOf table′ stack′ m′ ≡ walk c w rest = rw (scene-same base pool stack₀ stack long) at (came .same) in
+      let q : stateOf table′ stack′ m′ ≡ walk c w rest = rw (context-same base pool stack₀ stack long) at (came .same) in
       let g : Sane c (length (entriesOf table)) (stateOf table′ stack′ m′) = rw q (sane-walk w rest (sane-pop (rw full at sane))) in
       let l : length (entriesOf table′) ≡ length (entriesOf table) = g .long in
       record {
@@ -71,73 +71,73 @@ module _ (base : ℕ) (pool stack₀ table stack : List ℕ) (m : Marking) (can 
         same = rw (q, full) (sym (drain-pop c (entriesOf table) w st (m .overflow)));
       }
 
-pub drain-end : (c : Scene) (table stack : List ℕ) (m : Marking) {z : State} → m .depth ≤ 0 → drain c (stateOf table stack m) ≡ z → idle table (m .overflow) ≡ z
+pub drain-end : (c : Context) (table stack : List ℕ) (m : Marking) {z : State} → m .depth ≤ 0 → drain c (stateOf table stack m) ≡ z → idle table (m .overflow) ≡ z
 drain-end c table stack m h i =
     let e : m .depth ≡ 0 = omega arith in
     sym (drain-nil c (entriesOf table) (m .overflow)) ∙ (rw e at i)
 
 -- the walk of an object from an empty stack leaves what can be drained, and draining that ends the trace
 module _ (base : ℕ) (pool table stack : List ℕ) (overflow : Bool) (k : ℕ) (table′ stack′ : List ℕ) (m′ : Marking)
-    (came : Came (walk (sceneOf base pool stack) k (idle table overflow)) table′ stack′ m′) where
+    (came : Came (walk (contextOf base pool stack) k (idle table overflow)) table′ stack′ m′) where
   pub walked-can : Shape pool table → length table′ ≡ length table → CanDrain pool table′ stack′ m′
   walked-can shape t =
-      let c : Scene = sceneOf base pool stack in
+      let c : Context = contextOf base pool stack in
       let g : Sane c (length (entriesOf table)) (stateOf table′ stack′ m′) = rw (came .same) (sane-walk k (idle table overflow) (sane-start (entriesOf table) overflow refl)) in
       let l : length (entriesOf table′) ≡ length (entriesOf table) = g .long in
       record { shape = shape-same pool table table′ shape t; deep = came .deep; below = rw l (g .below) }
 
-  pub trace-end : {z : State} → length stack′ ≡ length stack → z ≡ drain (sceneOf base pool stack′) (stateOf table′ stack′ m′)
-      → z ≡ trace (sceneOf base pool stack) k (idle table overflow)
+  pub trace-end : {z : State} → length stack′ ≡ length stack → z ≡ drain (contextOf base pool stack′) (stateOf table′ stack′ m′)
+      → z ≡ trace (contextOf base pool stack) k (idle table overflow)
   unfolding trace
-  trace-end e q = q ∙ rw (scene-same base pool stack stack′ e, came .same)
+  trace-end e q = q ∙ rw (context-same base pool stack stack′ e, came .same)
 
 -- a root's block that was a HEAD, marked and traced
-pub root-end : (c : Scene) (w k : ℕ) (table table′ : List ℕ) (overflow : Bool) {z : State} → some k ≡ unmarkedTo (c .base) (entriesOf table) w
+pub root-end : (c : Context) (w k : ℕ) (table table′ : List ℕ) (overflow : Bool) {z : State} → some k ≡ unmarkedTo (c .base) (entriesOf table) w
     → entriesOf table′ ≡ set (entriesOf table) k MARK → z ≡ trace c k (idle table′ overflow) → z ≡ markRoot c w (idle table overflow)
 root-end c w k table table′ overflow q e r = (rw e at r) ∙ sym (root-marks c w (idle table overflow) k q)
 
 -- a block that is MARK, traced
-pub block-end : (c : Scene) (k : ℕ) (s : State) {z : State} → entryAt (s .entries) k ≡ MARK → z ≡ trace c k s → z ≡ passBlock c k s
+pub block-end : (c : Context) (k : ℕ) (s : State) {z : State} → entryAt (s .entries) k ≡ MARK → z ≡ trace c k s → z ≡ passBlock c k s
 block-end c k s h q = q ∙ sym (pass-walks c k s h)
 
 module _ (base : ℕ) (pool stack₀ : List ℕ) where
   pub roots-next : (roots : List ℕ) (i w : ℕ) (stack : List ℕ) (s : State) {s′ z : State} → i < length roots / 4 → length stack ≡ length stack₀ → w ≡ wordAt roots i
-      → s′ ≡ markRoot (sceneOf base pool stack) w s
-      → markRoots (sceneOf base pool stack₀) (drop i (wordsOf roots)) s ≡ z → markRoots (sceneOf base pool stack₀) (drop (i + 1) (wordsOf roots)) s′ ≡ z
+      → s′ ≡ markRoot (contextOf base pool stack) w s
+      → markRoots (contextOf base pool stack₀) (drop i (wordsOf roots)) s ≡ z → markRoots (contextOf base pool stack₀) (drop (i + 1) (wordsOf roots)) s′ ≡ z
   roots-next roots i w stack s h e v q r =
       let g : w ≡ getD (wordsOf roots) i 0 = v ∙ sym (getD-wordsOf roots i (omega arith)) in
-      roots-turn (sceneOf base pool stack₀) (wordsOf roots) i s (rw (length-wordsOf roots) h) (scene-same base pool stack₀ stack e)
-      (q ∙ ap (λ (u : ℕ). markRoot (sceneOf base pool stack) u s) g) r
+      roots-turn (contextOf base pool stack₀) (wordsOf roots) i s (rw (length-wordsOf roots) h) (context-same base pool stack₀ stack e)
+      (q ∙ ap (λ (u : ℕ). markRoot (contextOf base pool stack) u s) g) r
 
-  pub pass-next : (k n : ℕ) (stack : List ℕ) (s : State) {s′ z : State} → k < n → length stack ≡ length stack₀ → s′ ≡ passBlock (sceneOf base pool stack) k s
-      → passFrom (sceneOf base pool stack₀) k (n - k) s ≡ z → passFrom (sceneOf base pool stack₀) (k + 1) (n - (k + 1)) s′ ≡ z
-  pass-next k n stack s h e q r = pass-turn (sceneOf base pool stack₀) k n s h (scene-same base pool stack₀ stack e) q r
+  pub pass-next : (k n : ℕ) (stack : List ℕ) (s : State) {s′ z : State} → k < n → length stack ≡ length stack₀ → s′ ≡ passBlock (contextOf base pool stack) k s
+      → passFrom (contextOf base pool stack₀) k (n - k) s ≡ z → passFrom (contextOf base pool stack₀) (k + 1) (n - (k + 1)) s′ ≡ z
+  pass-next k n stack s h e q r = pass-turn (contextOf base pool stack₀) k n s h (context-same base pool stack₀ stack e) q r
 
   pub pass-last : (k n : ℕ) (table₀ : List ℕ) (s : State) → n ≤ k → n ≡ length (entriesOf table₀)
-      → passFrom (sceneOf base pool stack₀) k (n - k) s ≡ passFrom (sceneOf base pool stack₀) 0 n (idle table₀ false) → s ≡ pass (sceneOf base pool stack₀) (idle table₀ true)
+      → passFrom (contextOf base pool stack₀) k (n - k) s ≡ passFrom (contextOf base pool stack₀) 0 n (idle table₀ false) → s ≡ pass (contextOf base pool stack₀) (idle table₀ true)
   unfolding pass
-  pass-last k n table₀ s h e r = pass-end (sceneOf base pool stack₀) k n s h r ∙ rw e
+  pass-last k n table₀ s h e r = pass-end (contextOf base pool stack₀) k n s h r ∙ rw e
 
   -- what a rescan leaves
   pub record Rescanned (table table′ : List ℕ) (overflow overflow′ : Bool) : Type 0 where
     pub less : toRescan (idle table′ overflow′) < toRescan (idle table overflow)
-    pub same : (r : ℕ) → rescan (sceneOf base pool stack₀) (idle table′ overflow′) (r + 1) ≡ rescan (sceneOf base pool stack₀) (idle table overflow) r
+    pub same : (r : ℕ) → rescan (contextOf base pool stack₀) (idle table′ overflow′) (r + 1) ≡ rescan (contextOf base pool stack₀) (idle table overflow) r
 
   pub rescanned : (stack table table′ : List ℕ) (overflow overflow′ : Bool) → overflow ≡ true → length stack ≡ length stack₀
-      → idle table′ overflow′ ≡ pass (sceneOf base pool stack) (idle table true) → Rescanned table table′ overflow overflow′
+      → idle table′ overflow′ ≡ pass (contextOf base pool stack) (idle table true) → Rescanned table table′ overflow overflow′
   rescanned stack table table′ overflow overflow′ h e q =
-      let c : Scene = sceneOf base pool stack₀ in
-      let p : idle table′ overflow′ ≡ pass c (idle table true) = rw (scene-same base pool stack₀ stack e) at q in
+      let c : Context = contextOf base pool stack₀ in
+      let p : idle table′ overflow′ ≡ pass c (idle table true) = rw (context-same base pool stack₀ stack e) at q in
       record {
         less = rw (p, h) (pass-measure c (idle table true) refl);
         same = λ r. rw (p, h, add-one) (sym (rescan-more c (idle table true) r refl));
       }
 
 pub mark-end : (base : ℕ) (pool stack stack₀ roots table table₁ table₂ : List ℕ) (overflow₁ overflow : Bool) (r : ℕ) → length stack ≡ length stack₀ → overflow ≡ false
-    → idle table₁ overflow₁ ≡ markRoots (sceneOf base pool stack₀) (wordsOf roots) (idle table false)
-    → rescan (sceneOf base pool stack) (idle table₂ overflow) r ≡ rescan (sceneOf base pool stack) (idle table₁ overflow₁) 0
-    → markedIn (idle table₂ false) r ≡ markAll (sceneOf base pool stack₀) (wordsOf roots) (entriesOf table)
+    → idle table₁ overflow₁ ≡ markRoots (contextOf base pool stack₀) (wordsOf roots) (idle table false)
+    → rescan (contextOf base pool stack) (idle table₂ overflow) r ≡ rescan (contextOf base pool stack) (idle table₁ overflow₁) 0
+    → markedIn (idle table₂ false) r ≡ markAll (contextOf base pool stack₀) (wordsOf roots) (entriesOf table)
 mark-end base pool stack stack₀ roots table table₁ table₂ overflow₁ overflow r e h q i =
-    let c : Scene = sceneOf base pool stack₀ in
-    let j : rescan c (idle table₂ false) r ≡ rescan c (idle table₁ overflow₁) 0 = rw (scene-same base pool stack₀ stack e, h) at i in
+    let c : Context = contextOf base pool stack₀ in
+    let j : rescan c (idle table₂ false) r ≡ rescan c (idle table₁ overflow₁) 0 = rw (context-same base pool stack₀ stack e, h) at i in
     sym (rescan-done c (idle table₂ false) r refl) ∙ j ∙ sym (markAll-from c (wordsOf roots) (entriesOf table) q refl)

@@ -1,4 +1,4 @@
--- What the code's variables stand for in the rules: the scene, the state of the marking, and what the functions ask and leave.
+-- What the code's variables stand for in the rules: the context, the state of the marking, and what the functions ask and leave.
 -- Assumes nothing.
 use mathlib.Core.Path.{_≡_}
 use mathlib.Core.Bool.{Bool}
@@ -11,7 +11,7 @@ use Rattle.rules.specs.Words.{wordAt}
 use Rattle.rules.specs.Entries.{entriesOf}
 use Rattle.rules.specs.Tables.{entryAt, isHead}
 use Rattle.rules.specs.Pointers.{leadsTo}
-use Rattle.rules.specs.Marking.{Scene, State, state}
+use Rattle.rules.specs.Marking.{Context, State, state}
 use Rattle.marker.specs.declared.Marking.{Marking}
 
 -- a block, if it is a HEAD
@@ -29,8 +29,8 @@ stacked stack zero = []
 stacked stack (suc d) = wordAt stack d ∷ stacked stack d
 
 -- the stack's length is the room
-abbrev pub sceneOf : ℕ → List ℕ → List ℕ → Scene
-sceneOf base pool stack = record { base = base; pool = pool; room = length stack / 4 }
+abbrev pub contextOf : ℕ → List ℕ → List ℕ → Context
+contextOf base pool stack = record { base = base; pool = pool; room = length stack / 4 }
 
 -- what the lent stack holds from its depth on is not part of the state
 abbrev pub stateOf : List ℕ → List ℕ → Marking → State

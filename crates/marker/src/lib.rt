@@ -8,7 +8,7 @@ ghost use Rattle.rules.specs.Words.{wordsOf};
 ghost use Rattle.rules.specs.Entries.{entriesOf};
 ghost use Rattle.rules.specs.Marking.{markedIn, markAll, visit as visitOf, walk as walkOf, drain as drainOf, trace as traceOf, markRoot, markRoots, passBlock, pass};
 ghost use Rattle.memory.specs.Places.{found};
-ghost use Rattle.marker.specs.Variables.{unmarkedTo, sceneOf, stateOf, idle, Shape, Came, CanDrain};
+ghost use Rattle.marker.specs.Variables.{unmarkedTo, contextOf, stateOf, idle, Shape, Came, CanDrain};
 use memory::Address;
 use memory::Block;
 use memory::Found;
@@ -40,7 +40,7 @@ fn unmarked(base: Address, table: &[u8], w: u32) -> Found
 // A word of a walked object: an unmarked block that it leads to becomes MARK and is pushed, or the overflow is set.
 fn visit(base: Address, table: &mut [u8], stack: &mut [u8], m: Marking, w: u32) -> Marking
     requires { ⌜ (length (now table) ≤ 1024) × (m .depth ≤ length (now stack) / 4) ⌝ }
-    ensures { λ r. ⌜ ((pool : List ℕ) → Came (visitOf (sceneOf (base .0) pool (now (stack .entry))) w (stateOf (now (table .entry)) (now (stack .entry)) m))
+    ensures { λ r. ⌜ ((pool : List ℕ) → Came (visitOf (contextOf (base .0) pool (now (stack .entry))) w (stateOf (now (table .entry)) (now (stack .entry)) m))
         (now (table .exit)) (now (stack .exit)) r) ⌝ }
 {
     let target = unmarked(base, &*table, w);
@@ -74,7 +74,7 @@ fn walk(
 ) -> Marking
     requires { ⌜ Shape (now pool) (now table) ⌝ }
     requires { ⌜ (m .depth ≤ length (now stack) / 4) × (k .0 < length (entriesOf (now table))) ⌝ }
-    ensures { λ r. ⌜ Came (walkOf (sceneOf (base .0) (now (pool .entry)) (now (stack .entry))) (k .0) (stateOf (now (table .entry)) (now (stack .entry)) m))
+    ensures { λ r. ⌜ Came (walkOf (contextOf (base .0) (now (pool .entry)) (now (stack .entry))) (k .0) (stateOf (now (table .entry)) (now (stack .entry)) m))
         (now (table .exit)) (now (stack .exit)) r ⌝ }
 {
     let first = k.first_word();
@@ -97,7 +97,7 @@ fn walk(
 fn drain(base: Address, pool: &[u8], table: &mut [u8], stack: &mut [u8], m: Marking) -> bool
     requires { ⌜ CanDrain (now pool) (now table) (now stack) m ⌝ }
     ensures { λ r. ⌜ idle (now (table .exit)) r
-        ≡ drainOf (sceneOf (base .0) (now (pool .entry)) (now (stack .entry))) (stateOf (now (table .entry)) (now (stack .entry)) m) ⌝ }
+        ≡ drainOf (contextOf (base .0) (now (pool .entry)) (now (stack .entry))) (stateOf (now (table .entry)) (now (stack .entry)) m) ⌝ }
 {
     let mut left = m;
     while 0 < left.depth {
@@ -124,7 +124,7 @@ fn trace(
     requires { ⌜ Shape (now pool) (now table) ⌝ }
     requires { ⌜ k .0 < length (entriesOf (now table)) ⌝ }
     ensures { λ r. ⌜ idle (now (table .exit)) r
-        ≡ traceOf (sceneOf (base .0) (now (pool .entry)) (now (stack .entry))) (k .0) (idle (now (table .entry)) overflow) ⌝ }
+        ≡ traceOf (contextOf (base .0) (now (pool .entry)) (now (stack .entry))) (k .0) (idle (now (table .entry)) overflow) ⌝ }
 {
     let empty = Marking { depth: 0, overflow };
     let walked = walk(base, pool, &mut *table, &mut *stack, empty, k);
@@ -142,7 +142,7 @@ fn mark_root(
 ) -> bool
     requires { ⌜ Shape (now pool) (now table) ⌝ }
     ensures { λ r. ⌜ idle (now (table .exit)) r
-        ≡ markRoot (sceneOf (base .0) (now (pool .entry)) (now (stack .entry))) w (idle (now (table .entry)) overflow) ⌝ }
+        ≡ markRoot (contextOf (base .0) (now (pool .entry)) (now (stack .entry))) w (idle (now (table .entry)) overflow) ⌝ }
 {
     let target = unmarked(base, &*table, w);
     let Found::At(k) = target else {
@@ -156,7 +156,7 @@ fn mark_root(
 fn mark_roots(base: Address, pool: &[u8], table: &mut [u8], stack: &mut [u8], roots: &[u8]) -> bool
     requires { ⌜ Shape (now pool) (now table) ⌝ }
     ensures { λ r. ⌜ idle (now (table .exit)) r
-        ≡ markRoots (sceneOf (base .0) (now (pool .entry)) (now (stack .entry))) (wordsOf (now (roots .entry))) (idle (now (table .entry)) false) ⌝ }
+        ≡ markRoots (contextOf (base .0) (now (pool .entry)) (now (stack .entry))) (wordsOf (now (roots .entry))) (idle (now (table .entry)) false) ⌝ }
 {
     let mut overflow = false;
     let mut i = 0;
@@ -186,7 +186,7 @@ fn rescan_block(
     requires { ⌜ Shape (now pool) (now table) ⌝ }
     requires { ⌜ k .0 < length (entriesOf (now table)) ⌝ }
     ensures { λ r. ⌜ idle (now (table .exit)) r
-        ≡ passBlock (sceneOf (base .0) (now (pool .entry)) (now (stack .entry))) (k .0) (idle (now (table .entry)) overflow) ⌝ }
+        ≡ passBlock (contextOf (base .0) (now (pool .entry)) (now (stack .entry))) (k .0) (idle (now (table .entry)) overflow) ⌝ }
 {
     if entries::entry(&*table, k) != entries::MARK {
         return overflow;
@@ -198,7 +198,7 @@ fn rescan_block(
 fn rescan(base: Address, pool: &[u8], table: &mut [u8], stack: &mut [u8]) -> bool
     requires { ⌜ Shape (now pool) (now table) ⌝ }
     ensures { λ r. ⌜ idle (now (table .exit)) r
-        ≡ pass (sceneOf (base .0) (now (pool .entry)) (now (stack .entry))) (idle (now (table .entry)) true) ⌝ }
+        ≡ pass (contextOf (base .0) (now (pool .entry)) (now (stack .entry))) (idle (now (table .entry)) true) ⌝ }
 {
     let n = entries::blocks(&*table);
     let mut overflow = false;
@@ -214,7 +214,7 @@ fn rescan(base: Address, pool: &[u8], table: &mut [u8], stack: &mut [u8]) -> boo
 pub fn mark(base: Address, pool: &[u8], table: &mut [u8], stack: &mut [u8], roots: &[u8]) -> u32
     requires { ⌜ Shape (now pool) (now table) ⌝ }
     ensures { λ r. ⌜ markedIn (idle (now (table .exit)) false) r
-        ≡ markAll (sceneOf (base .0) (now (pool .entry)) (now (stack .entry))) (wordsOf (now (roots .entry))) (entriesOf (now (table .entry))) ⌝ }
+        ≡ markAll (contextOf (base .0) (now (pool .entry)) (now (stack .entry))) (wordsOf (now (roots .entry))) (entriesOf (now (table .entry))) ⌝ }
 {
     let mut overflow = mark_roots(base, pool, &mut *table, &mut *stack, roots);
     let mut rescans = 0;

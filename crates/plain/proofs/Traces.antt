@@ -17,7 +17,7 @@ use Rattle.rules.specs.Words.{wordAt}
 use Rattle.rules.specs.Entries.{FREE, HEAD, MARK}
 use Rattle.rules.specs.Tables.{entryAt, isHead, blockCount, objects}
 use Rattle.rules.specs.Pointers.{targetOf, headsObject, headAt, leadsTo}
-use Rattle.rules.specs.Marking.{Scene, State, state, marked, pushed, visitTo, visit, walkWords, walk, drain, trace, rootTo, markRoot, markRoots, passBlock, passFrom, pass, Marked, rescan, markAll}
+use Rattle.rules.specs.Marking.{Context, State, state, marked, pushed, visitTo, visit, walkWords, walk, drain, trace, rootTo, markRoot, markRoots, passBlock, passFrom, pass, Marked, rescan, markAll}
 use Rattle.rules.proofs.Refusals.{true-not-false}
 use Rattle.rules.proofs.Tables.{count-is}
 use Rattle.rules.proofs.Marking.{head-inside, objects-mark, toDrain, pop-measure, drain-nil, drain-pop, pass-skips, toRescan, pass-measure, rescan-done, rescan-more}
@@ -93,22 +93,22 @@ abbrev pub starts : List Object → List ℕ
 starts os = map (λ (o : Object). o .start) os
 
 -- the words of an object can also be taken the first last
-walk-front : (c : Scene) (first n : ℕ) (z : State) → walkWords c first (suc n) z ≡ visit c (wordAt (c .pool) first) (walkWords c (suc first) n z)
+walk-front : (c : Context) (first n : ℕ) (z : State) → walkWords c first (suc n) z ≡ visit c (wordAt (c .pool) first) (walkWords c (suc first) n z)
 unfolding walkWords
 walk-front c first zero z = let e : first + 0 ≡ first = omega arith in rw e
 walk-front c first (suc n) z =
     let e : first + suc n ≡ suc first + n = omega arith in
     walk-front c first n (visit c (wordAt (c .pool) (first + suc n)) z) ∙ rw e
 
-drain-empty : (c : Scene) (z : State) → z .stack ≡ [] → drain c z ≡ z
+drain-empty : (c : Context) (z : State) → z .stack ≡ [] → drain c z ≡ z
 drain-empty c z e =
     ap (λ (l : List ℕ). drain c (state (z .entries) l (z .overflow))) e ∙ drain-nil c (z .entries) (z .overflow)
     ∙ ap (λ (l : List ℕ). state (z .entries) l (z .overflow)) (sym e)
 
-drain-top : (c : Scene) (z : State) (k : ℕ) (st : List ℕ) → z .stack ≡ k ∷ st → drain c z ≡ drain c (walk c k (state (z .entries) st (z .overflow)))
+drain-top : (c : Context) (z : State) (k : ℕ) (st : List ℕ) → z .stack ≡ k ∷ st → drain c z ≡ drain c (walk c k (state (z .entries) st (z .overflow)))
 drain-top c z k st e = ap (λ (l : List ℕ). drain c (state (z .entries) l (z .overflow))) e ∙ drain-pop c (z .entries) k st (z .overflow)
 
-pass-split : (c : Scene) (k a b : ℕ) (z : State) → passFrom c k (a + b) z ≡ passFrom c (k + a) b (passFrom c k a z)
+pass-split : (c : Context) (k a b : ℕ) (z : State) → passFrom c k (a + b) z ≡ passFrom c (k + a) b (passFrom c k a z)
 unfolding passFrom
 pass-split c k zero b z =
     let e : k + 0 ≡ k = omega arith in
@@ -120,7 +120,7 @@ pass-split c k (suc a) b z =
     rw (e, f) (pass-split c (suc k) a b (passBlock c k z))
 
 module _ (base : ℕ) (pool es₀ : List ℕ) (os : List Object) (room : ℕ) (laid : Laid pool es₀ 0 os) where
-  abbrev c : Scene
+  abbrev c : Context
   c = record { base = base; pool = pool; room = room }
 
   abbrev v : View

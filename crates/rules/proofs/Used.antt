@@ -9,7 +9,7 @@ use lib.ListN.{length, set}
 use Rattle.rules.specs.Words.{wordAt}
 use Rattle.rules.specs.Entries.{FREE, HEAD, MARK}
 use Rattle.rules.specs.Tables.{entryAt, isFree, used}
-use Rattle.rules.specs.Marking.{Scene, State, state, marked, walk, trace, markRoot, markRoots, pass, markAll}
+use Rattle.rules.specs.Marking.{Context, State, state, marked, walk, trace, markRoot, markRoots, pass, markAll}
 use Rattle.rules.proofs.Lists.{one, count-set}
 use Rattle.rules.proofs.Marking.{head-inside, Visits, stays, pushes, loses, visits, Rooted, idle, takes, rooted, Passed, skips, walks, passed, walk-keeps, drain-keeps, pass-keeps, rescan-keeps}
 
@@ -19,7 +19,7 @@ used-mark es k h =
     let was : one (not (isFree (entryAt es k))) ≡ 1 = rw h in
     omega (arith, count-set (λ (e : ℕ). not (isFree e)) es k MARK FREE (head-inside es k h))
 
-module _ (c : Scene) (n : ℕ) where
+module _ (c : Context) (n : ℕ) where
   visits-used : {w : ℕ} {s z : State} → Visits c w s z → used (s .entries) ≡ n → used (z .entries) ≡ n
   visits-used (stays _) u = u
   visits-used {s = s} (pushes k q h r) u = used-mark (s .entries) k h ∙ u
@@ -50,7 +50,7 @@ module _ (c : Scene) (n : ℕ) where
   pass-used s u =
       pass-keeps c (λ k z. used (z .entries) ≡ n) (λ k z p. passed-used (passed c k z) p) 0 (length (s .entries)) (state (s .entries) (s .stack) false) u
 
-pub marking-used : (c : Scene) (ws es : List ℕ) → used (markAll c ws es .last .entries) ≡ used es
+pub marking-used : (c : Context) (ws es : List ℕ) → used (markAll c ws es .last .entries) ≡ used es
 unfolding markAll
 marking-used c ws es =
     let s : State = markRoots c ws (state es [] false) in

@@ -10,7 +10,7 @@ use Prim.Native.Nat.{_≤_, ℕ}
 use Rattle.rules.specs.Entries.{entriesOf}
 use Rattle.rules.proofs.Entries.{length-entriesOf}
 use Rattle.rules.proofs.Tables.{used-le, objects-le}
-use Rattle.marker.specs.Variables.{sceneOf}
+use Rattle.marker.specs.Variables.{contextOf}
 use Rattle.collector.proofs.Collecting.{ran}
 use Rattle.collector.proofs.run.Statement.{statement}
 use Rattle.collector.proofs.run.Tie as tie
@@ -51,7 +51,7 @@ returns c =
     let m = c .before .before .before .before .before .before .before .before .before .before .before .before .before .before .mark in
     let s = c .before .before .before .before .before .before .before .before .sweep in
     let n = c .negated in
-    ran (sceneOf (a .base .0) (a .pool .now) (a .stack .now)) (a .pool .now) (a .table .now) (m .last .1 .1 .0) (s .last .0) (a .stack .now) (c .before .before .before .before .clear .last .0)
+    ran (contextOf (a .base .0) (a .pool .now) (a .stack .now)) (a .pool .now) (a .table .now) (m .last .1 .1 .0) (s .last .0) (a .stack .now) (c .before .before .before .before .clear .last .0)
     (a .roots .now) (m .result) (s .result) _ (m .ensures) (s .ensures)
     (c .before .before .before .before .clear .ensures ∙ ap (λ (k : ℕ). replicate k 0) (m .kept .1 .1 .1 .0)) (toZ-ofZ w32 (n .result) (record { sfits = n .ok }) ∙ n .ensures)
 

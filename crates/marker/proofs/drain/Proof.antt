@@ -6,7 +6,7 @@ use borrow.Author.Needs.{needs}
 use lib.ListN.{length}
 use Rattle.rules.specs.Marking.{drain}
 use Rattle.rules.proofs.Marking.{toDrain}
-use Rattle.marker.specs.Variables.{sceneOf, stateOf, CanDrain}
+use Rattle.marker.specs.Variables.{contextOf, stateOf, CanDrain}
 use Rattle.marker.proofs.Turning.{Popped, top-below, popped, drain-end}
 use Rattle.marker.proofs.drain.Statement.{statement}
 use Rattle.marker.proofs.drain.Tie as tie
@@ -16,7 +16,7 @@ Inv-loop base pool table₀ stack₀ left₀ table stack left =
     CanDrain pool table stack left
     × (length table ≡ length table₀)
     × (length stack ≡ length stack₀)
-    × (drain (sceneOf (base .0) pool stack₀) (stateOf table stack left) ≡ drain (sceneOf (base .0) pool stack₀) (stateOf table₀ stack₀ left₀))
+    × (drain (contextOf (base .0) pool stack₀) (stateOf table stack left) ≡ drain (contextOf (base .0) pool stack₀) (stateOf table₀ stack₀ left₀))
 
 abbrev μ-loop : tie.MeasureT-loop
 μ-loop base pool table₀ stack₀ left₀ table stack left = toDrain (stateOf table stack left)
@@ -70,7 +70,7 @@ returns : tie.Need-returns Inv-loop μ-loop
 returns c =
     let a = c .before .before .before .before .before .before .args in
     let l = c .before .before .loop in
-    drain-end (sceneOf (a .base .0) (a .pool .now) (a .stack .now)) (l .table) (l .stack) (l .left) (c .if1 .left) (l .inv .3)
+    drain-end (contextOf (a .base .0) (a .pool .now) (a .stack .now)) (l .table) (l .stack) (l .left) (c .if1 .left) (l .inv .3)
 
 pub drain-spec : {M : Type 1} → statement M
 drain-spec =

@@ -8,7 +8,7 @@ use lib.ListN.{length}
 use Rattle.rules.specs.Marking.{rescan}
 use Rattle.rules.proofs.Entries.{length-entriesOf}
 use Rattle.rules.proofs.Marking.{toRescan, rescan-most}
-use Rattle.marker.specs.Variables.{sceneOf, idle}
+use Rattle.marker.specs.Variables.{contextOf, idle}
 use Rattle.marker.proofs.Turning.{shape-same, Rescanned, rescanned, mark-end}
 use Rattle.marker.proofs.mark.Statement.{statement}
 use Rattle.marker.proofs.mark.Tie as tie
@@ -18,7 +18,7 @@ Inv-loop base pool table₀ stack₀ roots overflow₀ rescans₀ table stack ov
     (rescans + toRescan (idle table overflow) ≤ toRescan (idle table₀ overflow₀))
     × (length table ≡ length table₀)
     × (length stack ≡ length stack₀)
-    × (rescan (sceneOf (base .0) pool stack₀) (idle table overflow) rescans ≡ rescan (sceneOf (base .0) pool stack₀) (idle table₀ overflow₀) 0)
+    × (rescan (contextOf (base .0) pool stack₀) (idle table overflow) rescans ≡ rescan (contextOf (base .0) pool stack₀) (idle table₀ overflow₀) 0)
 
 abbrev μ-loop : tie.MeasureT-loop
 μ-loop base pool table₀ stack₀ roots overflow₀ rescans₀ table stack overflow rescans = toRescan (idle table overflow)

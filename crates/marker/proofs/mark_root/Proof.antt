@@ -9,7 +9,7 @@ use lib.ListN.{length}
 use Rattle.memory.specs.Places.{found}
 use Rattle.rules.specs.Entries.{entriesOf}
 use Rattle.rules.proofs.Entries.{length-entriesOf}
-use Rattle.marker.specs.Variables.{unmarkedTo, sceneOf, idle}
+use Rattle.marker.specs.Variables.{unmarkedTo, contextOf, idle}
 use Rattle.marker.proofs.Pointing.{unmarked-inside, root-stays}
 use Rattle.marker.proofs.Turning.{shape-same, root-end}
 use Rattle.marker.proofs.mark_root.Statement.{statement}
@@ -30,7 +30,7 @@ same-length c = search needs
 returns : tie.Need-returns
 returns c =
     let a = c .before .before .before .before .before .before .before .args in
-    sym (root-stays (sceneOf (a .base .0) (a .pool .now) (a .stack .now)) (a .w) (idle (a .table .now) (a .overflow))
+    sym (root-stays (contextOf (a .base .0) (a .pool .now) (a .stack .now)) (a .w) (idle (a .table .now) (a .overflow))
     (sym (ap found (c .enum-told .given .1)) ∙ c .before .before .unmarked .ensures))
 
 -- the HEAD that the root leads to, and that it is a block of the table
@@ -60,7 +60,7 @@ same-length-3 c = search needs
 returns-2 : tie.Need-returns-2
 returns-2 c =
     let a = c .before .before .before .before .before .before .before .before .before .before .before .before .before .before .before .before .before .before .before .args in
-    root-end (sceneOf (a .base .0) (a .pool .now) (a .stack .now)) (a .w) _ (a .table .now) (c .before .before .before .before .before .before .before .before .before .set-entry .last .0) (a .overflow)
+    root-end (contextOf (a .base .0) (a .pool .now) (a .stack .now)) (a .w) _ (a .table .now) (c .before .before .before .before .before .before .before .before .before .set-entry .last .0) (a .overflow)
     (at (c .before .before .before .before .before .before .before .before .before .before .before .before)) (c .before .before .before .before .before .before .before .before .before .set-entry .ensures) (c .before .before .before .before .trace .ensures)
 
 pub mark-root-spec : {M : Type 1} → statement M

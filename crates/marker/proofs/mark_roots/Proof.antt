@@ -10,7 +10,7 @@ use Rattle.rules.specs.Words.{wordsOf}
 use Rattle.rules.specs.Marking.{markRoots}
 use Rattle.rules.proofs.Words.{length-wordsOf}
 use Rattle.rules.proofs.Marking.{roots-end}
-use Rattle.marker.specs.Variables.{sceneOf, idle}
+use Rattle.marker.specs.Variables.{contextOf, idle}
 use Rattle.marker.proofs.Turning.{shape-same, roots-next}
 use Rattle.marker.proofs.mark_roots.Statement.{statement}
 use Rattle.marker.proofs.mark_roots.Tie as tie
@@ -19,7 +19,7 @@ abbrev Inv-loop : tie.InvT-loop
 Inv-loop base pool table₀ stack₀ roots overflow₀ i₀ table stack overflow i =
     (length table ≡ length table₀)
     × (length stack ≡ length stack₀)
-    × (markRoots (sceneOf (base .0) pool stack₀) (drop i (wordsOf roots)) (idle table overflow) ≡ markRoots (sceneOf (base .0) pool stack₀) (wordsOf roots) (idle table₀ false))
+    × (markRoots (contextOf (base .0) pool stack₀) (drop i (wordsOf roots)) (idle table overflow) ≡ markRoots (contextOf (base .0) pool stack₀) (wordsOf roots) (idle table₀ false))
 
 abbrev μ-loop : tie.MeasureT-loop
 μ-loop base pool table₀ stack₀ roots overflow₀ i₀ table stack overflow i = length roots / 4 - i
@@ -60,7 +60,7 @@ returns : tie.Need-returns Inv-loop μ-loop
 returns c =
     let a = c .before .before .before .before .before .before .args in
     let l = c .before .loop in
-    roots-end (sceneOf (a .base .0) (a .pool .now) (a .stack .now)) (wordsOf (a .roots .now)) (l .i) (idle (l .table) (l .overflow))
+    roots-end (contextOf (a .base .0) (a .pool .now) (a .stack .now)) (wordsOf (a .roots .now)) (l .i) (idle (l .table) (l .overflow))
     (omega (arith, c .loop-test .left, length-wordsOf (a .roots .now))) (l .inv .2)
 
 pub mark-roots-spec : {M : Type 1} → statement M

@@ -8,7 +8,7 @@ use borrow.Author.Needs.{needs}
 use lib.ListN.{length}
 use Rattle.rules.specs.Marking.{passFrom}
 use Rattle.rules.proofs.Entries.{length-entriesOf}
-use Rattle.marker.specs.Variables.{sceneOf, idle}
+use Rattle.marker.specs.Variables.{contextOf, idle}
 use Rattle.marker.proofs.Turning.{shape-same, pass-next, pass-last}
 use Rattle.marker.proofs.rescan.Statement.{statement}
 use Rattle.marker.proofs.rescan.Tie as tie
@@ -17,7 +17,7 @@ abbrev Inv-loop : tie.InvT-loop
 Inv-loop base pool table₀ stack₀ n overflow₀ i₀ table stack overflow i =
     (length table ≡ length table₀)
     × (length stack ≡ length stack₀)
-    × (passFrom (sceneOf (base .0) pool stack₀) i (n - i) (idle table overflow) ≡ passFrom (sceneOf (base .0) pool stack₀) 0 n (idle table₀ false))
+    × (passFrom (contextOf (base .0) pool stack₀) i (n - i) (idle table overflow) ≡ passFrom (contextOf (base .0) pool stack₀) 0 n (idle table₀ false))
 
 abbrev μ-loop : tie.MeasureT-loop
 μ-loop base pool table₀ stack₀ n overflow₀ i₀ table stack overflow i = n - i

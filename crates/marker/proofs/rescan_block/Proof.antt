@@ -3,7 +3,7 @@
 use mathlib.Core.Path.{sym, _∙_}
 use borrow.Author.Needs.{needs}
 use Rattle.rules.proofs.Marking.{pass-skips}
-use Rattle.marker.specs.Variables.{sceneOf, idle}
+use Rattle.marker.specs.Variables.{contextOf, idle}
 use Rattle.marker.proofs.Turning.{block-end}
 use Rattle.marker.proofs.rescan_block.Statement.{statement}
 use Rattle.marker.proofs.rescan_block.Tie as tie
@@ -17,7 +17,7 @@ same-length c = search needs
 returns : tie.Need-returns
 returns c =
     let a = c .before .before .before .before .before .before .args in
-    sym (pass-skips (sceneOf (a .base .0) (a .pool .now) (a .stack .now)) (a .k .0) (idle (a .table .now) (a .overflow))
+    sym (pass-skips (contextOf (a .base .0) (a .pool .now) (a .stack .now)) (a .k .0) (idle (a .table .now) (a .overflow))
     (λ q. c .if1 .taken (c .before .entry .ensures ∙ q)))
 
 trace-requires : tie.Need-trace-requires
@@ -32,7 +32,7 @@ same-length-3 c = search needs
 returns-2 : tie.Need-returns-2
 returns-2 c =
     let a = c .before .before .before .before .before .before .before .before .before .before .before .before .before .args in
-    block-end (sceneOf (a .base .0) (a .pool .now) (a .stack .now)) (a .k .0) (idle (a .table .now) (a .overflow))
+    block-end (contextOf (a .base .0) (a .pool .now) (a .stack .now)) (a .k .0) (idle (a .table .now) (a .overflow))
     (sym (c .before .before .before .before .before .before .before .before .entry .ensures) ∙ c .before .before .before .before .before .before .before .if1 .left) (c .before .before .before .before .trace .ensures)
 
 pub rescan-block-spec : {M : Type 1} → statement M

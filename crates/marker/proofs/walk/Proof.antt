@@ -7,7 +7,7 @@ use borrow.Author.Needs.{needs}
 use lib.ListN.{length}
 use Rattle.rules.specs.Marking.{walkWords}
 use Rattle.rules.proofs.Entries.{length-entriesOf}
-use Rattle.marker.specs.Variables.{sceneOf, stateOf}
+use Rattle.marker.specs.Variables.{contextOf, stateOf}
 use Rattle.marker.proofs.Turning.{walk-turn, walk-end}
 use Rattle.marker.proofs.walk.Statement.{statement}
 use Rattle.marker.proofs.walk.Tie as tie
@@ -18,7 +18,7 @@ Inv-loop base pool table₀ stack₀ first i₀ walked₀ table stack i walked =
     × (walked .depth ≤ length stack / 4)
     × (length table ≡ length table₀)
     × (length stack ≡ length stack₀)
-    × (walkWords (sceneOf (base .0) pool stack₀) first i (stateOf table stack walked) ≡ walkWords (sceneOf (base .0) pool stack₀) first i₀ (stateOf table₀ stack₀ walked₀))
+    × (walkWords (contextOf (base .0) pool stack₀) first i (stateOf table stack walked) ≡ walkWords (contextOf (base .0) pool stack₀) first i₀ (stateOf table₀ stack₀ walked₀))
 
 abbrev μ-loop : tie.MeasureT-loop
 μ-loop base pool table₀ stack₀ first i₀ walked₀ table stack i walked = i
