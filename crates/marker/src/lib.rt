@@ -50,7 +50,7 @@ fn visit(base: Address, table: &mut [u8], stack: &mut [u8], m: Marking, w: u32) 
     entries::set_entry(&mut *table, k, entries::MARK);
     let d = m.depth;
     if d < stack.len() / 4 {
-        memory::set_word(&mut *stack, d, k.0 as u32);
+        memory::set_word(&mut *stack, d, k.to_word());
         let deeper = d + 1;
         return Marking {
             depth: deeper,
@@ -102,7 +102,7 @@ fn drain(base: Address, pool: &[u8], table: &mut [u8], stack: &mut [u8], m: Mark
     let mut left = m;
     while 0 < left.depth {
         let d = left.depth - 1;
-        let k = Block(memory::word(&*stack, d) as usize);
+        let k = Block::of_word(memory::word(&*stack, d));
         let popped = Marking {
             depth: d,
             overflow: left.overflow,

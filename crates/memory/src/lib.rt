@@ -49,6 +49,21 @@ impl Block {
     {
         4 * self.0
     }
+
+    // The number as a word of the mark stack holds it.
+    pub fn to_word(self) -> u32
+        requires { ⌜ self .0 < 2 ^ 32 ⌝ }
+        ensures { λ r. ⌜ r ≡ self .0 ⌝ }
+    {
+        self.0 as u32
+    }
+
+    // The block whose number a word holds.
+    pub fn of_word(w: u32) -> Block
+        ensures { λ r. ⌜ r .0 ≡ w ⌝ }
+    {
+        Block(w as usize)
+    }
 }
 
 impl Bytes {

@@ -30,33 +30,33 @@ sub-d c = search needs
 word-requires : tie.Need-word-requires Inv-loop μ-loop
 word-requires c κs = omega (arith, c .before .before .before .before .loop .inv .0 .deep)
 
-cast-t14 : tie.Need-cast-t14 Inv-loop μ-loop
-cast-t14 c = search needs
+of-word-requires : tie.Need-of-word-requires Inv-loop μ-loop
+of-word-requires c κs = search needs
 
 walk-requires : tie.Need-walk-requires Inv-loop μ-loop
 walk-requires c κs =
-    let l = c .before .before .before .before .before .before .before .loop in
+    let l = c .before .before .before .before .before .before .before .before .loop in
     let can = l .inv .0 in
-    (can .shape, (omega (arith, can .deep), rw (c .before .before .word .ensures) (top-below (c .before .before .before .before .before .before .before .before .before .before .before .args .pool .now) (l .table) (l .stack) (l .left) can (omega arith))))
+    (can .shape, (omega (arith, can .deep), rw (c .before .before .of-word .ensures ∙ c .before .before .before .word .ensures) (top-below (c .before .before .before .before .before .before .before .before .before .before .before .before .args .pool .now) (l .table) (l .stack) (l .left) can (omega arith))))
 
 turned : (c : tie.After-slice-known4 Inv-loop μ-loop) →
-    let a = c .before .before .before .before .before .before .before .before .before .before .before .before .before .before .before .before .args in
-    let l = c .before .before .before .before .before .before .before .before .before .before .before .before .loop in
+    let a = c .before .before .before .before .before .before .before .before .before .before .before .before .before .before .before .before .before .args in
+    let l = c .before .before .before .before .before .before .before .before .before .before .before .before .before .loop in
     let w = c .before .before .before .before .walk in
     Popped (a .base .0) (a .pool .now) (a .stack .now) (l .table) (l .stack) (l .left) (w .last .1 .1 .0) (w .last .1 .1 .1 .0) (w .result)
 turned c =
-    let a = c .before .before .before .before .before .before .before .before .before .before .before .before .before .before .before .before .args in
-    let l = c .before .before .before .before .before .before .before .before .before .before .before .before .loop in
+    let a = c .before .before .before .before .before .before .before .before .before .before .before .before .before .before .before .before .before .args in
+    let l = c .before .before .before .before .before .before .before .before .before .before .before .before .before .loop in
     let w = c .before .before .before .before .walk in
     popped (a .base .0) (a .pool .now) (a .stack .now) (l .table) (l .stack) (l .left) (l .inv .0) (l .inv .2)
-    (c .before .before .before .before .before .before .before .word .result) (w .last .1 .1 .0) (w .last .1 .1 .1 .0) (w .result) (omega arith) (c .before .before .before .before .before .before .before .word .ensures) (w .kept .1 .1 .0) (w .ensures)
+    (c .before .before .before .before .before .before .before .of-word .result .0) (w .last .1 .1 .0) (w .last .1 .1 .1 .0) (w .result) (omega arith) (c .before .before .before .before .before .before .before .of-word .ensures ∙ c .before .before .before .before .before .before .before .before .word .ensures) (w .kept .1 .1 .0) (w .ensures)
 
 loop-less : tie.Need-loop-less Inv-loop μ-loop
 loop-less c = turned c .less
 
 loop-again : tie.Need-loop-again Inv-loop μ-loop
 loop-again c =
-    let l = c .before .before .before .before .before .before .before .before .before .before .before .before .loop in
+    let l = c .before .before .before .before .before .before .before .before .before .before .before .before .before .loop in
     let w = c .before .before .before .before .walk in
     (turned c .can, w .kept .1 .1 .0 ∙ l .inv .1, w .kept .1 .1 .1 .0 ∙ l .inv .2, turned c .same ∙ l .inv .3)
 
@@ -81,7 +81,7 @@ drain-spec =
     loop-holds
     sub-d
     word-requires
-    cast-t14
+    of-word-requires
     walk-requires
     loop-less
     loop-again

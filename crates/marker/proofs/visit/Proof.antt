@@ -43,8 +43,8 @@ inside c = unmarked-inside _ _ _ _ (at c)
 set-entry-requires : tie.Need-set-entry-requires
 set-entry-requires c κs = (inside (c .before .before), search needs)
 
-cast-set-word : tie.Need-cast-set-word
-cast-set-word c = record { fits = omega (arith, inside (c .before .before .before .before .before .before .before .before), length-entriesOf (c .before .before .before .before .before .before .before .before .before .before .before .before .before .before .args .table .now), c .before .before .before .before .before .before .before .before .before .before .before .before .before .before .pre) }
+to-word-requires : tie.Need-to-word-requires
+to-word-requires c κs = omega (arith, inside (c .before .before .before .before .before .before .before), length-entriesOf (c .before .before .before .before .before .before .before .before .before .before .before .before .before .args .table .now), c .before .before .before .before .before .before .before .before .before .before .before .before .before .pre)
 
 set-word-requires : tie.Need-set-word-requires
 set-word-requires c κs = search needs
@@ -62,7 +62,7 @@ returns-2 : tie.Need-returns-2
 returns-2 c pool =
     let a = c .before .before .before .before .before .before .before .before .before .before .before .before .before .before .before .before .before .args in
     came-pushes (a .base .0) (a .table .now) (a .stack .now) (a .m) (a .w) (c .before .before .before .before .before .before .before .before .before .before .before .before .before .before .before .before .before .pre .1) pool _ (at (c .before .before .before .before .before .before .before .before .before .before .before))
-    (omega (arith, inside (c .before .before .before .before .before .before .before .before .before .before .before), length-entriesOf (a .table .now), c .before .before .before .before .before .before .before .before .before .before .before .before .before .before .before .before .before .pre)) (c .before .before .before .before .before .if1 .taken) (c .before .before .before .before .before .before .before .before .set-entry .ensures) (c .before .before .set-word .ensures)
+    (omega (arith, inside (c .before .before .before .before .before .before .before .before .before .before .before), length-entriesOf (a .table .now), c .before .before .before .before .before .before .before .before .before .before .before .before .before .before .before .before .before .pre)) (c .before .before .before .before .before .if1 .taken) (c .before .before .before .before .before .before .before .before .set-entry .ensures) (rw (c .before .before .before .to-word .ensures) at (c .before .before .set-word .ensures))
 
 same-length-4 : tie.Need-same-length-4
 same-length-4 c = search needs
@@ -83,7 +83,7 @@ visit-spec =
     same-length
     returns
     set-entry-requires
-    cast-set-word
+    to-word-requires
     set-word-requires
     add-deeper
     same-length-2
