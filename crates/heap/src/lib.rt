@@ -220,10 +220,11 @@ pub fn survey(base: Address, pool: &[u8], table: &[u8]) -> Surveyed
             longest: 0,
         };
     }
+    let counts = entries::whole::count(table);
     Surveyed {
         refusal: 0,
-        used: table::used(table) as u32,
-        objects: table::objects(table) as u32,
+        used: counts.used as u32,
+        objects: counts.objects as u32,
         longest: table::longest(table) as u32,
     }
 }

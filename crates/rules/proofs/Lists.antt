@@ -7,8 +7,8 @@ use Prim.Native.Nat.{ℕ, zero, suc, _+_, _≤_, _<_}
 use native.Mathlib.Numerals.{add-one}
 use native.Mathlib.Decide.{ℕ-discrete, decLt}
 use native.Mathlib.Omega.{arith}
-use lib.ListN.{length, getD, set, drop, replicate, length-set, length-replicate, drop-of-length-le}
-use lib.Seq.{sets, drop-cons, getD-set-same, getD-set-other}
+use lib.ListN.{length, getD, set, replicate, length-set, length-replicate}
+use lib.Seq.{sets, getD-set-same, getD-set-other}
 use Rattle.rules.specs.Tests.{pick, count, leading, tabulate}
 
 -- ---- a run of stores
@@ -107,20 +107,6 @@ pub count-none : (f : ℕ → Bool) (n v : ℕ) → f v ≡ false → count f (r
 unfolding count
 count-none f zero v t = refl
 count-none f (suc n) v t = rw t (count-none f n v t)
-
--- what is left to count from i on, as a loop's turn takes it
-count-drop : (f : ℕ → Bool) (xs : List ℕ) (i d : ℕ) → i < length xs → count f (drop i xs) ≡ one (f (getD xs i d)) + count f (drop (i + 1) xs)
-count-drop f xs i d h = rw (add-one, drop-cons xs i d) (count-cons f (getD xs i d) (drop (suc i) xs))
-
-pub count-yes : (f : ℕ → Bool) (xs : List ℕ) (i d : ℕ) → i < length xs → f (getD xs i d) ≡ true → count f (drop i xs) ≡ 1 + count f (drop (i + 1) xs)
-count-yes f xs i d h t = rw t at (count-drop f xs i d h)
-
-pub count-no : (f : ℕ → Bool) (xs : List ℕ) (i d : ℕ) → i < length xs → f (getD xs i d) ≡ false → count f (drop i xs) ≡ count f (drop (i + 1) xs)
-count-no f xs i d h t = omega (arith, rw t at (count-drop f xs i d h))
-
-pub count-end : (f : ℕ → Bool) (xs : List ℕ) (i : ℕ) → length xs ≤ i → count f (drop i xs) ≡ 0
-unfolding count
-count-end f xs i h = rw (drop-of-length-le xs h)
 
 -- a store counts as its value, and no longer as what stood there
 pub count-set : (f : ℕ → Bool) (xs : List ℕ) (k v d : ℕ) → k < length xs → count f (set xs k v) + one (f (getD xs k d)) ≡ count f xs + one (f v)

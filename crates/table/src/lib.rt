@@ -4,7 +4,7 @@ ghost use Prim.Native.Nat.{_+_, _≤_, _<_};
 ghost use lib.Dec.{leb};
 ghost use lib.ListN.{length};
 ghost use Rattle.rules.specs.Entries.{entriesOf};
-ghost use Rattle.rules.specs.Tables.{blockCount, freeFrom, firstRun, placed, released, extended, used as usedOf, objects as objectsOf, longest as longestOf};
+ghost use Rattle.rules.specs.Tables.{blockCount, freeFrom, firstRun, placed, released, extended, longest as longestOf};
 ghost use Rattle.memory.specs.Places.{found};
 use memory::Block;
 use memory::Found;
@@ -94,40 +94,6 @@ pub fn extend(table: &mut [u8], k: Block, count: usize)
     ensures { λ _. ⌜ entriesOf (now (table .exit)) ≡ extended (entriesOf (now (table .entry))) (k .0) count ⌝ }
 {
     entries::set_run(table, k, count, entries::TAIL);
-}
-
-// How many blocks are not FREE.
-pub fn used(table: &[u8]) -> usize
-    requires { ⌜ length (now table) ≤ 1024 ⌝ }
-    ensures { λ r. ⌜ r ≡ usedOf (entriesOf (now (table .entry))) ⌝ }
-{
-    let n = entries::blocks(table);
-    let mut count = 0;
-    let mut i = 0;
-    while i < n {
-        if entries::entry(table, Block(i)) != entries::FREE {
-            count += 1;
-        }
-        i += 1;
-    }
-    count
-}
-
-// How many objects there are.
-pub fn objects(table: &[u8]) -> usize
-    requires { ⌜ length (now table) ≤ 1024 ⌝ }
-    ensures { λ r. ⌜ r ≡ objectsOf (entriesOf (now (table .entry))) ⌝ }
-{
-    let n = entries::blocks(table);
-    let mut count = 0;
-    let mut i = 0;
-    while i < n {
-        if entries::entry(table, Block(i)) == entries::HEAD {
-            count += 1;
-        }
-        i += 1;
-    }
-    count
 }
 
 // The longest run of FREE blocks.

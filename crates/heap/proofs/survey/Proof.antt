@@ -15,30 +15,25 @@ heap-requires c κs = search needs
 returns : tie.Need-returns
 returns c = survey-refused _ _ _ (c .before .heap .ensures) (c .if1 .taken)
 
-used-requires : tie.Need-used-requires
-used-requires c κs = few-bytes _ _ _ (passed _ _ _ (sym (c .before .heap .ensures) ∙ c .if1 .left) .shape)
+count-requires : tie.Need-count-requires
+count-requires c κs = few-bytes _ _ _ (passed _ _ _ (sym (c .before .heap .ensures) ∙ c .if1 .left) .shape)
 
 cast-t7 : tie.Need-cast-t7
-cast-t7 c = omega (arith, passed _ _ _ (sym (c .before .before .heap .ensures) ∙ c .before .if1 .left) .shape .few, used-le (entriesOf (c .before .before .before .before .before .args .table .now)))
+cast-t7 c = omega (arith, passed _ _ _ (sym (c .before .before .before .heap .ensures) ∙ c .before .before .if1 .left) .shape .few, c .before .count .ensures .0, used-le (entriesOf (c .before .before .before .before .before .before .args .table .now)))
 
-objects-requires : tie.Need-objects-requires
-objects-requires c κs = few-bytes _ _ _ (passed _ _ _ (sym (c .before .before .heap .ensures) ∙ c .before .if1 .left) .shape)
-
-cast-t9 : tie.Need-cast-t9
-cast-t9 c = omega (arith, passed _ _ _ (sym (c .before .before .before .heap .ensures) ∙ c .before .before .if1 .left) .shape .few, objects-le (entriesOf (c .before .before .before .before .before .before .args .table .now)))
+cast-t8 : tie.Need-cast-t8
+cast-t8 c = omega (arith, passed _ _ _ (sym (c .before .before .before .before .heap .ensures) ∙ c .before .before .before .if1 .left) .shape .few, c .before .before .count .ensures .1, objects-le (entriesOf (c .before .before .before .before .before .before .before .args .table .now)))
 
 longest-requires : tie.Need-longest-requires
-longest-requires c κs = few-bytes _ _ _ (passed _ _ _ (sym (c .before .before .before .heap .ensures) ∙ c .before .before .if1 .left) .shape)
+longest-requires c κs = few-bytes _ _ _ (passed _ _ _ (sym (c .before .before .before .before .heap .ensures) ∙ c .before .before .before .if1 .left) .shape)
 
-cast-t11 : tie.Need-cast-t11
-cast-t11 c = omega (arith, passed _ _ _ (sym (c .before .before .before .before .heap .ensures) ∙ c .before .before .before .if1 .left) .shape .few, longest-says (entriesOf (c .before .before .before .before .before .before .before .args .table .now)) .run .room)
+cast-t10 : tie.Need-cast-t10
+cast-t10 c = omega (arith, passed _ _ _ (sym (c .before .before .before .before .before .heap .ensures) ∙ c .before .before .before .before .if1 .left) .shape .few, longest-says (entriesOf (c .before .before .before .before .before .before .before .before .args .table .now)) .run .room)
 
 returns-2 : tie.Need-returns-2
 returns-2 c =
-    survey-done _ _ _ (c .before .before .before .before .heap .ensures) _ _ _ (c .before .before .before .if1 .left)
-    (c .before .before .used .ensures) (c .before .objects .ensures) (c .longest .ensures)
+    survey-done _ _ _ (c .before .before .before .before .before .heap .ensures) _ _ _ (c .before .before .before .before .if1 .left)
+    (c .before .before .before .count .ensures .0) (c .before .before .before .count .ensures .1) (c .longest .ensures)
 
 pub survey-spec : {M : Type 1} → statement M
-survey-spec =
-    tie.close
-    (tie.spec heap-requires returns used-requires cast-t7 objects-requires cast-t9 longest-requires cast-t11 returns-2)
+survey-spec = tie.close (tie.spec heap-requires returns count-requires cast-t7 cast-t8 longest-requires cast-t10 returns-2)
