@@ -30,7 +30,7 @@ module _ (base : ℕ) (pool table : List ℕ) (k bytes : ℕ) (e : firstOf (resi
   object b count =
       let p = passed base (heapOf pool table) _ e in
       let n = named-resize base (heapOf pool table) k bytes [] e .1 in
-      record { few = few-bytes base pool table (p .shape); long = p .shape .pool; well = p .well; inside = n .inside; head = n .head; count = count }
+      record { few = few-bytes base pool table (p .shape); long = p .shape .pool; inside = n .inside; head = n .head; count = count }
 
   too-long : length pool < bytes → leaves (onlyRefusal 9) (heapOf pool table) ≡ reallocate base (heapOf pool table) k bytes
   too-long l =
