@@ -1,4 +1,4 @@
--- The worked examples 1 to 12 of a heap of 8 blocks at base 4,096, computed: each call's answer and the table it leaves.
+-- The worked examples 1 to 12 of a heap of 8 blocks at base 4,096, computed: each call's answer, and the table, the pool and the mark stack it leaves.
 -- Assumes nothing.
 use mathlib.Core.Path.{_≡_, refl}
 use mathlib.Core.List.{List, [], _∷_, _++_, map}
@@ -15,29 +15,52 @@ use Rattle.rules.specs.Refusals.{firstOf, goodShape, wholeWords}
 use Rattle.rules.specs.Marking.{pushed, visitTo, visit, walkWords, walk, drainFor, drain, trace, rootTo, markRoot, markRoots, passBlock, passFrom, pass, rescanFor, rescan, markAll, sweptEntry, freeingAfter, sweepFrom, sweep}
 use Rattle.rules.specs.Calls.{blocksFor, taken, placing, allocate, freed, free, shrunk, grown, moved, movesTo, wayToGrow, wayTo, along, reallocate, collecting, collect}
 
--- what an example shows of an outcome
+-- what an example shows of an outcome: the answer and all that the lent memory then holds, in bytes
 pub record Shown : Type 0 where
   pub answer : Answer
   pub table : List ℕ
+  pub pool : List ℕ
+  pub stack : List ℕ
 
 abbrev pub shown : Outcome → Shown
-shown o = record { answer = o .answer; table = tableOf (o .heap .entries) }
+shown o = record { answer = o .answer; table = tableOf (o .heap .entries); pool = o .heap .pool; stack = o .stack }
 
--- a call's outcome, and the answer and the table that it should have
+-- a call's outcome, and what it should show
 pub record Example : Type 0 where
   pub is : Shown
   pub ought : Shown
 
-abbrev pub example : Outcome → Answer → List ℕ → Example
-example o a t = record { is = shown o; ought = record { answer = a; table = t } }
+-- of a collection
+abbrev pub collects : Outcome → Answer → List ℕ → List ℕ → List ℕ → Example
+collects o a table pool stack = record { is = shown o; ought = record { answer = a; table = table; pool = pool; stack = stack } }
 
--- a table of two bytes over a pool of zeros
+-- of a call that takes no mark stack
+abbrev pub example : Outcome → Answer → List ℕ → List ℕ → Example
+example o a table pool = collects o a table pool []
+
+-- n bytes that are 0, or that nobody has cleared: 5 in block 0 and 7 elsewhere
+abbrev pub zeros : ℕ → List ℕ
+zeros n = replicate n 0
+
+abbrev pub fives : ℕ → List ℕ
+fives n = replicate n 5
+
+abbrev pub sevens : ℕ → List ℕ
+sevens n = replicate n 7
+
+abbrev pub stale : List ℕ
+stale = fives 16 ++ sevens 112
+
+-- a table of two bytes over that pool
 abbrev pub small : ℕ → ℕ → Heap
-small a b = heapOf (replicate 128 0) (a ∷ b ∷ [])
+small a b = heapOf stale (a ∷ b ∷ [])
 
 -- word 0 of block 4 holds the address of block 0, given in bytes: after the 64 bytes of blocks 0 to 3
+abbrev pub linkedPool : List ℕ
+linkedPool = zeros 64 ++ 0 ∷ 16 ∷ 0 ∷ 0 ∷ zeros 60
+
 abbrev pub linked : Heap
-linked = heapOf (replicate 64 0 ++ 0 ∷ 16 ∷ 0 ∷ 0 ∷ replicate 60 0) (165 ∷ 169 ∷ [])
+linked = heapOf linkedPool (165 ∷ 169 ∷ [])
 
 abbrev pub minus : ℕ → ℤ
 minus n = negℤ (pos n)
@@ -45,33 +68,35 @@ minus n = negℤ (pos n)
 unfoldable pub examples : List Example
 examples =
     -- 1 to 4: allocate
-    example (allocate 4096 (small 0 0) 1) (placedAt 0 (pos 1)) (1 ∷ 0 ∷ [])
-    ∷ example (allocate 4096 (small 1 0) 33) (placedAt 1 (pos 3)) (165 ∷ 0 ∷ [])
-    ∷ example (allocate 4096 (small 165 0) 64) (placedAt 4 (pos 4)) (165 ∷ 169 ∷ [])
-    ∷ example (allocate 4096 (small 165 169) 1) (onlyRefusal 9) (165 ∷ 169 ∷ [])
+    example (allocate 4096 (small 0 0) 1) (placedAt 0 (pos 1)) (1 ∷ 0 ∷ []) (zeros 16 ++ sevens 112)
+    ∷ example (allocate 4096 (small 1 0) 33) (placedAt 1 (pos 3)) (165 ∷ 0 ∷ []) (fives 16 ++ zeros 48 ++ sevens 64)
+    ∷ example (allocate 4096 (small 165 0) 64) (placedAt 4 (pos 4)) (165 ∷ 169 ∷ []) (fives 16 ++ sevens 48 ++ zeros 64)
+    ∷ example (allocate 4096 (small 165 169) 1) (onlyRefusal 9) (165 ∷ 169 ∷ []) stale
     -- 5: free
-    ∷ example (free 4096 (small 165 169) 1) (placedAt 0 (minus 3)) (1 ∷ 169 ∷ [])
-    ∷ example (free 4096 (small 165 169) 5) (onlyRefusal 7) (165 ∷ 169 ∷ [])
-    ∷ example (free 4096 (small 165 169) 8) (onlyRefusal 6) (165 ∷ 169 ∷ [])
+    ∷ example (free 4096 (small 165 169) 1) (placedAt 0 (minus 3)) (1 ∷ 169 ∷ []) stale
+    ∷ example (free 4096 (small 165 169) 5) (onlyRefusal 7) (165 ∷ 169 ∷ []) stale
+    ∷ example (free 4096 (small 165 169) 8) (onlyRefusal 6) (165 ∷ 169 ∷ []) stale
     -- 6 to 8: reallocate, shrinking, growing in place, with neither way, and moving
-    ∷ example (reallocate 4096 (small 1 169) 4 16) (placedAt 4 (minus 3)) (1 ∷ 1 ∷ [])
-    ∷ example (reallocate 4096 (small 1 1) 0 64) (placedAt 0 (pos 3)) (169 ∷ 1 ∷ [])
-    ∷ example (reallocate 4096 (small 1 1) 0 65) (onlyRefusal 9) (1 ∷ 1 ∷ [])
-    ∷ example (reallocate 4096 (small 5 0) 0 17) (placedAt 2 (pos 1)) (148 ∷ 0 ∷ [])
+    ∷ example (reallocate 4096 (small 1 169) 4 16) (placedAt 4 (minus 3)) (1 ∷ 1 ∷ []) stale
+    ∷ example (reallocate 4096 (small 1 1) 0 64) (placedAt 0 (pos 3)) (169 ∷ 1 ∷ []) (fives 16 ++ zeros 48 ++ sevens 64)
+    ∷ example (reallocate 4096 (small 1 1) 0 65) (onlyRefusal 9) (1 ∷ 1 ∷ []) stale
+    ∷ example (reallocate 4096 (small 5 0) 0 17) (placedAt 2 (pos 1)) (148 ∷ 0 ∷ []) (fives 16 ++ sevens 16 ++ fives 16 ++ zeros 16 ++ sevens 64)
     -- 9: collect, with a mark stack of 64 entries and of none; the root 4,160 is given in bytes, and as a word
-    ∷ example (collect 4096 linked (64 ∷ 16 ∷ 0 ∷ 0 ∷ []) (replicate 256 7)) (collectedTo 2 0 (minus 3)) (1 ∷ 169 ∷ [])
-    ∷ example (collect 4096 linked (bytesOf 4160) []) (collectedTo 2 1 (minus 3)) (1 ∷ 169 ∷ [])
+    ∷ collects (collect 4096 linked (64 ∷ 16 ∷ 0 ∷ 0 ∷ []) (sevens 256)) (collectedTo 2 0 (minus 3)) (1 ∷ 169 ∷ []) linkedPool (zeros 256)
+    ∷ collects (collect 4096 linked (bytesOf 4160) []) (collectedTo 2 1 (minus 3)) (1 ∷ 169 ∷ []) linkedPool []
     -- 10 and 11: no roots, the address of a TAIL, an address inside a block
-    ∷ example (collect 4096 linked [] (replicate 256 7)) (collectedTo 0 0 (minus 8)) (0 ∷ 0 ∷ [])
-    ∷ example (collect 4096 linked (bytesOf 4128) (replicate 256 7)) (collectedTo 0 0 (minus 8)) (0 ∷ 0 ∷ [])
-    ∷ example (collect 4096 linked (bytesOf 4097) (replicate 256 7)) (collectedTo 0 0 (minus 8)) (0 ∷ 0 ∷ [])
+    ∷ collects (collect 4096 linked [] (sevens 256)) (collectedTo 0 0 (minus 8)) (0 ∷ 0 ∷ []) linkedPool (zeros 256)
+    ∷ collects (collect 4096 linked (bytesOf 4128) (sevens 256)) (collectedTo 0 0 (minus 8)) (0 ∷ 0 ∷ []) linkedPool (zeros 256)
+    ∷ collects (collect 4096 linked (bytesOf 4097) (sevens 256)) (collectedTo 0 0 (minus 8)) (0 ∷ 0 ∷ []) linkedPool (zeros 256)
     -- 12: a TAIL in block 0, a MARK, a TAIL after a FREE
-    ∷ example (allocate 4096 (small 2 0) 1) (onlyRefusal 2) (2 ∷ 0 ∷ [])
-    ∷ example (allocate 4096 (small 3 0) 1) (onlyRefusal 2) (3 ∷ 0 ∷ [])
-    ∷ example (allocate 4096 (small 8 0) 1) (onlyRefusal 2) (8 ∷ 0 ∷ [])
-    ∷ example (allocate 4096 (small 2 0) 0) (onlyRefusal 2) (2 ∷ 0 ∷ [])
-    ∷ example (allocate 4096 (small 3 0) 0) (onlyRefusal 2) (3 ∷ 0 ∷ [])
-    ∷ example (allocate 4096 (small 8 0) 0) (onlyRefusal 2) (8 ∷ 0 ∷ [])
+    ∷ example (allocate 4096 (small 2 0) 1) (onlyRefusal 2) (2 ∷ 0 ∷ []) stale
+    ∷ example (allocate 4096 (small 3 0) 1) (onlyRefusal 2) (3 ∷ 0 ∷ []) stale
+    ∷ example (allocate 4096 (small 8 0) 1) (onlyRefusal 2) (8 ∷ 0 ∷ []) stale
+    ∷ example (allocate 4096 (small 2 0) 0) (onlyRefusal 2) (2 ∷ 0 ∷ []) stale
+    ∷ example (allocate 4096 (small 3 0) 0) (onlyRefusal 2) (3 ∷ 0 ∷ []) stale
+    ∷ example (allocate 4096 (small 8 0) 0) (onlyRefusal 2) (8 ∷ 0 ∷ []) stale
+    -- a refused collection leaves the mark stack too
+    ∷ collects (collect 4096 (small 3 0) [] (sevens 8)) (onlyRefusal 2) (3 ∷ 0 ∷ []) stale (sevens 8)
     ∷ []
 
 -- the lowest byte of a word is the first: the bytes 0, 16, 0, 0 are 4,096, and 4,096 is these bytes
