@@ -1,6 +1,6 @@
--- What a word's target is and what a word leads to: the definitions match their sentences.
+-- What a word's target is and what a word leads to: the definitions match their sentences, and a sentence has one answer.
 -- Assumes nothing.
-use mathlib.Core.Path.{_≡_, refl, subst}
+use mathlib.Core.Path.{_≡_, refl, ap, subst}
 use mathlib.Core.Logic.{inl, inr, ⊎-elim}
 use mathlib.Core.Bool.{Bool, true, false}
 use mathlib.Core.List.{List}
@@ -27,6 +27,13 @@ target-points base n w = go (leb base w) (eqb ((w - base) % 16) 0) (ltb ((w - ba
     go true false c p q r = λ k l e. eqb-false ((w - base) % 16) 0 q (omega arith)
     go false b c p q r = λ k l e. omega (arith, leb-false base w p)
 
+pub points-one : (base n w : ℕ) (x y : Option ℕ) → Points base n w x → Points base n w y → x ≡ y
+unfolding Points addressOf
+points-one base n w (some k) (some j) x y = ap some (omega (arith, x .1, y .1))
+points-one base n w (some k) none x y = absurd (y k (x .0) (x .1))
+points-one base n w none (some j) x y = absurd (x j (y .0) (y .1))
+points-one base n w none none x y = refl
+
 pub leads-says : (base : ℕ) (es : List ℕ) (w : ℕ) → Leads base es w (leadsTo base es w)
 unfolding Points Leads addressOf headsObject headAt leadsTo
 leads-says base es w = to (targetOf base (length es) w) (target-points base (length es) w)
@@ -42,3 +49,10 @@ leads-says base es w = to (targetOf base (length es) w) (target-points base (len
     to : (o : Option ℕ) → Points base (length es) w o → Leads base es w (headAt es o)
     to none t = λ k l h. t k l
     to (some k) t = at k (eqb (entryAt es k) HEAD) (eqb (entryAt es k) MARK) refl refl t
+
+pub leads-one : (base : ℕ) (es : List ℕ) (w : ℕ) (x y : Option ℕ) → Leads base es w x → Leads base es w y → x ≡ y
+unfolding Leads addressOf
+leads-one base es w (some k) (some j) x y = ap some (omega (arith, x .1, y .1))
+leads-one base es w (some k) none x y = absurd (y k (x .0) (x .2) (x .1))
+leads-one base es w none (some j) x y = absurd (x j (y .0) (y .2) (y .1))
+leads-one base es w none none x y = refl

@@ -286,6 +286,10 @@ longest-says es = record {
   most = λ b s r. omega (arith, run-le es b s r, free-le es s);
 }
 
+-- two numbers that are the longest run's length are the same
+pub longest-one : (es : List ℕ) (l m : ℕ) → Longest es l → Longest es m → l ≡ m
+longest-one es l m x y = omega (arith, x .most m (y .start) (y .run), y .most l (x .start) (x .run))
+
 -- ---- counts
 
 pub used-le : (es : List ℕ) → used es ≤ length es
