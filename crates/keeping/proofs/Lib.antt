@@ -8,3 +8,5 @@ pub mod Counts
 pub mod Same
 pub mod Alike
 pub mod Collections
+pub mod Determined
+pub mod Samples
