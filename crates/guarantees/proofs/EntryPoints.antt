@@ -1,0 +1,32 @@
+-- The entry points, each by the proof of its function.
+-- Assumes nothing.
+use mathlib.Core.Path.{refl}
+use Rattle.guarantees.specs.EntryPoints.{EntryPoints}
+use Rattle.blockheap.proofs.blockheap_init.Met as init
+use Rattle.blockheap.proofs.blockheap_allocate.Met as allocate
+use Rattle.blockheap.proofs.blockheap_free.Met as free
+use Rattle.blockheap.proofs.blockheap_reallocate.Met as reallocate
+use Rattle.blockheap.proofs.blockheap_collect.Met as collect
+use Rattle.blockheap.proofs.blockheap_survey.Met as survey
+use Rattle.blockheap.proofs.blockheap_load.Met as load
+use Rattle.blockheap.proofs.blockheap_store.Met as store
+
+pub entry-points : EntryPoints
+entry-points = record {
+  init-meets = init.met;
+  init-asks-nothing = λ M 𝓤 H A mem run κs a. (tt, refl);
+  allocate-meets = allocate.met;
+  allocate-asks-nothing = λ M 𝓤 H A mem run κs a. (tt, refl);
+  free-meets = free.met;
+  free-asks-nothing = λ M 𝓤 H A mem run κs a. (tt, refl);
+  reallocate-meets = reallocate.met;
+  reallocate-asks-nothing = λ M 𝓤 H A mem run κs a. (tt, refl);
+  collect-meets = collect.met;
+  collect-asks-nothing = λ M 𝓤 H A mem run κs a. (tt, refl);
+  survey-meets = survey.met;
+  survey-asks-nothing = λ M 𝓤 H A mem run κs a. (tt, refl);
+  load-meets = load.met;
+  load-asks-nothing = λ M 𝓤 H A mem run κs a. (tt, refl);
+  store-meets = store.met;
+  store-asks-nothing = λ M 𝓤 H A mem run κs a. (tt, refl);
+}

@@ -1,0 +1,27 @@
+-- All guarantees, each by its theorem.
+-- Assumes nothing.
+use Rattle.rules.specs.Examples.{examples-hold, words-hold}
+use Rattle.rules.specs.Orders.{orders-hold}
+use Rattle.keeping.proofs.Collections.{keeps-exactly, any-stack}
+use Rattle.promises.proofs.Promised.{promises}
+use Rattle.runs.proofs.Noninterference.{noninterference}
+use Rattle.plain.proofs.Refinement.{answers-as-list}
+use Rattle.plain.proofs.Reached.{list-keeps-reachable}
+use Rattle.plain.proofs.Sums.{used-is-sum}
+use Rattle.guarantees.specs.Guarantees.{Guarantees}
+use Rattle.guarantees.proofs.EntryPoints.{entry-points}
+
+pub guarantees : Guarantees
+guarantees = record {
+  examples-hold = examples-hold;
+  orders-hold = orders-hold;
+  words-hold = words-hold;
+  entry-points = entry-points;
+  promises = promises;
+  keeps-exactly = keeps-exactly;
+  any-stack = any-stack;
+  noninterference = noninterference;
+  answers-as-list = answers-as-list;
+  list-keeps-reachable = list-keeps-reachable;
+  used-is-sum = used-is-sum;
+}

@@ -1,0 +1,33 @@
+-- What this project promises, on one page. Each field names a statement; to read it, open the module that its `use` line names.
+-- All of them are proved, with no assumption (proofs/Guaranteed.antt).
+-- Assumes nothing.
+use mathlib.Core.Path.{_≡_}
+use mathlib.Core.List.{[], _∷_, map}
+use Rattle.rules.specs.Words.{wordAt, bytesOf}
+use Rattle.rules.specs.Examples.{Example, examples}
+use Rattle.rules.specs.Orders.{orders}
+use Rattle.keeping.specs.Keeping.{KeepsExactly, AnyStack}
+use Rattle.promises.specs.Promises.{Promises}
+use Rattle.runs.specs.Noninterference.{Noninterference}
+use Rattle.plain.specs.Refines.{AnswersAsList, ListKeepsReachable, UsedIsSum}
+use Rattle.guarantees.specs.EntryPoints.{EntryPoints}
+
+pub record Guarantees : Type 2 where
+  -- The rules are those of the papers: the worked examples 1 to 12 come out, the order of the marking shows in its rescans, and words have their lowest byte first.
+  pub examples-hold : map (λ (x : Example). x .is) examples ≡ map (λ (x : Example). x .ought) examples
+  pub orders-hold : map (λ (x : Example). x .is) orders ≡ map (λ (x : Example). x .ought) orders
+  pub words-hold : (wordAt (0 ∷ 16 ∷ 0 ∷ 0 ∷ []) 0 ≡ 4096) × (bytesOf 4096 ≡ 0 ∷ 16 ∷ 0 ∷ 0 ∷ [])
+  -- The code follows the rules: each function that C calls does, for every input, what the rules say.
+  pub entry-points : EntryPoints
+  -- Each call of the rules: by which number it is refused, that it then changes nothing, and what it does otherwise.
+  pub promises : Promises
+  -- A collection keeps exactly the reachable objects, and the mark stack has no influence on it.
+  pub keeps-exactly : KeepsExactly
+  pub any-stack : AnyStack
+  -- What is not reachable has no influence on any later list of calls.
+  pub noninterference : Noninterference
+  -- From an accepted init on, every list of calls is answered as a plain list of objects answers it; a collection of that list keeps exactly what is reachable in it.
+  pub answers-as-list : AnswersAsList
+  pub list-keeps-reachable : ListKeepsReachable
+  -- The used blocks are the sum of all answered changes since the latest accepted init.
+  pub used-is-sum : UsedIsSum
