@@ -23,6 +23,8 @@
  *   has words 0 to 4 * b - 1.
  * - A word is a pointer if it equals the address of a block that is the head
  *   of an object. An address inside a block, or of a tail, counts for nothing.
+ * - Block 0 is a block like any other. Its address is base, and so 0 is never
+ *   an address: a word that is 0 serves as nil.
  *
  * To start, lend a pool and a table and call blockheap_init. Then hand both to
  * each later call as the last one left them. Programs may read and write the
@@ -36,7 +38,8 @@
  * word or bytes, and any content in any buffer: what does not fit is refused.
  * The other answers go out through the pointers that come last. They are
  * written on every call. After a refusal they are all 0, and pool, table and
- * mark stack hold what they held before.
+ * mark stack hold what they held before. Block 0 is a valid answer, so look at
+ * the returned number, not at the block, to see whether a call was refused.
  *
  * `change` is the change in used blocks, -4,096 to 4,096. Since the latest
  * accepted init, the changes add up to the used blocks of blockheap_survey.
