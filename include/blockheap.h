@@ -78,6 +78,13 @@ extern "C" {
 #define BLOCKHEAP_VERSION_STRING \
     BLOCKHEAP_VERSION_TEXT_OF(BLOCKHEAP_VERSION_MAJOR, BLOCKHEAP_VERSION_MINOR, BLOCKHEAP_VERSION_PATCH)
 
+/* Before a declaration: no pointer of the call may be null. */
+#ifdef __GNUC__
+#define BLOCKHEAP_NONNULL __attribute__((nonnull))
+#else
+#define BLOCKHEAP_NONNULL
+#endif
+
 /* Sizes and limits. */
 #define BLOCKHEAP_BLOCK_BYTES 16
 #define BLOCKHEAP_WORD_BYTES 4
@@ -120,6 +127,7 @@ enum blockheap_refusal {
  * Makes every block free, whatever the table held. The pool is not touched.
  * Refusals: BAD_SHAPE.
  */
+BLOCKHEAP_NONNULL
 uint32_t blockheap_init(uint64_t base, const uint8_t *pool, size_t pool_len,
                         uint8_t *table, size_t table_len);
 
@@ -130,6 +138,7 @@ uint32_t blockheap_init(uint64_t base, const uint8_t *pool, size_t pool_len,
  * Refusals: BAD_SHAPE, BAD_TABLE, ZERO_BYTES, NO_ROOM (exactly if no run of
  * free blocks is long enough; nothing is collected to make room).
  */
+BLOCKHEAP_NONNULL
 uint32_t blockheap_allocate(uint64_t base, uint8_t *pool, size_t pool_len,
                             uint8_t *table, size_t table_len,
                             uint64_t bytes, uint32_t *block, int32_t *change);
@@ -139,6 +148,7 @@ uint32_t blockheap_allocate(uint64_t base, uint8_t *pool, size_t pool_len,
  * `change` is the number of its blocks, negated.
  * Refusals: BAD_SHAPE, BAD_TABLE, NO_SUCH_BLOCK, NOT_A_HEAD.
  */
+BLOCKHEAP_NONNULL
 uint32_t blockheap_free(uint64_t base, const uint8_t *pool, size_t pool_len,
                         uint8_t *table, size_t table_len,
                         uint64_t block, int32_t *change);
@@ -157,6 +167,7 @@ uint32_t blockheap_free(uint64_t base, const uint8_t *pool, size_t pool_len,
  * NO_ROOM (exactly if it can neither grow in place nor move; the object stays
  * as it was).
  */
+BLOCKHEAP_NONNULL
 uint32_t blockheap_reallocate(uint64_t base, uint8_t *pool, size_t pool_len,
                               uint8_t *table, size_t table_len,
                               uint64_t block, uint64_t bytes,
@@ -179,6 +190,7 @@ uint32_t blockheap_reallocate(uint64_t base, uint8_t *pool, size_t pool_len,
  * - change: the number of blocks freed, negated.
  * Refusals: BAD_SHAPE, BAD_TABLE, TOO_MANY_ROOTS, STACK_TOO_LONG.
  */
+BLOCKHEAP_NONNULL
 uint32_t blockheap_collect(uint64_t base, const uint8_t *pool, size_t pool_len,
                            uint8_t *table, size_t table_len,
                            const uint8_t *roots, size_t roots_len,
@@ -190,6 +202,7 @@ uint32_t blockheap_collect(uint64_t base, const uint8_t *pool, size_t pool_len,
  * in blocks of the longest run of free blocks.
  * Refusals: BAD_SHAPE, BAD_TABLE.
  */
+BLOCKHEAP_NONNULL
 uint32_t blockheap_survey(uint64_t base, const uint8_t *pool, size_t pool_len,
                           const uint8_t *table, size_t table_len,
                           uint32_t *used, uint32_t *objects, uint32_t *longest);
@@ -198,6 +211,7 @@ uint32_t blockheap_survey(uint64_t base, const uint8_t *pool, size_t pool_len,
  * Reads word `word` of the object whose head is `block`.
  * Refusals: BAD_SHAPE, BAD_TABLE, NO_SUCH_BLOCK, NOT_A_HEAD, NO_SUCH_WORD.
  */
+BLOCKHEAP_NONNULL
 uint32_t blockheap_load(uint64_t base, const uint8_t *pool, size_t pool_len,
                         const uint8_t *table, size_t table_len,
                         uint64_t block, uint64_t word, uint32_t *value);
@@ -207,6 +221,7 @@ uint32_t blockheap_load(uint64_t base, const uint8_t *pool, size_t pool_len,
  * no others.
  * Refusals: BAD_SHAPE, BAD_TABLE, NO_SUCH_BLOCK, NOT_A_HEAD, NO_SUCH_WORD.
  */
+BLOCKHEAP_NONNULL
 uint32_t blockheap_store(uint64_t base, uint8_t *pool, size_t pool_len,
                          const uint8_t *table, size_t table_len,
                          uint64_t block, uint64_t word, uint32_t value);
