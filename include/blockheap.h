@@ -97,8 +97,12 @@ extern "C" {
 #define BLOCKHEAP_MAX_ROOTS 4096
 #define BLOCKHEAP_MAX_STACK_ENTRIES 64
 
-/* The length of the pool that a table of t bytes rules. */
+/* The length of the pool that a table of t bytes rules, and of the table for a pool of so many bytes. */
 #define BLOCKHEAP_POOL_BYTES(t) (64 * (t))
+#define BLOCKHEAP_TABLE_BYTES(pool_bytes) ((pool_bytes) / 64)
+
+/* The length in bytes of a list of n words: n roots, or n entries of a mark stack. */
+#define BLOCKHEAP_LIST_BYTES(n) (BLOCKHEAP_WORD_BYTES * (n))
 
 /* What a block's two bits say. MARK is never left in a table by a call. */
 enum blockheap_entry {
