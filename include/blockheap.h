@@ -1,5 +1,6 @@
 /*
  * blockheap: the MicroPython block heap over memory that the caller lends.
+ * bh.h, beside this file, has the same calls with one heap as the argument.
  *
  * THE HEAP
  *

@@ -1,0 +1,262 @@
+/*
+ * bh: the calls of blockheap.h on one heap, and what a C program wants beside
+ * them. All of it is static inline.
+ *
+ *   BH_DEFINE(heap, 0x20000000, 4096);    a heap in a pool of 4,096 bytes
+ *   ...
+ *   uint32_t block, refusal = bh_init(&heap);
+ *   if (!refusal) refusal = bh_allocate(&heap, 33, &block, NULL);
+ *   if (refusal) puts(bh_refusal_text(refusal));
+ *
+ * bh_NAME is blockheap_NAME with the heap in place of its parts: blockheap.h
+ * says what it does and what the caller ensures. Two things are easier here:
+ * - an empty list may be a null pointer with length 0;
+ * - an answer that is not wanted may be a null pointer.
+ */
+#ifndef BLOCKHEAP_BH_H
+#define BLOCKHEAP_BH_H
+
+#include "blockheap.h"
+
+#ifdef __cplusplus
+extern "C" {
+#endif
+
+/* ---- The heap ---- */
+
+/*
+ * Where a heap's lent memory is. The calls write that memory and not the
+ * struct, which may be const. Later versions add fields: let one of the makers
+ * below fill the struct, or set fields by name in one that is all 0. An
+ * initialiser of your own that lists the fields in order will break. BH_DEFINE
+ * and bh_split also find the memory for what is added.
+ */
+struct blockheap {
+    uint64_t base;
+    uint8_t *pool;
+    size_t pool_len;
+    uint8_t *table;
+    size_t table_len;
+};
+
+/* Before an array: aligned as blocks are, where the compiler can. */
+#if defined(__GNUC__)
+#define BH_ALIGNED __attribute__((aligned(BLOCKHEAP_BLOCK_BYTES)))
+#elif defined(__STDC_VERSION__) && __STDC_VERSION__ >= 201112L
+#define BH_ALIGNED _Alignas(BLOCKHEAP_BLOCK_BYTES)
+#else
+#define BH_ALIGNED
+#endif
+
+/* Initialises a heap over two arrays, a pool and its table (not over pointers: it takes their sizeof). */
+#define BH_OVER(base, pool, table) {(base), (pool), sizeof(pool), (table), sizeof(table)}
+
+/* Defines a heap with static memory of its own, aligned. A pool has 64 to 65,536 bytes, a multiple of 64. */
+#define BH_DEFINE(name, base, pool_bytes) \
+    static BH_ALIGNED uint8_t name##_pool[pool_bytes]; \
+    static uint8_t name##_table[BLOCKHEAP_TABLE_BYTES(pool_bytes)]; \
+    static struct blockheap name = BH_OVER(base, name##_pool, name##_table)
+
+/*
+ * A heap in one area of memory, as large as it can be: the pool at its front,
+ * the table behind it. An area of fewer than 65 bytes is too short: bh_init
+ * then answers BAD_SHAPE.
+ */
+static inline struct blockheap bh_split(uint64_t base, uint8_t *area, size_t area_len)
+{
+    struct blockheap heap;
+    size_t t = area_len / (BLOCKHEAP_POOL_BYTES(1) + 1);
+    if (t > BLOCKHEAP_MAX_TABLE_BYTES)
+        t = BLOCKHEAP_MAX_TABLE_BYTES;
+    heap.base = base;
+    heap.pool = area;
+    heap.pool_len = BLOCKHEAP_POOL_BYTES(t);
+    heap.table = area + heap.pool_len;
+    heap.table_len = t;
+    return heap;
+}
+
+/* ---- The calls ---- */
+
+/* Stands for the bytes of an empty list, as the library takes no null pointer. Nothing reads or writes it. */
+static inline uint8_t *bh_no_bytes(void)
+{
+    static uint8_t byte;
+    return &byte;
+}
+
+/* A list, and a heap, as the arguments that blockheap.h asks for. */
+#define BH_LIST(bytes, len) ((len) ? (bytes) : bh_no_bytes()), (len)
+#define BH_PARTS(heap) \
+    (heap)->base, BH_LIST((heap)->pool, (heap)->pool_len), BH_LIST((heap)->table, (heap)->table_len)
+
+static inline uint32_t bh_init(const struct blockheap *heap)
+{
+    return blockheap_init(BH_PARTS(heap));
+}
+
+static inline uint32_t bh_allocate(const struct blockheap *heap, uint64_t bytes,
+                                   uint32_t *block, int32_t *change)
+{
+    uint32_t no_block;
+    int32_t no_change;
+    return blockheap_allocate(BH_PARTS(heap), bytes, block ? block : &no_block, change ? change : &no_change);
+}
+
+static inline uint32_t bh_free(const struct blockheap *heap, uint64_t block, int32_t *change)
+{
+    int32_t no_change;
+    return blockheap_free(BH_PARTS(heap), block, change ? change : &no_change);
+}
+
+static inline uint32_t bh_reallocate(const struct blockheap *heap, uint64_t block, uint64_t bytes,
+                                     uint32_t *new_block, int32_t *change)
+{
+    uint32_t no_block;
+    int32_t no_change;
+    return blockheap_reallocate(BH_PARTS(heap), block, bytes, new_block ? new_block : &no_block,
+                                change ? change : &no_change);
+}
+
+static inline uint32_t bh_collect(const struct blockheap *heap, const uint8_t *roots, size_t roots_len,
+                                  uint8_t *stack, size_t stack_len,
+                                  uint32_t *kept, uint32_t *rescans, int32_t *change)
+{
+    uint32_t no_kept, no_rescans;
+    int32_t no_change;
+    return blockheap_collect(BH_PARTS(heap), BH_LIST(roots, roots_len), BH_LIST(stack, stack_len),
+                             kept ? kept : &no_kept, rescans ? rescans : &no_rescans,
+                             change ? change : &no_change);
+}
+
+static inline uint32_t bh_survey(const struct blockheap *heap,
+                                 uint32_t *used, uint32_t *objects, uint32_t *longest)
+{
+    uint32_t no_used, no_objects, no_longest;
+    return blockheap_survey(BH_PARTS(heap), used ? used : &no_used, objects ? objects : &no_objects,
+                            longest ? longest : &no_longest);
+}
+
+static inline uint32_t bh_load(const struct blockheap *heap, uint64_t block, uint64_t word, uint32_t *value)
+{
+    uint32_t no_value;
+    return blockheap_load(BH_PARTS(heap), block, word, value ? value : &no_value);
+}
+
+static inline uint32_t bh_store(const struct blockheap *heap, uint64_t block, uint64_t word, uint32_t value)
+{
+    return blockheap_store(BH_PARTS(heap), block, word, value);
+}
+
+/* ---- Blocks, addresses and bytes ---- */
+
+/* What bh_block answers where there is no block. Every call refuses it as NO_SUCH_BLOCK. */
+#define BH_NO_BLOCK 0xFFFFFFFFu
+
+/* How many blocks the heap has. */
+static inline uint32_t bh_blocks(const struct blockheap *heap)
+{
+    return (uint32_t)(heap->pool_len / BLOCKHEAP_BLOCK_BYTES);
+}
+
+/* The address of a block, or 0 (nil) if there is no such block. */
+static inline uint32_t bh_address(const struct blockheap *heap, uint32_t block)
+{
+    return block < bh_blocks(heap) ? (uint32_t)(heap->base + BLOCKHEAP_BLOCK_BYTES * (uint64_t)block) : 0;
+}
+
+/* The block that has this address, free or not, or BH_NO_BLOCK: for 0, inside a block, outside the pool. */
+static inline uint32_t bh_block(const struct blockheap *heap, uint32_t address)
+{
+    uint64_t offset = address - heap->base;
+    if (address < heap->base || offset >= heap->pool_len || offset % BLOCKHEAP_BLOCK_BYTES != 0)
+        return BH_NO_BLOCK;
+    return (uint32_t)(offset / BLOCKHEAP_BLOCK_BYTES);
+}
+
+/* Where a block's bytes begin in the pool, or a null pointer if there is no such block. */
+static inline uint8_t *bh_pointer(const struct blockheap *heap, uint32_t block)
+{
+    return block < bh_blocks(heap) ? heap->pool + BLOCKHEAP_BLOCK_BYTES * (size_t)block : NULL;
+}
+
+/* What the table says of a block; FREE if there is no such block. */
+static inline enum blockheap_entry bh_entry(const struct blockheap *heap, uint32_t block)
+{
+    if (block / BLOCKHEAP_BLOCKS_PER_TABLE_BYTE >= heap->table_len)
+        return BLOCKHEAP_FREE;
+    return (enum blockheap_entry)(heap->table[block / BLOCKHEAP_BLOCKS_PER_TABLE_BYTE]
+                                  >> 2 * (block % BLOCKHEAP_BLOCKS_PER_TABLE_BYTE) & 3);
+}
+
+/* How many bytes the blocks of an object have; 0 if the block is not its head. */
+static inline uint32_t bh_object_bytes(const struct blockheap *heap, uint32_t block)
+{
+    uint32_t end = block + 1;
+    if (bh_entry(heap, block) != BLOCKHEAP_HEAD)
+        return 0;
+    while (bh_entry(heap, end) == BLOCKHEAP_TAIL)
+        end++;
+    return BLOCKHEAP_BLOCK_BYTES * (end - block);
+}
+
+/* ---- Words in a list of bytes, such as roots or an object: lowest byte first on every host ---- */
+
+static inline void bh_put_word(uint8_t *list, size_t index, uint32_t value)
+{
+    uint8_t *at = list + BLOCKHEAP_LIST_BYTES(index);
+    at[0] = (uint8_t)value;
+    at[1] = (uint8_t)(value >> 8);
+    at[2] = (uint8_t)(value >> 16);
+    at[3] = (uint8_t)(value >> 24);
+}
+
+static inline uint32_t bh_get_word(const uint8_t *list, size_t index)
+{
+    const uint8_t *at = list + BLOCKHEAP_LIST_BYTES(index);
+    return at[0] | (uint32_t)at[1] << 8 | (uint32_t)at[2] << 16 | (uint32_t)at[3] << 24;
+}
+
+/* ---- Refusals ---- */
+
+/* The name of what a call returned. */
+static inline const char *bh_refusal_name(uint32_t refusal)
+{
+    switch (refusal) {
+    case BLOCKHEAP_OK: return "OK";
+    case BLOCKHEAP_BAD_SHAPE: return "BAD_SHAPE";
+    case BLOCKHEAP_BAD_TABLE: return "BAD_TABLE";
+    case BLOCKHEAP_TOO_MANY_ROOTS: return "TOO_MANY_ROOTS";
+    case BLOCKHEAP_STACK_TOO_LONG: return "STACK_TOO_LONG";
+    case BLOCKHEAP_ZERO_BYTES: return "ZERO_BYTES";
+    case BLOCKHEAP_NO_SUCH_BLOCK: return "NO_SUCH_BLOCK";
+    case BLOCKHEAP_NOT_A_HEAD: return "NOT_A_HEAD";
+    case BLOCKHEAP_NO_SUCH_WORD: return "NO_SUCH_WORD";
+    case BLOCKHEAP_NO_ROOM: return "NO_ROOM";
+    default: return "UNKNOWN";
+    }
+}
+
+/* The same as a sentence, without a capital and a full stop. */
+static inline const char *bh_refusal_text(uint32_t refusal)
+{
+    switch (refusal) {
+    case BLOCKHEAP_OK: return "the call was accepted";
+    case BLOCKHEAP_BAD_SHAPE: return "the base or a length breaks the rules";
+    case BLOCKHEAP_BAD_TABLE: return "the table is damaged";
+    case BLOCKHEAP_TOO_MANY_ROOTS: return "there are more than 4,096 root words";
+    case BLOCKHEAP_STACK_TOO_LONG: return "the mark stack has more than 64 entries";
+    case BLOCKHEAP_ZERO_BYTES: return "the request is for 0 bytes";
+    case BLOCKHEAP_NO_SUCH_BLOCK: return "the block number lies outside the pool";
+    case BLOCKHEAP_NOT_A_HEAD: return "the block is not the head of an object";
+    case BLOCKHEAP_NO_SUCH_WORD: return "the word lies outside the object";
+    case BLOCKHEAP_NO_ROOM: return "no run of free blocks is long enough";
+    default: return "this version knows no such refusal number";
+    }
+}
+
+#ifdef __cplusplus
+}
+#endif
+
+#endif
