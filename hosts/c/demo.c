@@ -5,25 +5,14 @@
  * runs at every tip and leaves garbage behind. When there is no room, the logger collects and asks again.
  */
 #include <stdio.h>
-#include <stdlib.h>
 
-#include "blockheap.h"
-
-enum {
-    TABLE_BYTES = 64,
-    POOL_BYTES = BLOCKHEAP_POOL_BYTES(TABLE_BYTES),
-    BLOCKS = BLOCKHEAP_BLOCKS_PER_TABLE_BYTE * TABLE_BYTES,
-    BLOCKS_PER_LINE = 64,
-    LINE_BYTES = BLOCKS_PER_LINE * BLOCKHEAP_BLOCK_BYTES
-};
+#include "bh.h"
+#include "refusals.h" /* must, say_refused */
 
 /* Where the board's memory begins; on a PC this need not be the pool's own address. */
-static const uint32_t BASE = 0x20000000;
+enum { BASE = 0x20000000, POOL_BYTES = 4096 };
 
-static uint8_t pool[POOL_BYTES];
-static uint8_t table[TABLE_BYTES];
-
-#define HEAP BASE, pool, sizeof pool, table, sizeof table
+BH_DEFINE(heap, BASE, POOL_BYTES);
 
 /* The station's record is the one root. Its word 0 leads to the rain buffer. */
 static uint32_t station;
@@ -34,77 +23,41 @@ static uint32_t buffer;
 static uint32_t buffer_words;
 enum { FIRST_TIP = 1, MORE_WORDS = 12 };
 
-static const char *in_words(uint32_t refusal)
-{
-    switch (refusal) {
-    case BLOCKHEAP_OK: return "accepted";
-    case BLOCKHEAP_BAD_SHAPE: return "a length or the base does not fit";
-    case BLOCKHEAP_BAD_TABLE: return "the table is not well-formed";
-    case BLOCKHEAP_TOO_MANY_ROOTS: return "too many roots";
-    case BLOCKHEAP_STACK_TOO_LONG: return "the mark stack is too long";
-    case BLOCKHEAP_ZERO_BYTES: return "a request for 0 bytes";
-    case BLOCKHEAP_NO_SUCH_BLOCK: return "there is no such block";
-    case BLOCKHEAP_NOT_A_HEAD: return "the block is no head";
-    case BLOCKHEAP_NO_SUCH_WORD: return "the word is outside the object";
-    case BLOCKHEAP_NO_ROOM: return "no long enough free run";
-    default: return "an unknown refusal";
-    }
-}
-
-/* For calls that cannot be refused here. */
-static void must(uint32_t refusal)
-{
-    if (refusal != BLOCKHEAP_OK) {
-        printf("unexpected refusal %u: %s\n", (unsigned)refusal, in_words(refusal));
-        exit(1);
-    }
-}
-
-static void say_refused(const char *what, uint32_t refusal)
-{
-    printf("  %s: refusal %u, %s\n", what, (unsigned)refusal, in_words(refusal));
-}
-
-static uint32_t address(uint32_t block)
-{
-    return BASE + BLOCKHEAP_BLOCK_BYTES * block;
-}
-
-static unsigned entry(uint32_t block)
-{
-    return table[block / 4] >> 2 * (block % 4) & 3;
-}
-
-static void draw_heap(void)
+static void draw_blocks(void)
 {
     static const char letters[] = {
         [BLOCKHEAP_FREE] = '.', [BLOCKHEAP_HEAD] = 'h', [BLOCKHEAP_TAIL] = '=', [BLOCKHEAP_MARK] = 'm'};
-    uint32_t used, objects, longest;
-    must(blockheap_survey(HEAP, &used, &objects, &longest));
-    printf("  used %u of %d blocks, objects %u, longest free run %u\n", (unsigned)used, BLOCKS,
-           (unsigned)objects, (unsigned)longest);
-    for (uint32_t block = 0; block < BLOCKS; block++) {
-        if (block % BLOCKS_PER_LINE == 0)
-            printf("  %05x: ", (unsigned)(block / BLOCKS_PER_LINE * LINE_BYTES));
-        putchar(letters[entry(block)]);
-        if (block % BLOCKS_PER_LINE == BLOCKS_PER_LINE - 1)
+    enum { LINE = 64 };
+    for (uint32_t block = 0; block < bh_blocks(&heap); block++) {
+        if (block % LINE == 0)
+            printf("  0x%08x: ", (unsigned)bh_address(&heap, block));
+        putchar(letters[bh_entry(&heap, block)]);
+        if (block % LINE == LINE - 1)
             putchar('\n');
     }
+}
+
+static void show_heap(void)
+{
+    uint32_t used, objects, longest;
+    must(bh_survey(&heap, &used, &objects, &longest));
+    printf("  used %u of %u blocks, objects %u, longest free run %u\n", (unsigned)used,
+           (unsigned)bh_blocks(&heap), (unsigned)objects, (unsigned)longest);
+    draw_blocks();
     putchar('\n');
 }
 
 /* Collects from the station's record and from one object more that is in use just now. */
 static void collect(uint32_t held)
 {
-    const uint32_t words[] = {address(station), address(held)};
-    uint8_t roots[sizeof words];
-    uint8_t stack[4 * BLOCKHEAP_WORD_BYTES];
-    uint32_t kept, rescans;
+    uint8_t roots[BLOCKHEAP_LIST_BYTES(2)], stack[BLOCKHEAP_LIST_BYTES(4)];
+    uint32_t kept;
     int32_t change;
-    for (size_t at = 0; at < sizeof roots; at++)
-        roots[at] = (uint8_t)(words[at / 4] >> 8 * (at % 4));
-    must(blockheap_collect(HEAP, roots, sizeof roots, stack, sizeof stack, &kept, &rescans, &change));
+    bh_put_word(roots, 0, bh_address(&heap, station));
+    bh_put_word(roots, 1, bh_address(&heap, held));
+    must(bh_collect(&heap, roots, sizeof roots, stack, sizeof stack, &kept, NULL, &change));
     printf("  collect: kept %u objects, freed %d blocks\n", (unsigned)kept, -(int)change);
+    show_heap();
 }
 
 /* Answers a refusal for want of room with a collection. Any other would be a fault in this program. */
@@ -113,41 +66,42 @@ static void make_room(const char *who, uint32_t refusal, uint32_t held)
     if (refusal != BLOCKHEAP_NO_ROOM)
         must(refusal);
     say_refused(who, refusal);
-    draw_heap();
+    show_heap();
     collect(held);
 }
 
 static uint32_t allocate(uint64_t bytes, uint32_t held)
 {
     uint32_t block;
-    int32_t change;
-    uint32_t refusal = blockheap_allocate(HEAP, bytes, &block, &change);
+    uint32_t refusal = bh_allocate(&heap, bytes, &block, NULL);
     if (refusal != BLOCKHEAP_OK) {
-        make_room("a script asks for room", refusal, held);
-        must(blockheap_allocate(HEAP, bytes, &block, &change));
+        make_room("  a script asks for room", refusal, held);
+        must(bh_allocate(&heap, bytes, &block, NULL));
     }
     return block;
 }
 
-static void resize_buffer(uint32_t words)
+/* Answers the change in used blocks. */
+static int32_t resize_buffer(uint32_t words)
 {
-    uint64_t bytes = BLOCKHEAP_WORD_BYTES * (uint64_t)words;
+    uint64_t bytes = BLOCKHEAP_LIST_BYTES((uint64_t)words);
     int32_t change;
     uint32_t new_block;
-    uint32_t refusal = blockheap_reallocate(HEAP, buffer, bytes, &new_block, &change);
+    uint32_t refusal = bh_reallocate(&heap, buffer, bytes, &new_block, &change);
     if (refusal != BLOCKHEAP_OK) {
-        make_room("the rain buffer asks for room", refusal, buffer);
-        must(blockheap_reallocate(HEAP, buffer, bytes, &new_block, &change));
+        make_room("  the rain buffer asks for room", refusal, buffer);
+        must(bh_reallocate(&heap, buffer, bytes, &new_block, &change));
     }
     buffer = new_block;
     buffer_words = words;
-    must(blockheap_store(HEAP, station, STATION_BUFFER, address(buffer)));
+    must(bh_store(&heap, station, STATION_BUFFER, bh_address(&heap, buffer)));
+    return change;
 }
 
 static uint32_t tips(void)
 {
     uint32_t count;
-    must(blockheap_load(HEAP, buffer, 0, &count));
+    must(bh_load(&heap, buffer, 0, &count));
     return count;
 }
 
@@ -162,8 +116,8 @@ static void tip(void)
     uint32_t count = tips();
     if (FIRST_TIP + count == buffer_words)
         resize_buffer(buffer_words + MORE_WORDS);
-    must(blockheap_store(HEAP, buffer, FIRST_TIP + count, tip_time(count)));
-    must(blockheap_store(HEAP, buffer, 0, count + 1));
+    must(bh_store(&heap, buffer, FIRST_TIP + count, tip_time(count)));
+    must(bh_store(&heap, buffer, 0, count + 1));
 }
 
 /* A script makes two small objects, the second leading to the first, and forgets them. */
@@ -171,7 +125,7 @@ static void run_script(uint32_t number)
 {
     uint32_t text = allocate(10 + 7 * (number % 6), station);
     uint32_t list = allocate(16, text);
-    must(blockheap_store(HEAP, list, 0, address(text)));
+    must(bh_store(&heap, list, 0, bh_address(&heap, text)));
 }
 
 static void rain(uint32_t until_tips)
@@ -184,28 +138,22 @@ static void rain(uint32_t until_tips)
 
 static void start_logger(void)
 {
-    must(blockheap_init(HEAP));
+    must(bh_init(&heap));
     station = allocate(STATION_BYTES, 0);
     buffer_words = MORE_WORDS;
-    buffer = allocate(BLOCKHEAP_WORD_BYTES * (uint64_t)buffer_words, station);
-    must(blockheap_store(HEAP, station, STATION_BUFFER, address(buffer)));
-    must(blockheap_store(HEAP, station, STATION_NUMBER, 41));
-}
-
-static void free_a_tail(void)
-{
-    int32_t change;
-    say_refused("a script frees the middle of the buffer", blockheap_free(HEAP, buffer + 1, &change));
+    buffer = allocate(BLOCKHEAP_LIST_BYTES((uint64_t)buffer_words), station);
+    must(bh_store(&heap, station, STATION_BUFFER, bh_address(&heap, buffer)));
+    must(bh_store(&heap, station, STATION_NUMBER, 41));
 }
 
 /* Whether every tip is in the buffer that the station's record leads to. */
 static int buffer_is_right(void)
 {
     uint32_t found, time;
-    must(blockheap_load(HEAP, station, STATION_BUFFER, &found));
-    int right = found == address(buffer);
+    must(bh_load(&heap, station, STATION_BUFFER, &found));
+    int right = found == bh_address(&heap, buffer);
     for (uint32_t number = 0; number < tips(); number++) {
-        must(blockheap_load(HEAP, buffer, FIRST_TIP + number, &time));
+        must(bh_load(&heap, buffer, FIRST_TIP + number, &time));
         right = right && time == tip_time(number);
     }
     return right;
@@ -213,34 +161,35 @@ static int buffer_is_right(void)
 
 int main(void)
 {
-    printf("A rain logger on a pool of %d bytes: %d blocks from address %08x.\n", POOL_BYTES, BLOCKS,
-           (unsigned)BASE);
+    printf("A rain logger on a pool of %d bytes: %u blocks from address 0x%08x.\n", POOL_BYTES,
+           (unsigned)bh_blocks(&heap), (unsigned)BASE);
     puts("h is the head of an object, = its tail, . a free block.\n");
 
     puts("1. The logger starts: the station's record and an empty rain buffer.");
     start_logger();
-    draw_heap();
+    show_heap();
 
     puts("2. It rains: 20 tips. The buffer grows and moves; the scripts leave garbage.");
     rain(20);
-    draw_heap();
+    show_heap();
 
     puts("3. A pause between two tips: collect from the station's record.");
     collect(station);
-    draw_heap();
 
     puts("4. The storm: the heap fills up, and a refusal is handled.");
     rain(150);
-    draw_heap();
 
-    puts("5. A script's mistake is refused, and nothing has changed.");
-    free_a_tail();
-    draw_heap();
+    puts("5. The storm went on with that room: 150 tips by now.");
+    show_heap();
 
-    puts("6. The storm is over: the buffer gives back what it does not need.");
-    resize_buffer(FIRST_TIP + tips());
+    puts("6. A script's mistake is refused, and nothing has changed.");
+    say_refused("  a script frees the middle of the buffer", bh_free(&heap, buffer + 1, NULL));
+    show_heap();
+
+    puts("7. The storm is over: the buffer gives back what it does not need.");
+    printf("  reallocate: used blocks change by %d\n", (int)resize_buffer(FIRST_TIP + tips()));
+    show_heap();
     collect(station);
-    draw_heap();
 
     uint32_t count = tips();
     int right = buffer_is_right();
