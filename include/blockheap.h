@@ -56,6 +56,11 @@
  * - Nothing else writes the buffers while the call runs. Calls on different
  *   heaps may run at the same time.
  * - Programs write only to bytes of their own objects.
+ *
+ * WHAT IT NEEDS
+ *
+ * The library calls memset and nothing else. A program without a C library
+ * supplies memset.
  */
 #ifndef BLOCKHEAP_H
 #define BLOCKHEAP_H
