@@ -1,92 +1,166 @@
-//! The eight calls as `include/blockheap.h` declares them.
+//! The calls as `include/blockheap.h` declares them.
+//!
+//! # Safety
+//! Each call asks of its caller what the header does under "What the caller ensures".
 
-extern "C" {
-    pub fn blockheap_init(
-        base: u64,
-        pool: *const u8,
-        pool_len: usize,
-        table: *mut u8,
-        table_len: usize,
-    ) -> u32;
+use crate::refusal::check;
+use crate::{Address, MarkEntry, Refusal, WORD_BYTES};
+use core::slice::{from_raw_parts, from_raw_parts_mut};
 
-    pub fn blockheap_allocate(
-        base: u64,
-        pool: *mut u8,
-        pool_len: usize,
-        table: *mut u8,
-        table_len: usize,
-        bytes: u64,
-        block: *mut u32,
-        change: *mut i32,
-    ) -> u32;
+/// Declares calls: whether each may write pool and table, then its own arguments and answers.
+macro_rules! declare {
+    ($($(#[$doc:meta])* $name:ident(
+        $pool:tt pool, $table:tt table $(, $argument:ident: $type:ty)* $(,)?
+    );)*) => {
+        extern "C" {
+            $(
+                $(#[$doc])*
+                pub fn $name(
+                    base: u64,
+                    pool: *$pool u8,
+                    pool_len: usize,
+                    table: *$table u8,
+                    table_len: usize,
+                    $($argument: $type,)*
+                ) -> u32;
+            )*
+        }
+    };
+}
 
-    pub fn blockheap_free(
-        base: u64,
-        pool: *const u8,
-        pool_len: usize,
-        table: *mut u8,
-        table_len: usize,
-        block: u64,
-        change: *mut i32,
-    ) -> u32;
+declare! {
+    /// Makes every block free.
+    blockheap_init(const pool, mut table);
+    /// Makes an object.
+    blockheap_allocate(mut pool, mut table, bytes: u64, block: *mut u32, change: *mut i32);
+    /// Makes the blocks of an object free.
+    blockheap_free(const pool, mut table, block: u64, change: *mut i32);
+    /// Resizes an object.
+    blockheap_reallocate(
+        mut pool, mut table, block: u64, bytes: u64, new_block: *mut u32, change: *mut i32,
+    );
+    /// Frees all objects that no root leads to.
+    blockheap_collect(
+        const pool, mut table,
+        roots: *const u8, roots_len: usize, stack: *mut u8, stack_len: usize,
+        kept: *mut u32, rescans: *mut u32, change: *mut i32,
+    );
+    /// Counts used blocks, objects and the longest free run.
+    blockheap_survey(
+        const pool, const table, used: *mut u32, objects: *mut u32, longest: *mut u32,
+    );
+    /// Reads a word of an object.
+    blockheap_load(const pool, const table, block: u64, word: u64, value: *mut u32);
+    /// Writes a word of an object.
+    blockheap_store(mut pool, const table, block: u64, word: u64, value: u32);
+}
 
-    pub fn blockheap_reallocate(
-        base: u64,
-        pool: *mut u8,
-        pool_len: usize,
-        table: *mut u8,
-        table_len: usize,
-        block: u64,
-        bytes: u64,
-        new_block: *mut u32,
-        change: *mut i32,
-    ) -> u32;
+/// What every call is handed.
+#[derive(Debug)]
+pub(crate) struct Lent<'m> {
+    pub base: Address,
+    pub pool: &'m mut [u8],
+    pub table: &'m mut [u8],
+}
 
-    pub fn blockheap_collect(
-        base: u64,
-        pool: *const u8,
-        pool_len: usize,
-        table: *mut u8,
-        table_len: usize,
-        roots: *const u8,
-        roots_len: usize,
-        stack: *mut u8,
-        stack_len: usize,
-        kept: *mut u32,
-        rescans: *mut u32,
-        change: *mut i32,
-    ) -> u32;
+/// A slice's pointer, to read or to write.
+macro_rules! pointer {
+    (const $slice:expr) => {
+        $slice.as_ptr()
+    };
+    (mut $slice:expr) => {
+        $slice.as_mut_ptr()
+    };
+}
 
-    pub fn blockheap_survey(
-        base: u64,
-        pool: *const u8,
-        pool_len: usize,
-        table: *const u8,
-        table_len: usize,
-        used: *mut u32,
-        objects: *mut u32,
-        longest: *mut u32,
-    ) -> u32;
+/// Hands what is lent, and then a call's own arguments, to the library.
+///
+/// Safety of each call: slices are valid for their lengths and never null, and what is lent overlaps
+/// neither itself nor the other arguments, nor the locals that take the answers.
+macro_rules! hand_over {
+    ($lent:ident, $call:ident($pool:tt pool, $table:tt table $(, $argument:expr)*)) => {{
+        let base = $lent.base.word().into();
+        let (pool_len, table_len) = ($lent.pool.len(), $lent.table.len());
+        let (pool, table) = (pointer!($pool $lent.pool), pointer!($table $lent.table));
+        check(unsafe { $call(base, pool, pool_len, table, table_len $(, $argument)*) })
+    }};
+}
 
-    pub fn blockheap_load(
-        base: u64,
-        pool: *const u8,
-        pool_len: usize,
-        table: *const u8,
-        table_len: usize,
-        block: u64,
-        word: u64,
-        value: *mut u32,
-    ) -> u32;
+impl Lent<'_> {
+    pub fn init(&mut self) -> Result<(), Refusal> {
+        hand_over!(self, blockheap_init(const pool, mut table))
+    }
 
-    pub fn blockheap_store(
-        base: u64,
-        pool: *mut u8,
-        pool_len: usize,
-        table: *const u8,
-        table_len: usize,
-        block: u64,
-        word: u64,
-        value: u32,
-    ) -> u32;
+    pub fn allocate(&mut self, bytes: u64) -> Result<(u32, i32), Refusal> {
+        let (mut block, mut change) = (0, 0);
+        hand_over!(self, blockheap_allocate(mut pool, mut table, bytes, &mut block, &mut change))?;
+        Ok((block, change))
+    }
+
+    pub fn free(&mut self, block: u64) -> Result<i32, Refusal> {
+        let mut change = 0;
+        hand_over!(self, blockheap_free(const pool, mut table, block, &mut change))?;
+        Ok(change)
+    }
+
+    pub fn reallocate(&mut self, block: u64, bytes: u64) -> Result<(u32, i32), Refusal> {
+        let (mut new_block, mut change) = (0, 0);
+        hand_over!(
+            self,
+            blockheap_reallocate(mut pool, mut table, block, bytes, &mut new_block, &mut change)
+        )?;
+        Ok((new_block, change))
+    }
+
+    /// Addresses and entries are four bytes each.
+    pub fn collect(
+        &mut self,
+        roots: &[Address],
+        stack: &mut [MarkEntry],
+    ) -> Result<(u32, u32, i32), Refusal> {
+        let (mut kept, mut rescans, mut change) = (0, 0, 0);
+        hand_over!(self, blockheap_collect(
+            const pool, mut table,
+            roots.as_ptr().cast(), size_of_val(roots), stack.as_mut_ptr().cast(), size_of_val(stack),
+            &mut kept, &mut rescans, &mut change
+        ))?;
+        Ok((kept, rescans, change))
+    }
+
+    pub fn survey(&self) -> Result<(u32, u32, u32), Refusal> {
+        let (mut used, mut objects, mut longest) = (0, 0, 0);
+        hand_over!(
+            self,
+            blockheap_survey(const pool, const table, &mut used, &mut objects, &mut longest)
+        )?;
+        Ok((used, objects, longest))
+    }
+
+    pub fn load(&self, block: u64, word: u64) -> Result<u32, Refusal> {
+        let mut value = 0;
+        hand_over!(self, blockheap_load(const pool, const table, block, word, &mut value))?;
+        Ok(value)
+    }
+
+    pub fn store(&mut self, block: u64, word: u64, value: u32) -> Result<(), Refusal> {
+        hand_over!(self, blockheap_store(mut pool, const table, block, word, value))
+    }
+}
+
+/// Bytes as addresses, if none is left over.
+pub(crate) fn addresses(bytes: &[u8]) -> Option<&[Address]> {
+    let count = whole_words(bytes)?;
+    // An address is four bytes, of any content and aligned to one.
+    Some(unsafe { from_raw_parts(bytes.as_ptr().cast(), count) })
+}
+
+/// Bytes as entries of the mark stack, if none is left over.
+pub(crate) fn mark_entries(bytes: &mut [u8]) -> Option<&mut [MarkEntry]> {
+    let count = whole_words(bytes)?;
+    // An entry is four bytes, of any content and aligned to one.
+    Some(unsafe { from_raw_parts_mut(bytes.as_mut_ptr().cast(), count) })
+}
+
+fn whole_words(bytes: &[u8]) -> Option<usize> {
+    (bytes.len() % WORD_BYTES == 0).then_some(bytes.len() / WORD_BYTES)
 }

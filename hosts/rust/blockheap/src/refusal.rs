@@ -1,21 +1,34 @@
-use std::fmt;
+use core::fmt;
 
-/// Why a call was refused. After a refusal the heap holds what it held before.
+/// Why a call was refused: of several reasons, the one with the lowest number. After a refusal all that
+/// is lent holds what it held before.
 #[derive(Clone, Copy, Debug, PartialEq, Eq, Hash)]
+#[non_exhaustive]
 pub enum Refusal {
+    /// The lengths of pool and table do not fit each other, the base does not fit, or bytes are not
+    /// divisible by four.
     BadShape = 1,
+    /// The table has a mark, a tail at block 0 or a tail after a free block.
     BadTable = 2,
+    /// There are more than 4,096 roots.
     TooManyRoots = 3,
+    /// The mark stack has more than 64 entries.
     StackTooLong = 4,
+    /// The request is for 0 bytes.
     ZeroBytes = 5,
+    /// The pool has no such block.
     NoSuchBlock = 6,
+    /// The block is free or a tail.
     NotAHead = 7,
+    /// The word is not inside the object.
     NoSuchWord = 8,
+    /// No run of free blocks is long enough.
     NoRoom = 9,
 }
 
 impl Refusal {
-    pub const ALL: [Refusal; 9] = [
+    /// Every refusal, in the order of the numbers from 1.
+    pub const ALL: &'static [Refusal] = &[
         Refusal::BadShape,
         Refusal::BadTable,
         Refusal::TooManyRoots,
@@ -27,7 +40,8 @@ impl Refusal {
         Refusal::NoRoom,
     ];
 
-    pub fn number(self) -> u32 {
+    /// Its number in `include/blockheap.h`.
+    pub const fn number(self) -> u32 {
         self as u32
     }
 
@@ -58,14 +72,14 @@ impl fmt::Display for Refusal {
     }
 }
 
-impl std::error::Error for Refusal {}
+impl core::error::Error for Refusal {}
 
 /// Turns the library's number into a result.
 pub(crate) fn check(number: u32) -> Result<(), Refusal> {
     if number == 0 {
         return Ok(());
     }
-    let known = Refusal::ALL.into_iter().find(|refusal| refusal.number() == number);
-    Err(known
+    let known = Refusal::ALL.iter().find(|refusal| refusal.number() == number);
+    Err(*known
         .unwrap_or_else(|| panic!("the library answered {number}, which is no refusal number")))
 }

@@ -1,23 +1,79 @@
 //! The wrapper as a Rust program meets it.
 
-use blockheap::{Collected, Heap, Placed, Refusal, Survey};
+use blockheap::{Address, Block, Heap, MarkEntry, Placed, Refusal, Survey};
+
+const BASE: Address = Address::from_word(4096);
+
+fn parts(placed: Placed) -> (u64, i32) {
+    (placed.block.number(), placed.change)
+}
+
+fn counts(survey: Survey) -> [u32; 3] {
+    [survey.used, survey.objects, survey.longest]
+}
+
+/// Collects and answers the objects kept, the rescans and the change.
+fn collect(
+    heap: &mut Heap,
+    roots: &[Address],
+    stack: &mut [MarkEntry],
+) -> Result<(u32, u32, i32), Refusal> {
+    heap.collect(roots, stack).map(|answer| (answer.kept, answer.rescans, answer.change))
+}
 
 #[test]
 fn a_buffer_grows_moves_and_is_collected() -> Result<(), Refusal> {
     let (mut pool, mut table) = ([0xEE; 64 * 2], [0xEE; 2]);
-    let mut heap = Heap::init(4096, &mut pool, &mut table)?;
-    assert_eq!(heap.allocate(16)?, Placed { block: 0, change: 1 });
-    assert_eq!(heap.allocate(16)?, Placed { block: 1, change: 1 });
-    heap.store(0, 3, 4096 + 16)?;
-    assert_eq!(heap.reallocate(0, 33)?, Placed { block: 2, change: 2 });
-    assert_eq!(heap.load(2, 3)?, 4096 + 16);
-    assert_eq!(heap.load(2, 4)?, 0);
-    assert_eq!(heap.survey()?, Survey { used: 4, objects: 2, longest: 3 });
-    let root = (4096u32 + 2 * 16).to_le_bytes();
-    let collected = heap.collect(&root, &mut [])?;
-    assert_eq!(collected, Collected { kept: 2, rescans: 1, change: 0 });
-    assert_eq!(heap.free(2)?, -3);
-    assert_eq!(heap.collect(&[], &mut [0xEE; 8])?, Collected { kept: 0, rescans: 0, change: -1 });
+    let mut heap = Heap::init(BASE, &mut pool, &mut table)?;
+    let (first, second) = (heap.allocate(16)?, heap.allocate(16)?);
+    assert_eq!((parts(first), parts(second)), ((0, 1), (1, 1)));
+    let pointer = heap.address_of(second.block)?.word();
+    heap.store(first.block, 3, pointer)?;
+    let moved = heap.reallocate(first.block, 33)?;
+    assert_eq!(parts(moved), (2, 2));
+    assert_eq!((heap.load(moved.block, 3)?, heap.load(moved.block, 4)?), (pointer, 0));
+    assert_eq!(counts(heap.survey()?), [4, 2, 3]);
+    let root = heap.address_of(moved.block)?;
+    assert_eq!(collect(&mut heap, &[root], &mut [])?, (2, 1, 0));
+    assert_eq!(heap.free(moved.block)?, -3);
+    assert_eq!(collect(&mut heap, &[], &mut [MarkEntry::EMPTY; 2])?, (0, 0, -1));
+    Ok(())
+}
+
+#[test]
+fn blocks_and_addresses_lead_to_each_other() -> Result<(), Refusal> {
+    let (mut pool, mut table) = ([0; 64], [0; 1]);
+    let highest = Address::from_word(0xFFFF_FFC0);
+    let heap = Heap::init(highest, &mut pool, &mut table)?;
+    assert_eq!(heap.base(), highest);
+    for number in 0..4 {
+        let block = Block::from_number(number);
+        let address = heap.address_of(block)?;
+        assert_eq!(u64::from(address.word()), 0xFFFF_FFC0 + 16 * number);
+        assert_eq!(heap.block_at(address), Some(block));
+        assert_eq!(heap.block_at(Address::from_word(address.word() + 1)), None);
+    }
+    for number in [4, 1 << 28, u64::MAX] {
+        assert_eq!(heap.address_of(Block::from_number(number)), Err(Refusal::NoSuchBlock));
+    }
+    assert_eq!(heap.block_at(Address::from_word(0xFFFF_FFB0)), None);
+    let heap = Heap::resume(BASE, &mut pool, &mut table);
+    assert_eq!(heap.block_at(Address::from_word(4096 + 64)), None);
+    let too_high = Heap::resume(Address::from_word(0xFFFF_FFF0), &mut pool, &mut table);
+    assert_eq!(too_high.address_of(Block::from_number(1)), Err(Refusal::BadShape));
+    Ok(())
+}
+
+#[test]
+fn roots_and_mark_stack_may_be_bytes() -> Result<(), Refusal> {
+    assert_eq!(
+        Address::all_in(&[0, 16, 0, 0, 1, 2, 3, 4])?,
+        [BASE, Address::from_word(0x0403_0201)]
+    );
+    assert_eq!(Address::all_in(&[])?, []);
+    assert_eq!(Address::all_in(&[0; 7]), Err(Refusal::BadShape));
+    assert_eq!(MarkEntry::all_in(&mut [0; 8])?, [MarkEntry::EMPTY; 2]);
+    assert_eq!(MarkEntry::all_in(&mut [0; 9]), Err(Refusal::BadShape));
     Ok(())
 }
 
@@ -34,10 +90,11 @@ fn each_refusal_says_what_is_wrong() {
 #[test]
 fn heaps_that_do_not_fit_are_refused() {
     let (mut pool, mut table) = ([0; 64], [0; 1]);
-    let misplaced = Heap::init(4097, &mut pool, &mut table);
-    assert_eq!(misplaced.map(|_| ()), Err(Refusal::BadShape));
-    let short = Heap::init(4096, &mut pool[1..], &mut table);
-    assert_eq!(short.map(|_| ()), Err(Refusal::BadShape));
-    let marked = Heap { base: 4096, pool: &mut pool, table: &mut [3] };
+    let misplaced = Heap::init(Address::from_word(4097), &mut pool, &mut table);
+    assert_eq!(misplaced.err(), Some(Refusal::BadShape));
+    let short = Heap::init(BASE, &mut pool[1..], &mut table);
+    assert_eq!(short.err(), Some(Refusal::BadShape));
+    table = [0xFF];
+    let marked = Heap::resume(BASE, &mut pool, &mut table);
     assert_eq!(marked.survey(), Err(Refusal::BadTable));
 }

@@ -1,7 +1,7 @@
 //! The heaps that can be compared, each as a function on calls and lent memory.
 
 use crate::{Call, Lent, Reply};
-use blockheap::{raw, Heap};
+use blockheap::{raw, Address, Block, Heap, MarkEntry};
 use listheap::{ListHeap, Refusal};
 
 /// A heap under test.
@@ -85,27 +85,31 @@ pub fn wrapper(call: &Call, lent: &mut Lent) -> Reply {
 }
 
 fn on_wrapper(call: &Call, lent: &mut Lent) -> Result<[i64; 3], blockheap::Refusal> {
-    let mut heap = Heap { base: lent.base, pool: &mut lent.pool, table: &mut lent.table };
-    let placed = |placed: blockheap::Placed| [placed.block as i64, placed.change.into(), 0];
+    let word = u32::try_from(lent.base).map_err(|_| blockheap::Refusal::BadShape)?;
+    let (base, at) = (Address::from_word(word), Block::from_number);
+    let mut heap = Heap::resume(base, &mut lent.pool, &mut lent.table);
+    let placed =
+        |placed: blockheap::Placed| [placed.block.number() as i64, placed.change.into(), 0];
     Ok(match *call {
         Call::Init => {
-            Heap::init(heap.base, heap.pool, heap.table)?;
+            Heap::init(base, &mut lent.pool, &mut lent.table)?;
             [0; 3]
         }
         Call::Allocate { bytes } => placed(heap.allocate(bytes)?),
-        Call::Free { block } => [heap.free(block)?.into(), 0, 0],
-        Call::Reallocate { block, bytes } => placed(heap.reallocate(block, bytes)?),
+        Call::Free { block } => [heap.free(at(block))?.into(), 0, 0],
+        Call::Reallocate { block, bytes } => placed(heap.reallocate(at(block), bytes)?),
         Call::Collect => {
-            let collected = heap.collect(&lent.roots, &mut lent.stack)?;
+            let roots = Address::all_in(&lent.roots)?;
+            let collected = heap.collect(roots, MarkEntry::all_in(&mut lent.stack)?)?;
             [collected.kept.into(), collected.rescans.into(), collected.change.into()]
         }
         Call::Survey => {
             let survey = heap.survey()?;
             [survey.used.into(), survey.objects.into(), survey.longest.into()]
         }
-        Call::Load { block, word } => [heap.load(block, word)?.into(), 0, 0],
+        Call::Load { block, word } => [heap.load(at(block), word)?.into(), 0, 0],
         Call::Store { block, word, value } => {
-            heap.store(block, word, value)?;
+            heap.store(at(block), word, value)?;
             [0; 3]
         }
     })

@@ -1,0 +1,49 @@
+use crate::{raw, Refusal};
+use core::fmt;
+
+/// An address as words in the pool spell it. [`Heap::address_of`](crate::Heap::address_of) and
+/// [`Heap::block_at`](crate::Heap::block_at) lead from blocks to addresses and back.
+///
+/// A slice of addresses is a root list. Each has four bytes, lowest first on any host.
+///
+/// ```
+/// # use blockheap::Address;
+/// assert_eq!(Address::from_word(4096).word(), 4096);
+/// ```
+#[derive(Clone, Copy, PartialEq, Eq, Hash)]
+#[repr(transparent)]
+pub struct Address([u8; 4]);
+
+impl Address {
+    /// The address 0, which no block has: as a root it counts for nothing.
+    pub const NULL: Address = Address::from_word(0);
+
+    /// The address that a word spells.
+    pub const fn from_word(word: u32) -> Address {
+        Address(word.to_le_bytes())
+    }
+
+    /// The word that spells it.
+    pub const fn word(self) -> u32 {
+        u32::from_le_bytes(self.0)
+    }
+
+    /// The addresses that bytes spell, four bytes each, lowest first.
+    ///
+    /// ```
+    /// # use blockheap::Address;
+    /// assert_eq!(Address::all_in(&[0, 16, 0, 0]), Ok(&[Address::from_word(4096)][..]));
+    /// ```
+    ///
+    /// # Errors
+    /// [`Refusal::BadShape`] if the number of bytes is not divisible by four.
+    pub fn all_in(bytes: &[u8]) -> Result<&[Address], Refusal> {
+        raw::addresses(bytes).ok_or(Refusal::BadShape)
+    }
+}
+
+impl fmt::Debug for Address {
+    fn fmt(&self, f: &mut fmt::Formatter<'_>) -> fmt::Result {
+        write!(f, "Address({:#x})", self.word())
+    }
+}

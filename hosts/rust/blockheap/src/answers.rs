@@ -1,0 +1,41 @@
+use crate::Block;
+
+/// Where an object was placed.
+#[derive(Clone, Copy, Debug, PartialEq, Eq)]
+#[non_exhaustive]
+pub struct Placed {
+    /// Its head.
+    pub block: Block,
+    /// The change in used blocks.
+    pub change: i32,
+}
+
+impl Placed {
+    pub(crate) fn new((block, change): (u32, i32)) -> Placed {
+        Placed { block: Block::from_number(block.into()), change }
+    }
+}
+
+/// What a collection did.
+#[derive(Clone, Copy, Debug, PartialEq, Eq)]
+#[non_exhaustive]
+pub struct Collected {
+    /// The objects kept.
+    pub kept: u32,
+    /// How often the whole table was gone through because the mark stack was full.
+    pub rescans: u32,
+    /// The change in used blocks: those freed, negated.
+    pub change: i32,
+}
+
+/// What a heap holds.
+#[derive(Clone, Copy, Debug, PartialEq, Eq)]
+#[non_exhaustive]
+pub struct Survey {
+    /// The used blocks: the sum of all changes since the last accepted init.
+    pub used: u32,
+    /// The objects.
+    pub objects: u32,
+    /// The blocks of the longest run of free blocks.
+    pub longest: u32,
+}

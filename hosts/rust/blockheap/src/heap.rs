@@ -1,0 +1,184 @@
+use crate::raw::Lent;
+use crate::BLOCK_BYTES;
+use crate::{Address, Block, Collected, MarkEntry, Placed, Refusal, Survey};
+
+/// A heap in lent memory.
+///
+/// It is the one place that holds what is lent: no call asks for the pool or the table again.
+#[derive(Debug)]
+pub struct Heap<'m> {
+    lent: Lent<'m>,
+}
+
+impl<'m> Heap<'m> {
+    /// Makes every block of the pool free, whatever the table held. The pool is not touched.
+    ///
+    /// `base` is the address of block 0: any multiple of 16, if the program keeps to it.
+    ///
+    /// ```
+    /// # use blockheap::{Address, Heap, Refusal};
+    /// let (mut pool, mut table) = ([0; 64 * 2], [0; 2]);
+    /// assert!(Heap::init(Address::from_word(4096), &mut pool, &mut table).is_ok());
+    /// let odd = Heap::init(Address::from_word(4097), &mut pool, &mut table);
+    /// assert_eq!(odd.err(), Some(Refusal::BadShape));
+    /// ```
+    ///
+    /// # Errors
+    /// [`Refusal::BadShape`].
+    pub fn init(base: Address, pool: &'m mut [u8], table: &'m mut [u8]) -> Result<Self, Refusal> {
+        let mut heap = Heap::resume(base, pool, table);
+        heap.lent.init()?;
+        Ok(heap)
+    }
+
+    /// The heap that pool and table already hold, as the last call left it. Nothing is asked of them
+    /// here: what does not fit is refused by each call.
+    pub fn resume(base: Address, pool: &'m mut [u8], table: &'m mut [u8]) -> Self {
+        Heap { lent: Lent { base, pool, table } }
+    }
+
+    /// Makes an object of so many bytes, rounded up to whole blocks, at the lowest place where it
+    /// fits. All bytes of its blocks are 0.
+    ///
+    /// # Errors
+    /// [`BadShape`](Refusal::BadShape), [`BadTable`](Refusal::BadTable),
+    /// [`ZeroBytes`](Refusal::ZeroBytes), and [`NoRoom`](Refusal::NoRoom) exactly if no run of free
+    /// blocks is long enough: nothing is collected to make room.
+    pub fn allocate(&mut self, bytes: u64) -> Result<Placed, Refusal> {
+        self.lent.allocate(bytes).map(Placed::new)
+    }
+
+    /// Makes all blocks of an object free and answers the change in used blocks. The bytes stay.
+    ///
+    /// # Errors
+    /// [`BadShape`](Refusal::BadShape), [`BadTable`](Refusal::BadTable),
+    /// [`NoSuchBlock`](Refusal::NoSuchBlock), [`NotAHead`](Refusal::NotAHead).
+    pub fn free(&mut self, block: Block) -> Result<i32, Refusal> {
+        self.lent.free(block.number())
+    }
+
+    /// Resizes an object to so many bytes, rounded up to whole blocks. Its bytes are kept, as many as
+    /// fit, and all bytes of added blocks are 0. It moves only if it cannot grow in place; pointers to
+    /// the old head are then the caller's to mend.
+    ///
+    /// ```
+    /// # use blockheap::{Address, Heap};
+    /// # fn main() -> Result<(), blockheap::Refusal> {
+    /// # let (mut pool, mut table) = ([0; 64 * 4], [0; 4]);
+    /// # let mut heap = Heap::init(Address::from_word(4096), &mut pool, &mut table)?;
+    /// let first = heap.allocate(16)?.block;
+    /// let next = heap.allocate(16)?.block;
+    /// let moved = heap.reallocate(first, 17)?;
+    /// assert!(moved.block > next);
+    /// assert_eq!(moved.change, 1);
+    /// # Ok(())
+    /// # }
+    /// ```
+    ///
+    /// # Errors
+    /// [`BadShape`](Refusal::BadShape), [`BadTable`](Refusal::BadTable),
+    /// [`ZeroBytes`](Refusal::ZeroBytes), [`NoSuchBlock`](Refusal::NoSuchBlock),
+    /// [`NotAHead`](Refusal::NotAHead), and [`NoRoom`](Refusal::NoRoom) exactly if it can neither
+    /// grow in place nor move.
+    pub fn reallocate(&mut self, block: Block, bytes: u64) -> Result<Placed, Refusal> {
+        self.lent.reallocate(block.number(), bytes).map(Placed::new)
+    }
+
+    /// Keeps exactly the objects that a chain of pointers leads to from a root, and makes the blocks
+    /// of all others free.
+    ///
+    /// A root is followed as a word of an object is: one that is not the address of a head counts for
+    /// nothing. A mark stack of any length keeps the same objects; a short one costs time.
+    ///
+    /// ```
+    /// # use blockheap::{Address, Heap, MarkEntry};
+    /// # fn main() -> Result<(), blockheap::Refusal> {
+    /// # let (mut pool, mut table) = ([0; 64 * 4], [0; 4]);
+    /// # let mut heap = Heap::init(Address::from_word(4096), &mut pool, &mut table)?;
+    /// let (list, item) = (heap.allocate(8)?.block, heap.allocate(8)?.block);
+    /// heap.allocate(8)?; // garbage
+    /// heap.store(list, 0, heap.address_of(item)?.word())?;
+    /// let roots = [Address::NULL, heap.address_of(list)?];
+    /// assert_eq!(heap.collect(&roots, &mut [MarkEntry::EMPTY; 8])?.kept, 2);
+    /// # Ok(())
+    /// # }
+    /// ```
+    ///
+    /// # Errors
+    /// [`BadShape`](Refusal::BadShape), [`BadTable`](Refusal::BadTable),
+    /// [`TooManyRoots`](Refusal::TooManyRoots), [`StackTooLong`](Refusal::StackTooLong).
+    pub fn collect(
+        &mut self,
+        roots: &[Address],
+        stack: &mut [MarkEntry],
+    ) -> Result<Collected, Refusal> {
+        let (kept, rescans, change) = self.lent.collect(roots, stack)?;
+        Ok(Collected { kept, rescans, change })
+    }
+
+    /// Counts the used blocks, the objects, and the blocks of the longest run of free ones.
+    ///
+    /// # Errors
+    /// [`BadShape`](Refusal::BadShape), [`BadTable`](Refusal::BadTable).
+    pub fn survey(&self) -> Result<Survey, Refusal> {
+        let (used, objects, longest) = self.lent.survey()?;
+        Ok(Survey { used, objects, longest })
+    }
+
+    /// Reads one word of an object.
+    ///
+    /// # Errors
+    /// [`BadShape`](Refusal::BadShape), [`BadTable`](Refusal::BadTable),
+    /// [`NoSuchBlock`](Refusal::NoSuchBlock), [`NotAHead`](Refusal::NotAHead),
+    /// [`NoSuchWord`](Refusal::NoSuchWord).
+    pub fn load(&self, block: Block, word: u64) -> Result<u32, Refusal> {
+        self.lent.load(block.number(), word)
+    }
+
+    /// Writes one word of an object.
+    ///
+    /// # Errors
+    /// As [`Heap::load`].
+    pub fn store(&mut self, block: Block, word: u64, value: u32) -> Result<(), Refusal> {
+        self.lent.store(block.number(), word, value)
+    }
+
+    /// The address of a block, whether it is used or free.
+    ///
+    /// # Errors
+    /// [`NoSuchBlock`](Refusal::NoSuchBlock), or [`BadShape`](Refusal::BadShape) if the base is so
+    /// high that no word spells the address.
+    pub fn address_of(&self, block: Block) -> Result<Address, Refusal> {
+        if block.number() >= (self.lent.pool.len() / BLOCK_BYTES) as u64 {
+            return Err(Refusal::NoSuchBlock);
+        }
+        let address = u64::from(self.base().word()) + BLOCK_BYTES as u64 * block.number();
+        u32::try_from(address).map(Address::from_word).map_err(|_| Refusal::BadShape)
+    }
+
+    /// The block that has this address, used or free. No block has an address outside of the pool or
+    /// inside a block.
+    ///
+    /// ```
+    /// # use blockheap::{Address, Block, Heap};
+    /// # fn main() -> Result<(), blockheap::Refusal> {
+    /// # let (mut pool, mut table) = ([0; 64 * 4], [0; 4]);
+    /// # let heap = Heap::init(Address::from_word(4096), &mut pool, &mut table)?;
+    /// let address = heap.address_of(Block::from_number(3))?;
+    /// assert_eq!(address, Address::from_word(4096 + 3 * 16));
+    /// assert_eq!(heap.block_at(address), Some(Block::from_number(3)));
+    /// assert_eq!(heap.block_at(Address::from_word(4097)), None);
+    /// # Ok(())
+    /// # }
+    /// ```
+    pub fn block_at(&self, address: Address) -> Option<Block> {
+        let offset = u64::from(address.word().checked_sub(self.base().word())?);
+        let block = Block::from_number(offset / BLOCK_BYTES as u64);
+        (self.address_of(block) == Ok(address)).then_some(block)
+    }
+
+    /// The address of block 0.
+    pub fn base(&self) -> Address {
+        self.lent.base
+    }
+}
