@@ -14,6 +14,7 @@ impl<'m> Heap<'m> {
     /// Makes every block of the pool free, whatever the table held. The pool is not touched.
     ///
     /// `base` is the address of block 0: any multiple of 16, if the program keeps to it.
+    /// [`Memory`](crate::Memory) has pool and table of the right lengths.
     ///
     /// ```
     /// # use blockheap::{Address, Heap, Refusal};
@@ -62,10 +63,10 @@ impl<'m> Heap<'m> {
     /// the old head are then the caller's to mend.
     ///
     /// ```
-    /// # use blockheap::{Address, Heap};
+    /// # use blockheap::{Address, Memory};
     /// # fn main() -> Result<(), blockheap::Refusal> {
-    /// # let (mut pool, mut table) = ([0; 64 * 4], [0; 4]);
-    /// # let mut heap = Heap::init(Address::from_word(4096), &mut pool, &mut table)?;
+    /// # let mut memory = Memory::<4>::new();
+    /// # let mut heap = memory.init(Address::from_word(4096))?;
     /// let first = heap.allocate(16)?.block;
     /// let next = heap.allocate(16)?.block;
     /// let moved = heap.reallocate(first, 17)?;
@@ -91,10 +92,10 @@ impl<'m> Heap<'m> {
     /// nothing. A mark stack of any length keeps the same objects; a short one costs time.
     ///
     /// ```
-    /// # use blockheap::{Address, Heap, MarkEntry};
+    /// # use blockheap::{Address, MarkEntry, Memory};
     /// # fn main() -> Result<(), blockheap::Refusal> {
-    /// # let (mut pool, mut table) = ([0; 64 * 4], [0; 4]);
-    /// # let mut heap = Heap::init(Address::from_word(4096), &mut pool, &mut table)?;
+    /// # let mut memory = Memory::<4>::new();
+    /// # let mut heap = memory.init(Address::from_word(4096))?;
     /// let (list, item) = (heap.allocate(8)?.block, heap.allocate(8)?.block);
     /// heap.allocate(8)?; // garbage
     /// heap.store(list, 0, heap.address_of(item)?.word())?;
@@ -160,10 +161,10 @@ impl<'m> Heap<'m> {
     /// inside a block.
     ///
     /// ```
-    /// # use blockheap::{Address, Block, Heap};
+    /// # use blockheap::{Address, Block, Memory};
     /// # fn main() -> Result<(), blockheap::Refusal> {
-    /// # let (mut pool, mut table) = ([0; 64 * 4], [0; 4]);
-    /// # let heap = Heap::init(Address::from_word(4096), &mut pool, &mut table)?;
+    /// # let mut memory = Memory::<4>::new();
+    /// # let heap = memory.init(Address::from_word(4096))?;
     /// let address = heap.address_of(Block::from_number(3))?;
     /// assert_eq!(address, Address::from_word(4096 + 3 * 16));
     /// assert_eq!(heap.block_at(address), Some(Block::from_number(3)));

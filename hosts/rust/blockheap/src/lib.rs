@@ -16,6 +16,7 @@ mod answers;
 mod block;
 mod heap;
 mod mark_entry;
+mod memory;
 #[allow(unsafe_code)]
 pub mod raw;
 mod refusal;
@@ -26,5 +27,6 @@ pub use answers::{Collected, Placed, Survey};
 pub use block::Block;
 pub use heap::Heap;
 pub use mark_entry::MarkEntry;
+pub use memory::Memory;
 pub use refusal::Refusal;
 pub use sizes::*;

@@ -1,6 +1,6 @@
 //! The wrapper as a Rust program meets it.
 
-use blockheap::{Address, Block, Heap, MarkEntry, Placed, Refusal, Survey};
+use blockheap::{Address, Block, Heap, MarkEntry, Memory, Placed, Refusal, Survey};
 
 const BASE: Address = Address::from_word(4096);
 
@@ -42,9 +42,9 @@ fn a_buffer_grows_moves_and_is_collected() -> Result<(), Refusal> {
 
 #[test]
 fn blocks_and_addresses_lead_to_each_other() -> Result<(), Refusal> {
-    let (mut pool, mut table) = ([0; 64], [0; 1]);
+    let mut memory = Memory::<1>::new();
     let highest = Address::from_word(0xFFFF_FFC0);
-    let heap = Heap::init(highest, &mut pool, &mut table)?;
+    let heap = memory.init(highest)?;
     assert_eq!(heap.base(), highest);
     for number in 0..4 {
         let block = Block::from_number(number);
@@ -57,9 +57,9 @@ fn blocks_and_addresses_lead_to_each_other() -> Result<(), Refusal> {
         assert_eq!(heap.address_of(Block::from_number(number)), Err(Refusal::NoSuchBlock));
     }
     assert_eq!(heap.block_at(Address::from_word(0xFFFF_FFB0)), None);
-    let heap = Heap::resume(BASE, &mut pool, &mut table);
+    let heap = memory.resume(BASE);
     assert_eq!(heap.block_at(Address::from_word(4096 + 64)), None);
-    let too_high = Heap::resume(Address::from_word(0xFFFF_FFF0), &mut pool, &mut table);
+    let too_high = memory.resume(Address::from_word(0xFFFF_FFF0));
     assert_eq!(too_high.address_of(Block::from_number(1)), Err(Refusal::BadShape));
     Ok(())
 }
@@ -94,6 +94,8 @@ fn heaps_that_do_not_fit_are_refused() {
     assert_eq!(misplaced.err(), Some(Refusal::BadShape));
     let short = Heap::init(BASE, &mut pool[1..], &mut table);
     assert_eq!(short.err(), Some(Refusal::BadShape));
+    assert_eq!(Memory::<0>::new().init(BASE).err(), Some(Refusal::BadShape));
+    assert_eq!(Memory::<1025>::new().init(BASE).err(), Some(Refusal::BadShape));
     table = [0xFF];
     let marked = Heap::resume(BASE, &mut pool, &mut table);
     assert_eq!(marked.survey(), Err(Refusal::BadTable));
