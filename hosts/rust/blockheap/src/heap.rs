@@ -1,6 +1,7 @@
 use crate::raw::Lent;
-use crate::BLOCK_BYTES;
 use crate::{Address, Block, Collected, MarkEntry, Placed, Refusal, Survey};
+use crate::{BLOCK_BYTES, WORDS_PER_BLOCK};
+use core::ops::Range;
 
 /// A heap in lent memory.
 ///
@@ -144,6 +145,26 @@ impl<'m> Heap<'m> {
         self.lent.store(block.number(), word, value)
     }
 
+    /// All bytes of an object's blocks. They are found by some loads, twice as many as the number of
+    /// its blocks has binary digits: hold the slice rather than ask for every byte.
+    ///
+    /// # Errors
+    /// [`BadShape`](Refusal::BadShape), [`BadTable`](Refusal::BadTable),
+    /// [`NoSuchBlock`](Refusal::NoSuchBlock), [`NotAHead`](Refusal::NotAHead).
+    pub fn object(&self, block: Block) -> Result<&[u8], Refusal> {
+        let place = self.place_of(block)?;
+        Ok(&self.lent.pool[place])
+    }
+
+    /// All bytes of an object's blocks, to write.
+    ///
+    /// # Errors
+    /// As [`Heap::object`].
+    pub fn object_mut(&mut self, block: Block) -> Result<&mut [u8], Refusal> {
+        let place = self.place_of(block)?;
+        Ok(&mut self.lent.pool[place])
+    }
+
     /// The address of a block, whether it is used or free.
     ///
     /// # Errors
@@ -181,5 +202,39 @@ impl<'m> Heap<'m> {
     /// The address of block 0.
     pub fn base(&self) -> Address {
         self.lent.base
+    }
+
+    /// Where in the pool an object's bytes are.
+    fn place_of(&self, block: Block) -> Result<Range<usize>, Refusal> {
+        let blocks = self.blocks_of(block)?;
+        let start = block.number() as usize * BLOCK_BYTES;
+        Ok(start..start + blocks * BLOCK_BYTES)
+    }
+
+    /// The number of an object's blocks: doubled until it is too many, then bisected.
+    fn blocks_of(&self, block: Block) -> Result<usize, Refusal> {
+        self.load(block, 0)?;
+        let (mut some, mut too_many) = (1, 2);
+        while self.has_blocks(block, too_many)? {
+            (some, too_many) = (too_many, 2 * too_many);
+        }
+        while too_many - some > 1 {
+            let middle = some + (too_many - some) / 2;
+            if self.has_blocks(block, middle)? {
+                some = middle;
+            } else {
+                too_many = middle;
+            }
+        }
+        Ok(some)
+    }
+
+    /// Whether an object has at least so many blocks: whether the first word of the last is its own.
+    fn has_blocks(&self, block: Block, blocks: usize) -> Result<bool, Refusal> {
+        match self.load(block, ((blocks - 1) * WORDS_PER_BLOCK) as u64) {
+            Ok(_) => Ok(true),
+            Err(Refusal::NoSuchWord) => Ok(false),
+            Err(refusal) => Err(refusal),
+        }
     }
 }

@@ -31,7 +31,7 @@ impl<const TABLE_BYTES: usize> Memory<TABLE_BYTES> {
     /// let base = Address::from_word(4096);
     /// let mut memory = Memory::<1>::new();
     /// let block = memory.init(base)?.allocate(20)?.block;
-    /// assert_eq!(memory.resume(base).load(block, 7)?, 0);
+    /// assert_eq!(memory.resume(base).object(block)?, [0; 32]);
     /// # Ok(())
     /// # }
     /// ```

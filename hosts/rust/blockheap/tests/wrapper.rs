@@ -41,6 +41,52 @@ fn a_buffer_grows_moves_and_is_collected() -> Result<(), Refusal> {
 }
 
 #[test]
+fn an_object_is_all_bytes_of_its_blocks() -> Result<(), Refusal> {
+    let mut memory = Memory::<1024>::new();
+    let mut heap = memory.init(BASE)?;
+    let blocks = (1..=70).chain([511, 512, 513]);
+    let objects: Vec<(Block, usize)> = blocks
+        .map(|blocks| Ok((heap.allocate(16 * blocks as u64 - 3)?.block, 16 * blocks)))
+        .collect::<Result<_, Refusal>>()?;
+    for (number, (block, bytes)) in objects.iter().enumerate() {
+        assert_eq!(heap.object(*block)?, vec![0; *bytes]);
+        heap.object_mut(*block)?.fill(number as u8);
+    }
+    for (number, (block, bytes)) in objects.iter().enumerate() {
+        assert_eq!(heap.object(*block)?, vec![number as u8; *bytes]);
+    }
+    Ok(())
+}
+
+#[test]
+fn an_object_may_end_with_the_pool() -> Result<(), Refusal> {
+    let mut memory = Memory::<2>::new();
+    let mut heap = memory.init(BASE)?;
+    let whole = heap.allocate(128)?.block;
+    assert_eq!(heap.object(whole)?.len(), 128);
+    heap.object_mut(whole)?[127] = 0xAB;
+    assert_eq!(heap.load(whole, 31)?, 0xAB00_0000);
+    Ok(())
+}
+
+#[test]
+fn what_is_no_object_has_no_bytes() -> Result<(), Refusal> {
+    let mut memory = Memory::<1>::new();
+    let mut heap = memory.init(BASE)?;
+    heap.allocate(32)?;
+    for (number, refusal) in [
+        (1, Refusal::NotAHead),
+        (2, Refusal::NotAHead),
+        (4, Refusal::NoSuchBlock),
+        (u64::MAX, Refusal::NoSuchBlock),
+    ] {
+        assert_eq!(heap.object(Block::from_number(number)), Err(refusal));
+        assert_eq!(heap.object_mut(Block::from_number(number)), Err(refusal));
+    }
+    Ok(())
+}
+
+#[test]
 fn blocks_and_addresses_lead_to_each_other() -> Result<(), Refusal> {
     let mut memory = Memory::<1>::new();
     let highest = Address::from_word(0xFFFF_FFC0);
