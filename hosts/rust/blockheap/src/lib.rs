@@ -5,6 +5,10 @@
 //! and every call hands all of it over. Any content may be lent and any number passed: what does not
 //! fit is refused with a [`Refusal`], and then nothing has changed.
 //!
+//! ```
+#![doc = include_str!("../examples/readme.rs")]
+//! ```
+//!
 //! All unsafe code is in the module [`raw`]. A call panics only if the archive answers a number that
 //! is no refusal's, as one of another version may.
 
