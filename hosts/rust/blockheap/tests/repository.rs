@@ -1,7 +1,44 @@
-//! The crate agrees with the README of the repository that it is part of.
+//! The crate agrees with the header and the README of the repository that it is part of.
 
+const HEADER: &str = include_str!("../../../../include/blockheap.h");
 const README: &str = include_str!("../../../../README.md");
 const PROGRAM: &str = include_str!("../examples/readme.rs");
+
+/// The number that the header defines under this name.
+fn defined(name: &str) -> usize {
+    let value = HEADER.lines().find_map(|line| {
+        let mut words = line.split_whitespace();
+        (words.next() == Some("#define") && words.next() == Some(name)).then(|| words.next())?
+    });
+    let value = value.unwrap_or_else(|| panic!("the header does not define {name}"));
+    value.parse().unwrap_or_else(|_| panic!("{name} is no plain number"))
+}
+
+#[test]
+fn the_version_is_the_headers() {
+    let parts =
+        ["MAJOR", "MINOR", "PATCH"].map(|part| defined(&format!("BLOCKHEAP_VERSION_{part}")));
+    assert_eq!(env!("CARGO_PKG_VERSION"), parts.map(|part| part.to_string()).join("."));
+}
+
+#[test]
+fn the_sizes_are_the_headers() {
+    use blockheap::*;
+    for (name, size) in [
+        ("BLOCK_BYTES", BLOCK_BYTES),
+        ("WORD_BYTES", WORD_BYTES),
+        ("WORDS_PER_BLOCK", WORDS_PER_BLOCK),
+        ("BLOCKS_PER_TABLE_BYTE", BLOCKS_PER_TABLE_BYTE),
+        ("MAX_TABLE_BYTES", MAX_TABLE_BYTES),
+        ("MAX_BLOCKS", MAX_BLOCKS),
+        ("MAX_POOL_BYTES", MAX_POOL_BYTES),
+        ("MIN_BASE", MIN_BASE.word() as usize),
+        ("MAX_ROOTS", MAX_ROOTS),
+        ("MAX_STACK_ENTRIES", MAX_STACK_ENTRIES),
+    ] {
+        assert_eq!(size, defined(&format!("BLOCKHEAP_{name}")), "{name}");
+    }
+}
 
 #[test]
 fn the_readme_shows_the_example() {
