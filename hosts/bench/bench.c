@@ -1,10 +1,12 @@
 /*
  * Times one implementation of blockheap.h. Linked with the library, with the plain C port and with the
- * plain-list heap, it does the same work on each, and prints for each kind of work and size of heap
+ * plain-list heap, it does the same work on each, and prints for each kind of work and size of heap, with
+ * tabs between,
  *
- *   WORK TABLE_BYTES NANOSECONDS CHECKSUM
+ *   WORK BLOCKS NANOSECONDS CHECKSUM
  *
- * where the time is that of one round, and the checksum is made of the answers of a fixed number of rounds.
+ * where the time is that of one turn, and the checksum is made of the answers of a fixed number of turns.
+ * With --legend it says what each kind of work does.
  */
 #include <stdio.h>
 #include <stdlib.h>
@@ -13,7 +15,7 @@
 
 #include "blockheap.h"
 
-enum { CHECKED_ROUNDS = 50, REPEATS = 3, MAX_LIVE = BLOCKHEAP_MAX_BLOCKS / 4, GRAPH_ROOTS = 64 };
+enum { CHECKED_TURNS = 50, REPEATS = 3, MAX_LIVE = BLOCKHEAP_MAX_BLOCKS / 4, GRAPH_ROOTS = 64 };
 static const double LEAST_NANOSECONDS = 20e6;
 static const uint32_t BASE = 4096;
 
@@ -167,19 +169,20 @@ static void collect(void)
 }
 
 static const struct work {
-    const char *name;
+    const char *name, *about;
     void (*prepare)(void);
-    void (*round)(void);
+    void (*turn)(void);
 } works[] = {
-    {"free+allocate", fill, churn},
-    {"reallocate", fill, reallocate},
-    {"load+store", fill, load_and_store},
-    {"survey", fill, survey},
-    {"collect-nothing", only_heads, collect},
-    {"collect-chain", chain, collect},
-    {"collect-tree", tree, collect},
-    {"collect-graph", graph, collect},
+    {"churn", "free a random object of a heap half in use, and allocate another of 1 to 48 bytes", fill, churn},
+    {"reallocate", "give a random object of such a heap a new size of 1 to 48 bytes", fill, reallocate},
+    {"load and store", "read a word of a random object of such a heap, and write it", fill, load_and_store},
+    {"survey", "count used blocks, objects and the longest free run of such a heap", fill, survey},
+    {"collect, nothing reachable", "an object in each block and no roots: all are freed", only_heads, collect},
+    {"collect, a chain", "each object leads to the next: all are kept", chain, collect},
+    {"collect, a binary tree", "each object leads to two others: all are kept", tree, collect},
+    {"collect, a random graph", "each object leads to four at random, 64 roots: most are kept", graph, collect},
 };
+enum { WORKS = sizeof works / sizeof works[0] };
 
 /* The processor time of this program, which other programs on the machine disturb least. */
 static double nanoseconds(void)
@@ -187,26 +190,26 @@ static double nanoseconds(void)
     return (double)clock() * (1e9 / CLOCKS_PER_SEC);
 }
 
-static double time_rounds(const struct work *work, long rounds)
+static double time_turns(const struct work *work, long turns)
 {
     double start = nanoseconds();
-    for (long round = 0; round < rounds; round++)
-        work->round();
+    for (long turn = 0; turn < turns; turn++)
+        work->turn();
     return nanoseconds() - start;
 }
 
-/* The best time of one round, over some repeats that are long enough to be timed. */
+/* The best time of one turn, over some repeats that are long enough to be timed. */
 static double best_time(const struct work *work)
 {
-    long rounds = 1;
-    while (time_rounds(work, rounds) < LEAST_NANOSECONDS)
-        rounds *= 2;
-    double best = time_rounds(work, rounds);
+    long turns = 1;
+    while (time_turns(work, turns) < LEAST_NANOSECONDS)
+        turns *= 2;
+    double best = time_turns(work, turns);
     for (int repeat = 1; repeat < REPEATS; repeat++) {
-        double time = time_rounds(work, rounds);
+        double time = time_turns(work, turns);
         best = time < best ? time : best;
     }
-    return best / (double)rounds;
+    return best / (double)turns;
 }
 
 static void run(const struct work *work, size_t size)
@@ -216,18 +219,32 @@ static void run(const struct work *work, size_t size)
     random_state = 2018;
     checksum = 0;
     work->prepare();
-    for (int round = 0; round < CHECKED_ROUNDS; round++)
-        work->round();
+    for (int turn = 0; turn < CHECKED_TURNS; turn++)
+        work->turn();
     uint32_t checked = checksum;
-    printf("%s %zu %.1f %08x\n", work->name, size, best_time(work), (unsigned)checked);
+    printf("%s\t%zu\t%.1f\t%08x\n", work->name, blocks, best_time(work), (unsigned)checked);
     fflush(stdout);
 }
 
-int main(void)
+static void print_legend(void)
+{
+    for (size_t at = 0; at < WORKS; at++)
+        printf("%-28s %s\n", works[at].name, works[at].about);
+}
+
+static void run_all(void)
 {
     static const size_t sizes[] = {8, BLOCKHEAP_MAX_TABLE_BYTES};
-    for (size_t at = 0; at < sizeof works / sizeof works[0]; at++)
+    for (size_t at = 0; at < WORKS; at++)
         for (size_t size = 0; size < sizeof sizes / sizeof sizes[0]; size++)
             run(&works[at], sizes[size]);
+}
+
+int main(int argc, char **argv)
+{
+    if (argc == 2 && strcmp(argv[1], "--legend") == 0)
+        print_legend();
+    else
+        run_all();
     return 0;
 }
