@@ -14,8 +14,9 @@ pub struct Heap<'m> {
 impl<'m> Heap<'m> {
     /// Makes every block of the pool free, whatever the table held. The pool is not touched.
     ///
-    /// `base` is the address of block 0: any multiple of 16, if the program keeps to it.
-    /// [`Memory`](crate::Memory) has pool and table of the right lengths.
+    /// `base` is the address of block 0, a multiple of 16 that is at least 16: on a 32-bit board the
+    /// pool's own, elsewhere any that the program keeps to. The pool is 64 times as long as the table,
+    /// and [`Memory`](crate::Memory) has both.
     ///
     /// ```
     /// # use blockheap::{Address, Heap, Refusal};

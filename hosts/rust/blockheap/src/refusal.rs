@@ -5,8 +5,8 @@ use core::fmt;
 #[derive(Clone, Copy, Debug, PartialEq, Eq, Hash)]
 #[non_exhaustive]
 pub enum Refusal {
-    /// The lengths of pool and table do not fit each other, the base does not fit, or bytes are not
-    /// divisible by four.
+    /// The lengths of pool and table or the base do not fit, or a number of bytes is not divisible by
+    /// four.
     BadShape = 1,
     /// The table has a mark, a tail at block 0 or a tail after a free block.
     BadTable = 2,
