@@ -146,8 +146,8 @@ impl<'m> Heap<'m> {
         self.lent.store(block.number(), word, value)
     }
 
-    /// All bytes of an object's blocks. They are found by some loads, twice as many as the number of
-    /// its blocks has binary digits: hold the slice rather than ask for every byte.
+    /// All bytes of an object's blocks. They are found by loads, up to two for each binary digit of the
+    /// number of its blocks: hold the slice rather than ask for every byte.
     ///
     /// # Errors
     /// [`BadShape`](Refusal::BadShape), [`BadTable`](Refusal::BadTable),
@@ -214,7 +214,6 @@ impl<'m> Heap<'m> {
 
     /// The number of an object's blocks: doubled until it is too many, then bisected.
     fn blocks_of(&self, block: Block) -> Result<usize, Refusal> {
-        self.load(block, 0)?;
         let (mut some, mut too_many) = (1, 2);
         while self.has_blocks(block, too_many)? {
             (some, too_many) = (too_many, 2 * too_many);
