@@ -117,9 +117,11 @@ fn roots_and_mark_stack_may_be_bytes() -> Result<(), Refusal> {
         [BASE, Address::from_word(0x0403_0201)]
     );
     assert_eq!(Address::all_in(&[])?, []);
-    assert_eq!(Address::all_in(&[0; 7]), Err(Refusal::BadShape));
     assert_eq!(MarkEntry::all_in(&mut [0; 8])?, [MarkEntry::EMPTY; 2]);
-    assert_eq!(MarkEntry::all_in(&mut [0; 9]), Err(Refusal::BadShape));
+    for bytes in 1..4 {
+        assert_eq!(Address::all_in(&[0; 4][..bytes]), Err(Refusal::BadShape));
+        assert_eq!(MarkEntry::all_in(&mut [0; 4][..bytes]), Err(Refusal::BadShape));
+    }
     Ok(())
 }
 
