@@ -12,6 +12,7 @@ mod pairs;
 mod random;
 mod subject;
 mod walk;
+mod wanted;
 
 pub use call::{Call, Lent, Reply};
 pub use check::compare;
@@ -22,3 +23,4 @@ pub use pairs::{run_pairs, PairCounts};
 pub use random::Random;
 pub use subject::{library, second, second_on_list, wrapper, Subject};
 pub use walk::{run_walks, Sizes};
+pub use wanted::wanted;

@@ -1,14 +1,11 @@
 //! Noninterference: pairs of heaps, long lists of calls. BLOCKHEAP_PAIRS asks for more pairs.
 
-use compare::{library, run_pairs, Sizes};
+use compare::{library, run_pairs, wanted, Sizes};
 
 const PAIRS: u64 = 600;
 
 fn pairs_wanted() -> u64 {
-    match std::env::var("BLOCKHEAP_PAIRS") {
-        Ok(text) => text.parse().expect("BLOCKHEAP_PAIRS must be a number of pairs"),
-        Err(_) => PAIRS,
-    }
+    wanted("BLOCKHEAP_PAIRS", PAIRS)
 }
 
 fn pairs_agree(sizes: Sizes, seed: u64, pairs: u64) {

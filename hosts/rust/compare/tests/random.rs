@@ -1,6 +1,6 @@
 //! Random runs of the library beside the plain-list heap. BLOCKHEAP_CALLS asks for more calls.
 
-use compare::{library, run_walks, wrapper, Coverage, Sizes, Subject};
+use compare::{library, run_walks, wanted, wrapper, Coverage, Sizes, Subject};
 use std::time::Instant;
 
 const CALLS: u64 = 400_000;
@@ -15,10 +15,7 @@ const SHARES: [(Sizes, u64); 5] = [
 ];
 
 fn calls_wanted() -> u64 {
-    match std::env::var("BLOCKHEAP_CALLS") {
-        Ok(text) => text.parse().expect("BLOCKHEAP_CALLS must be a number of calls"),
-        Err(_) => CALLS,
-    }
+    wanted("BLOCKHEAP_CALLS", CALLS)
 }
 
 fn run_all_sizes(name: &str, subject: Subject, seed: u64, calls: u64) -> Coverage {
