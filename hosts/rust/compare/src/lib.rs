@@ -8,6 +8,7 @@ mod check;
 mod coverage;
 mod draw;
 mod guarded;
+mod pages;
 mod pairs;
 mod random;
 mod subject;

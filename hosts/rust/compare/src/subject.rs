@@ -17,7 +17,7 @@ pub fn library(call: &Call, lent: &mut Lent) -> Reply {
     macro_rules! hand_over {
         ($call:ident $(, $argument:expr)*) => {{
             let (pool, table) = (lent.pool.as_mut_ptr(), lent.table.as_mut_ptr());
-            // Each buffer has a vector of its own, and the answers have their array.
+            // Each buffer has pages of its own, and the answers have their array.
             unsafe { raw::$call(lent.base, pool, pool_len, table, table_len $(, $argument)*) }
         }};
     }

@@ -3,6 +3,8 @@
 use compare::{entry, object_blocks, run_pairs, run_walks, second, Call, Guarded, Lent, Reply};
 use compare::{Coverage, Sizes, Subject};
 use listheap::{Collected, ListHeap, Marking, Placed, Refusal};
+use std::os::unix::process::ExitStatusExt;
+use std::process::Command;
 
 const SMALL: Sizes = Sizes { least: 1, most: 16, calls_per_heap: 60 };
 const MOST_CALLS: u64 = 50_000;
@@ -16,6 +18,23 @@ fn must_be_noticed(name: &str, subject: Subject) {
 fn dead_data_is_heard(name: &str, subject: Subject) {
     let outcome = run_pairs(subject, SMALL, 5, 500);
     say_noticed(name, &outcome.expect_err("no pair of heaps differed"));
+}
+
+/// In a process of its own, the heap must end that process at a page that cannot be touched. The process
+/// is this test once more, told by a variable to make the calls.
+fn must_fault(name: &str, subject: Subject) {
+    const MAKE_CALLS: &str = "BLOCKHEAP_MAKE_CALLS";
+    const SIGSEGV: i32 = 11;
+    if std::env::var_os(MAKE_CALLS).is_some() {
+        let _ = run_walks(subject, SMALL, 5, MOST_CALLS, &mut Coverage::default());
+        return;
+    }
+    let this = std::env::current_exe().expect("the path of these tests");
+    let mut again = Command::new(this);
+    again.args(["--exact", &format!("must_fault::{name}")]).env(MAKE_CALLS, "1");
+    let ended = again.output().expect("a second process").status;
+    assert_eq!(ended.signal(), Some(SIGSEGV), "{ended}");
+    say_noticed(name, &ended.to_string());
 }
 
 fn say_noticed(name: &str, fault: &str) {
@@ -57,6 +76,17 @@ each! { must_be_noticed:
     clears_the_pool_at_init
     writes_past_the_pool
     writes_the_roots
+}
+
+each! { must_fault:
+    reads_before_the_pool
+    reads_past_the_pool
+    reads_before_the_table
+    reads_past_the_table
+    reads_before_the_roots
+    reads_past_the_roots
+    reads_before_the_stack
+    reads_past_the_stack
 }
 
 each! { dead_data_is_heard:
@@ -330,10 +360,39 @@ fn clears_the_pool_at_init(call: &Call, lent: &mut Lent) -> Reply {
 }
 
 fn writes_past_the_pool(call: &Call, lent: &mut Lent) -> Reply {
-    let end = lent.pool.as_mut_ptr_range().end;
-    // The byte after the pool is a guard byte of the same vector.
-    unsafe { *end = 0 };
+    if let Some(byte) = lent.pool.byte_after() {
+        *byte = 0;
+    }
     second(call, lent)
+}
+
+/// A right heap that also reads a byte before or past a buffer.
+macro_rules! reads_outside {
+    ($($before:ident $past:ident $buffer:ident)*) => {
+        $(
+            fn $before(call: &Call, lent: &mut Lent) -> Reply {
+                read(lent.$buffer.as_ptr().wrapping_sub(1));
+                second(call, lent)
+            }
+
+            fn $past(call: &Call, lent: &mut Lent) -> Reply {
+                read(lent.$buffer.as_ptr_range().end);
+                second(call, lent)
+            }
+        )*
+    };
+}
+
+reads_outside! {
+    reads_before_the_pool reads_past_the_pool pool
+    reads_before_the_table reads_past_the_table table
+    reads_before_the_roots reads_past_the_roots roots
+    reads_before_the_stack reads_past_the_stack stack
+}
+
+/// Reads where nothing is lent: the process ends here, or the byte is slack of the same pages.
+fn read(byte: *const u8) {
+    unsafe { byte.read_volatile() };
 }
 
 fn writes_the_roots(call: &Call, lent: &mut Lent) -> Reply {
