@@ -1,13 +1,16 @@
 /*
  * The checked examples of the heap's rules through the C header: 8 blocks, base 4,096.
  *
- * Every buffer is exactly as long as it is said to be, in memory of its own, so that the sanitizers and
- * valgrind see an access beside it.
+ * Each runs once for each place of the lent buffers. Against a page that cannot be touched, any access past
+ * that border ends the program, also one from inside the archive. In memory from malloc, valgrind sees each
+ * byte beside a buffer.
  */
+#define _DEFAULT_SOURCE /* for MAP_ANONYMOUS */
 #include <stdbool.h>
 #include <stdio.h>
 #include <stdlib.h>
 #include <string.h>
+#include <sys/mman.h>
 
 #include "blockheap.h"
 
@@ -29,30 +32,57 @@ static bool same(const char *what, long long got, long long expected)
     return got == expected;
 }
 
-static uint8_t *lent(size_t bytes)
+/* Where the buffers lie: from the first byte of a page, up to the last byte of it, or in memory from malloc. */
+static enum { AT_FRONT, AT_END, FROM_MALLOC, PLACES } place;
+
+/* Each buffer has a page of its own. So many bytes before and after that page cannot be touched. */
+enum buffer { POOL, TABLE, ROOTS, STACK, BUFFERS };
+enum { PAGE = 4096, FENCE = 256 * PAGE };
+static uint8_t *pages[BUFFERS];
+static uint8_t *from_malloc[BUFFERS];
+
+static void *had(void *memory)
 {
-    uint8_t *memory = malloc(bytes ? bytes : 1);
-    if (!memory) {
+    if (!memory || memory == MAP_FAILED) {
         puts("out of memory");
         exit(2);
     }
     return memory;
 }
 
-static void end_heap(void)
+static void start_buffers(void)
 {
-    free(pool);
-    free(table);
-    pool = table = NULL;
+    for (int at = 0; at < BUFFERS; at++) {
+        uint8_t *fence = had(mmap(NULL, FENCE + PAGE + FENCE, PROT_NONE, MAP_PRIVATE | MAP_ANONYMOUS, -1, 0));
+        pages[at] = fence + FENCE;
+        mprotect(pages[at], PAGE, PROT_READ | PROT_WRITE);
+    }
+}
+
+static void end_buffers(void)
+{
+    for (int at = 0; at < BUFFERS; at++)
+        free(from_malloc[at]);
+}
+
+/* Lends a buffer anew, of at most a page. */
+static uint8_t *lent(enum buffer buffer, size_t bytes)
+{
+    switch (place) {
+    case AT_FRONT: return pages[buffer];
+    case AT_END: return pages[buffer] + PAGE - bytes;
+    default:
+        free(from_malloc[buffer]);
+        return from_malloc[buffer] = had(malloc(bytes ? bytes : 1));
+    }
 }
 
 /* A heap with this table and a pool of zeros. */
 static bool from(uint8_t first, uint8_t second)
 {
-    end_heap();
     base = 4096;
-    pool = lent(POOL_BYTES);
-    table = lent(TABLE_BYTES);
+    pool = lent(POOL, POOL_BYTES);
+    table = lent(TABLE, TABLE_BYTES);
     memset(pool, 0, POOL_BYTES);
     table[0] = first;
     table[1] = second;
@@ -123,7 +153,7 @@ static bool all_zero(const uint8_t *bytes, size_t length)
 static bool collects(const uint32_t *root, size_t stack_entries, uint32_t kept, uint32_t rescans, int32_t change)
 {
     size_t roots_len = root ? 4 : 0, stack_len = 4 * stack_entries;
-    uint8_t *roots = lent(roots_len), *stack = lent(stack_len);
+    uint8_t *roots = lent(ROOTS, roots_len), *stack = lent(STACK, stack_len);
     for (size_t at = 0; at < roots_len; at++)
         roots[at] = (uint8_t)(*root >> 8 * at);
     memset(stack, 0xEE, stack_len);
@@ -131,12 +161,9 @@ static bool collects(const uint32_t *root, size_t stack_entries, uint32_t kept, 
     int32_t got_change = RUBBISH;
     uint32_t refusal =
         blockheap_collect(HEAP, roots, roots_len, stack, stack_len, &got_kept, &got_rescans, &got_change);
-    bool right = same("refusal", refusal, BLOCKHEAP_OK) && same("kept", got_kept, kept)
+    return same("refusal", refusal, BLOCKHEAP_OK) && same("kept", got_kept, kept)
         && same("rescans", got_rescans, rescans) && same("change", got_change, change)
         && all_zero(stack, stack_len);
-    free(roots);
-    free(stack);
-    return right;
 }
 
 /* The heap of examples 9 to 11: word 0 of block 4 leads to block 0. */
@@ -263,16 +290,26 @@ static const struct {
     {"0 bytes is refused before the block is", example_15},
 };
 
+static bool holds_everywhere(bool (*holds)(void))
+{
+    for (place = 0; place < PLACES; place++)
+        if (!holds())
+            return false;
+    return true;
+}
+
 int main(void)
 {
     enum { COUNT = sizeof examples / sizeof examples[0] };
     int failed = 0;
+    setvbuf(stdout, NULL, _IOLBF, 0);
+    start_buffers();
     for (int number = 0; number < COUNT; number++) {
-        bool holds = examples[number].holds();
+        bool holds = holds_everywhere(examples[number].holds);
         printf("example %2d  %-40s %s\n", number + 1, examples[number].title, holds ? "ok" : "FAILED");
         failed += !holds;
     }
-    end_heap();
+    end_buffers();
     printf("%d passed, %d failed\n", COUNT - failed, failed);
     return failed != 0;
 }
