@@ -1,4 +1,4 @@
-# What the host scripts share: where things are, how the library is found, how C is compiled.
+# What the scripts share: where things are, how the library is built, how C is compiled.
 # shellcheck shell=bash
 
 set -euo pipefail
@@ -13,21 +13,42 @@ die() {
     exit 2
 }
 
-need() { # TOOL WHAT_FOR
-    command -v "$1" >/dev/null || die "'$1' is not on this machine; it is needed to $2"
+say() { # WORDS...
+    echo "$*" >&2
 }
 
-# Sets BLOCKHEAP_LIB to the library's full path. The project's own library is built where it is missing.
+on_machine() { # TOOL
+    command -v "$1" >/dev/null
+}
+
+need() { # TOOL WHAT_FOR
+    on_machine "$1" || die "'$1' is not on this machine; it is needed to $2"
+}
+
+# Proves and builds the project's own library. Of what rt says, only the proved crates are shown while all goes well.
+build_library() {
+    local log=$out/library.log
+    mkdir -p "$out"
+    echo "proving and building the library (crates that have not changed take seconds)" >&2
+    if ! (cd "$top" && rt staticlib blockheap) 2>&1 | tee "$log" | sed -un '/^rt: [^ ]* proved/p' >&2; then
+        cat "$log" >&2
+        die "the library could not be built"
+    fi
+}
+
+# Sets BLOCKHEAP_LIB to the full path of the library: the archive that it names, or the project's own, built anew.
 find_library() {
-    local default=$top/target/staticlib/libblockheap.a
+    local own=$top/target/staticlib/libblockheap.a
     if [ -n "${BLOCKHEAP_LIB:-}" ]; then
         [ -f "$BLOCKHEAP_LIB" ] || die "BLOCKHEAP_LIB names $BLOCKHEAP_LIB, and there is no such file"
-    elif [ ! -f "$default" ]; then
-        need rt "prove and build the library"
-        echo "Building the library; it is proved first, which takes some minutes." >&2
-        (cd "$top" && rt staticlib blockheap) >&2 || die "the library could not be built"
+        say "BLOCKHEAP_LIB is set: this is another archive than the project's, $BLOCKHEAP_LIB"
+    elif on_machine rt; then
+        build_library
+    else
+        [ -f "$own" ] || need rt "prove and build the library"
+        say "there is no rt on this machine: the library is the one that was built last, and may be older than the crates"
     fi
-    BLOCKHEAP_LIB=$(realpath "${BLOCKHEAP_LIB:-$default}")
+    BLOCKHEAP_LIB=$(realpath "${BLOCKHEAP_LIB:-$own}")
     export BLOCKHEAP_LIB
 }
 
