@@ -1,20 +1,15 @@
-# What the scripts share: where things are, how the library is built, how C is compiled.
+# What the scripts share: where things are, how the library is built, how C is compiled, how tests are counted.
 # shellcheck shell=bash
 
 set -euo pipefail
 
 top=$(cd "$(dirname "${BASH_SOURCE[0]}")/.." && pwd)
-# shellcheck disable=SC2034 # the scripts use it
 out=$top/target/hosts
 CC=${CC:-cc}
 
 die() {
     echo "$*" >&2
     exit 2
-}
-
-say() { # WORDS...
-    echo "$*" >&2
 }
 
 on_machine() { # TOOL
@@ -41,12 +36,12 @@ find_library() {
     local own=$top/target/staticlib/libblockheap.a
     if [ -n "${BLOCKHEAP_LIB:-}" ]; then
         [ -f "$BLOCKHEAP_LIB" ] || die "BLOCKHEAP_LIB names $BLOCKHEAP_LIB, and there is no such file"
-        say "BLOCKHEAP_LIB is set: this is another archive than the project's, $BLOCKHEAP_LIB"
+        note "BLOCKHEAP_LIB is set: this is another archive than the project's, $BLOCKHEAP_LIB"
     elif on_machine rt; then
         build_library
     else
         [ -f "$own" ] || need rt "prove and build the library"
-        say "there is no rt on this machine: the library is the one that was built last, and may be older than the crates"
+        note "there is no rt on this machine: the library is the one that was built last, and may be older than the crates"
     fi
     BLOCKHEAP_LIB=$(realpath "${BLOCKHEAP_LIB:-$own}")
     export BLOCKHEAP_LIB
@@ -54,4 +49,59 @@ find_library() {
 
 compile() { # WORDS FOR THE COMPILER...
     "$CC" -std=c11 -Wall -Wextra -Werror -O2 -I "$top/include" "$@"
+}
+
+# ---- Counting tests
+
+passed=0 failed=0 notes=()
+
+# Says something at once, and again before the count.
+note() { # WORDS...
+    echo "$*" >&2
+    notes+=("$*")
+}
+
+pass() { # WORDS...
+    echo "ok      $*"
+    passed=$((passed + 1))
+}
+
+fail() { # WORDS...
+    echo "FAILED  $*"
+    failed=$((failed + 1))
+}
+
+# Runs a command whose last line is 'N passed, M failed', and adds that up.
+run_counted() { # NAME COMMAND...
+    local name=$1 log status=0
+    shift
+    log=$(mktemp)
+    "$@" 2>&1 | tee "$log" || status=$?
+    if [[ $(tail -n 1 "$log") =~ ^([0-9]+)\ passed,\ ([0-9]+)\ failed$ ]]; then
+        passed=$((passed + BASH_REMATCH[1]))
+        failed=$((failed + BASH_REMATCH[2]))
+        [ "$status" -eq 0 ] || [ "${BASH_REMATCH[2]}" -ne 0 ] || fail "$name ended with status $status"
+    else
+        fail "$name ended with status $status and without a count"
+    fi
+    rm "$log"
+}
+
+# Holds a number of tests to the one that a file expects: a line has a name and a number.
+expect() { # NAME NUMBER FILE
+    local expected
+    expected=$(awk -v name="$1" '$1 == name { print $2 }' "$top/$3")
+    if [ "$2" = "$expected" ]; then
+        return
+    elif [ "$2" -gt "${expected:-0}" ]; then
+        fail "$1 counts $2 where $3 expects ${expected:-none}: raise the number there"
+    else
+        fail "$1 counts $2 where $3 expects $expected: some were lost"
+    fi
+}
+
+# The last lines of a script that tests, and its status.
+finish() {
+    printf '%s\n' '' "${notes[@]}" "$passed passed, $failed failed"
+    [ "$failed" -eq 0 ] && [ "$passed" -gt 0 ]
 }
