@@ -41,7 +41,7 @@ find_library() {
         build_library
     else
         [ -f "$own" ] || need rt "prove and build the library"
-        note "there is no rt on this machine: the library is the one that was built last, and may be older than the crates"
+        note "there is no rt on this machine: the library is the one built last, and may be older than the crates"
     fi
     BLOCKHEAP_LIB=$(realpath "${BLOCKHEAP_LIB:-$own}")
     export BLOCKHEAP_LIB
