@@ -9,3 +9,4 @@ pub mod Storing
 pub mod Collecting
 pub mod Bytes
 pub mod Promised
+pub mod Determined

@@ -1,0 +1,243 @@
+-- Each record leaves one outcome: every block and every byte falls under one of its fields, and two outcomes agree there.
+-- Only the fields are used, never how a call is defined, so a field that said less would leave a block or a byte open.
+-- Assumes nothing.
+use mathlib.Core.Path.{_≡_, ap, sym, subst, _∙_}
+use mathlib.Core.Logic.{⊎-elim, inl, inr}
+use mathlib.Core.List.{List, [], _∷_}
+use mathlib.Core.Option.{some, none}
+use Prim.Native.Nat.{ℕ, zero, suc, _+_, _*_, _-_, _≤_, _<_}
+use native.Mathlib.Decide.{decLt, ℕ-discrete}
+use native.Mathlib.Omega.{arith}
+use lib.IntN.{negℤ, pos}
+use lib.ListN.{getD}
+use Rattle.rules.specs.Entries.{FREE, TAIL}
+use Rattle.rules.specs.Tables.{entryAt, used, objects}
+use Rattle.rules.specs.Meaning.{Lowest, Longest}
+use Rattle.rules.specs.Outcomes.{Heap, Outcome, onlyRefusal, loaded}
+use Rattle.rules.proofs.Tables.{entry-inside, extent-of, lowest-one}
+use Rattle.keeping.specs.Keeping.{Collected}
+use Rattle.keeping.proofs.Same.{keeps-one}
+use Rattle.promises.specs.Conditions.{Condition, First, RoomAfter}
+use Rattle.promises.specs.Promises.{blocksOf, byteAt, Object, Among, Within, Refused, Initialised, Allocated, Freed, Reallocated, Stored, Loaded, Surveyed, Reclaimed}
+use Rattle.promises.specs.Determined.{SameHeap, SameEffect, SamePlace, SameFindings, SameCollection, Determined}
+
+-- ---- numbers
+
+pub first-one : (cs : List Condition) (n n' : ℕ) → First cs n → First cs n' → n ≡ n'
+unfolding First
+first-one [] n n' e e' = e ∙ sym e'
+first-one (c ∷ cs) n n' f f' =
+    ⊎-elim
+    (λ here. ⊎-elim (λ here'. here .1 ∙ sym (here' .1)) (λ later'. absurd (later' .0 (here .0))) f')
+    (λ later. ⊎-elim (λ here'. absurd (later .0 (here' .0))) (λ later'. first-one cs n n' (later .1) (later' .1)) f')
+    f
+
+-- the length of the longest run is one number. It belongs to the laws of Longest in the crate rules
+longest-one : (es : List ℕ) (l m : ℕ) → Longest es l → Longest es m → l ≡ m
+longest-one es l m a b = omega (arith, a .most m (b .start) (b .run), b .most l (a .start) (a .run))
+
+-- the start that a search gives
+start-one : (es : List ℕ) (b s s' : ℕ) → Lowest es b (some s) → Lowest es b (some s') → s ≡ s'
+start-one es b s s' low low' = ap (elim [ none ↦ 0 | some x ↦ x ]) (lowest-one es b (some s) (some s') low low')
+
+-- ---- every place is one of the n from s on, or none of them
+
+by-place : (P : ℕ → Type 0) (s n : ℕ) → ((j : ℕ) → j < n → P (s + j)) → ((i : ℕ) → ¬ ((s ≤ i) × (i < s + n)) → P i) → (i : ℕ) → P i
+by-place P s n inside outside i = go (decLt i s) (decLt i (s + n))
+  where
+    go : Dec (i < s) → Dec (i < s + n) → P i
+    go (yes before) _ = outside i (λ both. omega (arith, both .0))
+    go (no from) (no past) = outside i (λ both. past (both .1))
+    go (no from) (yes to) = let e : s + (i - s) ≡ i = omega arith in subst P e (inside (i - s) (omega arith))
+
+-- the bytes of b blocks from s on, and the others
+by-bytes : (h h' : Heap) (s b : ℕ) → ((i : ℕ) → i < 16 * b → byteAt h (16 * s + i) ≡ byteAt h' (16 * s + i)) → ((i : ℕ) → ¬ Within s b i → byteAt h i ≡ byteAt h' i)
+    → (i : ℕ) → byteAt h i ≡ byteAt h' i
+by-bytes h h' s b inside outside =
+    by-place (λ (i : ℕ). byteAt h i ≡ byteAt h' i) (16 * s) (16 * b) inside (λ i out. outside i (λ within. out (within .0, omega (arith, within .1))))
+
+-- an object's blocks, from its head and the number of its blocks
+object-entry : (h h' : Heap) (s b : ℕ) → Object h s → Object h' s → blocksOf h s ≡ b → blocksOf h' s ≡ b
+    → (j : ℕ) → j < b → entryAt (h .entries) (s + j) ≡ entryAt (h' .entries) (s + j)
+object-entry h h' s b head head' count count' zero l = let e : s + 0 ≡ s = omega arith in rw e (head ∙ sym head')
+object-entry h h' s b head head' count count' (suc j) l =
+    let x = extent-of (h .entries) s (entry-inside (h .entries) s (λ f. omega arith)) in
+    let x' = extent-of (h' .entries) s (entry-inside (h' .entries) s (λ f. omega arith)) in
+    x .tail (suc j) (omega arith) (omega arith) ∙ sym (x' .tail (suc j) (omega arith) (omega arith))
+
+-- ---- the calls
+
+pub refused-one : (h : Heap) (r r' : Outcome) → Refused h r → Refused h r' → r .answer .refusal ≡ r' .answer .refusal
+    → (r .answer ≡ r' .answer) × (r .heap ≡ r' .heap)
+refused-one h r r' a a' e = (a .answer ∙ ap onlyRefusal e ∙ sym (a' .answer), a .heap ∙ sym (a' .heap))
+
+pub initialised-one : (base : ℕ) (h : Heap) (r r' : Outcome) → Initialised base h r → Initialised base h r' → SameHeap (r .heap) (r' .heap)
+initialised-one base h r r' a a' = record {
+  entries = λ i. a .free i ∙ sym (a' .free i);
+  bytes = λ i. ap (λ (bytes : List ℕ). getD bytes i 0) (a .bytes ∙ sym (a' .bytes));
+}
+
+pub allocated-one : (base : ℕ) (h : Heap) (b : ℕ) (r r' : Outcome) → Allocated base h b r → Allocated base h b r' → SamePlace r r'
+allocated-one base h b r r' a a' = record {
+  block = e;
+  effect = record {
+    change = a .change ∙ sym (a' .change);
+    heap = record {
+      entries = by-place (λ (i : ℕ). entryAt (r .heap .entries) i ≡ entryAt (r' .heap .entries) i) s b among (λ i out. a .entries i out ∙ sym (out-entry i out));
+      bytes =
+          by-bytes (r .heap) (r' .heap) s b
+          (λ i l. a .zero i l ∙ sym (in-byte i l))
+          (λ i out. a .bytes i out ∙ sym (out-byte i out));
+    };
+  };
+}
+  where
+    e : r .answer .block ≡ r' .answer .block
+    e = start-one (h .entries) b (r .answer .block) (r' .answer .block) (a .start) (a' .start)
+
+    s : ℕ
+    s = r .answer .block
+
+    -- what the second outcome says, said of the first one's block
+    out-entry : (i : ℕ) → ¬ Among s b i → entryAt (r' .heap .entries) i ≡ entryAt (h .entries) i
+    out-entry = rw e (a' .entries)
+
+    in-byte : (i : ℕ) → i < 16 * b → byteAt (r' .heap) (16 * s + i) ≡ 0
+    in-byte = rw e (a' .zero)
+
+    out-byte : (i : ℕ) → ¬ Within s b i → byteAt (r' .heap) i ≡ byteAt h i
+    out-byte = rw e (a' .bytes)
+
+    head' : Object (r' .heap) s
+    head' = rw e (a' .head)
+
+    tail' : (j : ℕ) → 0 < j → j < b → entryAt (r' .heap .entries) (s + j) ≡ TAIL
+    tail' = rw e (a' .tail)
+
+    among : (j : ℕ) → j < b → entryAt (r .heap .entries) (s + j) ≡ entryAt (r' .heap .entries) (s + j)
+    among zero l = let z : s + 0 ≡ s = omega arith in rw z (a .head ∙ sym head')
+    among (suc j) l = a .tail (suc j) (omega arith) l ∙ sym (tail' (suc j) (omega arith) l)
+
+pub freed-one : (base : ℕ) (h : Heap) (k : ℕ) (r r' : Outcome) → Freed base h k r → Freed base h k r' → SameEffect r r'
+freed-one base h k r r' a a' = record {
+  change = a .change ∙ sym (a' .change);
+  heap = record {
+    entries =
+        by-place (λ (i : ℕ). entryAt (r .heap .entries) i ≡ entryAt (r' .heap .entries) i) k (blocksOf h k)
+        (λ j l. a .free (k + j) (omega arith) ∙ sym (a' .free (k + j) (omega arith)))
+        (λ i out. a .entries i out ∙ sym (a' .entries i out));
+    bytes = λ i. ap (λ (bytes : List ℕ). getD bytes i 0) (a .bytes ∙ sym (a' .bytes));
+  };
+}
+
+pub reallocated-one : (base : ℕ) (h : Heap) (k b' : ℕ) (r r' : Outcome) → Reallocated base h k b' r → Reallocated base h k b' r' → SamePlace r r'
+reallocated-one base h k b' r r' a a' = record {
+  block = e;
+  effect = record {
+    change = a .change ∙ sym (a' .change);
+    heap = record {
+      entries = by-place (λ (i : ℕ). entryAt (r .heap .entries) i ≡ entryAt (r' .heap .entries) i) s b' among not-among;
+      bytes = by-bytes (r .heap) (r' .heap) s b' within (λ i out. a .bytes i out ∙ sym (out-byte i out));
+    };
+  };
+}
+  where
+    b : ℕ
+    b = blocksOf h k
+
+    -- where there is room after the object both stay, and else both move to the lowest start
+    same : Dec (r .answer .block ≡ r' .answer .block) → Dec (b < b') → r .answer .block ≡ r' .answer .block
+    same (yes q) _ = q
+    same (no q) (no fewer) = a .in-place (inl (omega arith)) ∙ sym (a' .in-place (inl (omega arith)))
+    same (no q) (yes more) =
+        let full : ¬ RoomAfter h k b' = λ room. q (a .in-place (inr room) ∙ sym (a' .in-place (inr room))) in
+        start-one (h .entries) b' (r .answer .block) (r' .answer .block) (a .elsewhere more full) (a' .elsewhere more full)
+
+    e : r .answer .block ≡ r' .answer .block
+    e = same (ℕ-discrete (r .answer .block) (r' .answer .block)) (decLt b b')
+
+    s : ℕ
+    s = r .answer .block
+
+    -- what the second outcome says, said of the first one's block
+    freed' : (i : ℕ) → Among k b i → ¬ Among s b' i → entryAt (r' .heap .entries) i ≡ FREE
+    freed' = rw e (a' .free)
+
+    out-entry : (i : ℕ) → ¬ Among k b i → ¬ Among s b' i → entryAt (r' .heap .entries) i ≡ entryAt (h .entries) i
+    out-entry = rw e (a' .entries)
+
+    kept' : (i : ℕ) → i < 16 * b → i < 16 * b' → byteAt (r' .heap) (16 * s + i) ≡ byteAt h (16 * k + i)
+    kept' = rw e (a' .kept)
+
+    zero' : (i : ℕ) → 16 * b ≤ i → i < 16 * b' → byteAt (r' .heap) (16 * s + i) ≡ 0
+    zero' = rw e (a' .zero)
+
+    out-byte : (i : ℕ) → ¬ Within s b' i → byteAt (r' .heap) i ≡ byteAt h i
+    out-byte = rw e (a' .bytes)
+
+    among : (j : ℕ) → j < b' → entryAt (r .heap .entries) (s + j) ≡ entryAt (r' .heap .entries) (s + j)
+    among = object-entry (r .heap) (r' .heap) s b' (a .head) (rw e (a' .head)) (a .blocks) (rw e (a' .blocks))
+
+    not-among : (i : ℕ) → ¬ Among s b' i → entryAt (r .heap .entries) i ≡ entryAt (r' .heap .entries) i
+    not-among i out =
+        by-place (λ (i : ℕ). ¬ Among s b' i → entryAt (r .heap .entries) i ≡ entryAt (r' .heap .entries) i) k b
+        (λ j l out. a .free (k + j) (omega arith) out ∙ sym (freed' (k + j) (omega arith) out))
+        (λ i old out. a .entries i old out ∙ sym (out-entry i old out))
+        i out
+
+    within : (i : ℕ) → i < 16 * b' → byteAt (r .heap) (16 * s + i) ≡ byteAt (r' .heap) (16 * s + i)
+    within i l = go (decLt i (16 * b))
+      where
+        go : Dec (i < 16 * b) → byteAt (r .heap) (16 * s + i) ≡ byteAt (r' .heap) (16 * s + i)
+        go (yes old) = a .kept i old l ∙ sym (kept' i old l)
+        go (no new) = a .zero i (omega arith) l ∙ sym (zero' i (omega arith) l)
+
+pub stored-one : (base : ℕ) (h : Heap) (k i w : ℕ) (r r' : Outcome) → Stored base h k i w r → Stored base h k i w r' → SameHeap (r .heap) (r' .heap)
+stored-one base h k i w r r' a a' = record {
+  entries = λ j. ap (λ (es : List ℕ). entryAt es j) (a .table ∙ sym (a' .table));
+  bytes =
+      by-place (λ (j : ℕ). byteAt (r .heap) j ≡ byteAt (r' .heap) j) (16 * k + 4 * i) 4
+      (λ j l. a .four j l ∙ sym (a' .four j l))
+      (λ j out. a .bytes j out ∙ sym (a' .bytes j out));
+}
+
+pub loaded-one : (h : Heap) (k i : ℕ) (r r' : Outcome) → Loaded h k i r → Loaded h k i r' → r .answer ≡ r' .answer
+loaded-one h k i r r' a a' = a .only ∙ ap loaded (a .value ∙ sym (a' .value)) ∙ sym (a' .only)
+
+pub surveyed-one : (h : Heap) (r r' : Outcome) → Surveyed h r → Surveyed h r' → SameFindings r r'
+surveyed-one h r r' a a' = record {
+  used = a .used ∙ sym (a' .used);
+  objects = a .objects ∙ sym (a' .objects);
+  longest = longest-one (h .entries) (r .answer .longest) (r' .answer .longest) (a .longest) (a' .longest);
+}
+
+pub reclaimed-one : (base : ℕ) (h : Heap) (roots stack : List ℕ) (r r' : Outcome) → Reclaimed base h roots r → Reclaimed base h roots r'
+    → Collected base h roots stack r → Collected base h roots stack r' → SameCollection r r'
+reclaimed-one base h roots stack r r' a a' c c' =
+    let e : r .heap .entries ≡ r' .heap .entries = keeps-one (c .table) (c' .table) in
+    record {
+      kept = c .kept ∙ ap objects e ∙ sym (c' .kept);
+      rescans = c .passes ∙ sym (c' .passes);
+      effect = record {
+        change = a .change ∙ ap (λ (es : List ℕ). negℤ (pos (used (h .entries) - used es))) e ∙ sym (a' .change);
+        heap = record {
+          entries = λ i. ap (λ (es : List ℕ). entryAt es i) e;
+          bytes = λ i. ap (λ (bytes : List ℕ). getD bytes i 0) (a .bytes ∙ sym (a' .bytes));
+        };
+      };
+      stack = c .stack ∙ sym (c' .stack);
+    }
+
+pub determined : Determined
+determined = record {
+  number = first-one;
+  refused = refused-one;
+  initialised = initialised-one;
+  allocated = allocated-one;
+  freed = freed-one;
+  reallocated = reallocated-one;
+  stored = stored-one;
+  loaded = loaded-one;
+  surveyed = surveyed-one;
+  reclaimed = reclaimed-one;
+}

@@ -1,0 +1,57 @@
+-- What is said of each call leaves one outcome: two that both satisfy the record of a call have the same answer, entries and bytes.
+-- So a sentence that said less would not do. A part of the answer is meant here where the record speaks of it.
+-- Assumes nothing.
+use mathlib.Core.Path.{_≡_}
+use mathlib.Core.List.{List}
+use Prim.Native.Nat.{ℕ}
+use Rattle.rules.specs.Tables.{entryAt}
+use Rattle.rules.specs.Outcomes.{Heap, Outcome}
+use Rattle.keeping.specs.Keeping.{Collected}
+use Rattle.promises.specs.Conditions.{Condition, First}
+use Rattle.promises.specs.Promises.{byteAt, Refused, Initialised, Allocated, Freed, Reallocated, Stored, Loaded, Surveyed, Reclaimed}
+
+-- two heaps have the same entry at every block and the same byte at every place
+pub record SameHeap (h h' : Heap) : Type 0 where
+  pub entries : (i : ℕ) → entryAt (h .entries) i ≡ entryAt (h' .entries) i
+  pub bytes : (i : ℕ) → byteAt h i ≡ byteAt h' i
+
+-- two outcomes answer the same change and leave such heaps
+pub record SameEffect (r r' : Outcome) : Type 0 where
+  pub change : r .answer .change ≡ r' .answer .change
+  pub heap : SameHeap (r .heap) (r' .heap)
+
+-- and answer the same block
+pub record SamePlace (r r' : Outcome) : Type 0 where
+  pub block : r .answer .block ≡ r' .answer .block
+  pub effect : SameEffect r r'
+
+-- two surveys find the same
+pub record SameFindings (r r' : Outcome) : Type 0 where
+  pub used : r .answer .used ≡ r' .answer .used
+  pub objects : r .answer .objects ≡ r' .answer .objects
+  pub longest : r .answer .longest ≡ r' .answer .longest
+
+-- two collections answer and leave the same
+pub record SameCollection (r r' : Outcome) : Type 0 where
+  pub kept : r .answer .kept ≡ r' .answer .kept
+  pub rescans : r .answer .rescans ≡ r' .answer .rescans
+  pub effect : SameEffect r r'
+  pub stack : r .stack ≡ r' .stack
+
+pub record Determined : Type 1 where
+  -- one number is that of the first condition that holds
+  pub number : (cs : List Condition) (n n' : ℕ) → First cs n → First cs n' → n ≡ n'
+  -- a refused call with that number has one answer and leaves one heap
+  pub refused : (h : Heap) (r r' : Outcome) → Refused h r → Refused h r' → r .answer .refusal ≡ r' .answer .refusal
+      → (r .answer ≡ r' .answer) × (r .heap ≡ r' .heap)
+  -- an accepted call has one outcome
+  pub initialised : (base : ℕ) (h : Heap) (r r' : Outcome) → Initialised base h r → Initialised base h r' → SameHeap (r .heap) (r' .heap)
+  pub allocated : (base : ℕ) (h : Heap) (b : ℕ) (r r' : Outcome) → Allocated base h b r → Allocated base h b r' → SamePlace r r'
+  pub freed : (base : ℕ) (h : Heap) (k : ℕ) (r r' : Outcome) → Freed base h k r → Freed base h k r' → SameEffect r r'
+  pub reallocated : (base : ℕ) (h : Heap) (k b' : ℕ) (r r' : Outcome) → Reallocated base h k b' r → Reallocated base h k b' r' → SamePlace r r'
+  pub stored : (base : ℕ) (h : Heap) (k i w : ℕ) (r r' : Outcome) → Stored base h k i w r → Stored base h k i w r' → SameHeap (r .heap) (r' .heap)
+  pub loaded : (h : Heap) (k i : ℕ) (r r' : Outcome) → Loaded h k i r → Loaded h k i r' → r .answer ≡ r' .answer
+  pub surveyed : (h : Heap) (r r' : Outcome) → Surveyed h r → Surveyed h r' → SameFindings r r'
+  -- of a collection this and Collected of the crate keeping say it together
+  pub reclaimed : (base : ℕ) (h : Heap) (roots stack : List ℕ) (r r' : Outcome) → Reclaimed base h roots r → Reclaimed base h roots r'
+      → Collected base h roots stack r → Collected base h roots stack r' → SameCollection r r'
