@@ -10,3 +10,4 @@ pub mod Collecting
 pub mod Bytes
 pub mod Promised
 pub mod Determined
+pub mod Observed

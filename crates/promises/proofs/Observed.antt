@@ -1,0 +1,341 @@
+-- What a caller sees of the promises through later calls, to the last word, the last block and the exact number.
+-- Only the promises are used, never how a call is defined, so a promise that said less would not give these laws.
+-- Assumes nothing.
+use mathlib.Core.Path.{_≡_, refl, ap, sym, _∙_}
+use mathlib.Core.Logic.{_≢_, _↔_, inl, inr}
+use mathlib.Core.List.{List, [], _∷_}
+use mathlib.Core.Option.{Option, some, none}
+use Prim.Native.Nat.{ℕ, zero, suc, _+_, _*_, _≤_, _<_}
+use native.Mathlib.Decide.{decLt}
+use native.Mathlib.Omega.{arith}
+use lib.IntN.{pos, negℤ, _+ℤ_, natAbs}
+use lib.ListN.{getD}
+use Rattle.rules.specs.Words.{number, wordAt, wordsOf}
+use Rattle.rules.specs.Entries.{entriesOf}
+use Rattle.rules.specs.Tables.{used}
+use Rattle.rules.specs.Pointers.{addressOf, targetOf, leadsTo}
+use Rattle.rules.specs.Meaning.{AllBytes, Points, Leads, Longest, ShapeInBytes, Passed, Accepted}
+use Rattle.rules.specs.Outcomes.{Heap, Outcome, heapOf, onlyRefusal, loaded}
+use Rattle.rules.specs.Reach.{Reachable}
+use Rattle.rules.specs.Calls.{blocksFor, init, allocate, free, reallocate, collect, survey, load, store}
+use Rattle.rules.specs.Runs.{Call, Load, step}
+use Rattle.rules.proofs.Words.{wordAt-same}
+use Rattle.rules.proofs.Tables.{entry-inside, well-says, run-shorter}
+use Rattle.keeping.proofs.Owners.{reachable-head}
+use Rattle.promises.specs.Conditions.{when, First, RoomAfter, NoRun, ofInit, ofAllocate, ofFree, ofReallocate, ofCollect, ofSurvey, ofWord}
+use Rattle.promises.specs.Promises.{Object, blocksOf, Same, Counts, Surveyed}
+use Rattle.promises.proofs.Promised.{promises}
+use Rattle.promises.proofs.Determined.{first-one, refused-one}
+
+-- ---- a call answers the number that its conditions give
+
+module _ (base : ℕ) (h : Heap) where
+  pub init-number : (n : ℕ) → First (ofInit base h) n → init base h .answer .refusal ≡ n
+  init-number n = first-one (ofInit base h) _ n (promises .init-refusal base h)
+
+  pub allocate-number : (bytes n : ℕ) → First (ofAllocate base h bytes) n → allocate base h bytes .answer .refusal ≡ n
+  allocate-number bytes n = first-one (ofAllocate base h bytes) _ n (promises .allocate-refusal base h bytes)
+
+  pub free-number : (k n : ℕ) → First (ofFree base h k) n → free base h k .answer .refusal ≡ n
+  free-number k n = first-one (ofFree base h k) _ n (promises .free-refusal base h k)
+
+  pub reallocate-number : (k bytes n : ℕ) → First (ofReallocate base h k bytes) n → reallocate base h k bytes .answer .refusal ≡ n
+  reallocate-number k bytes n = first-one (ofReallocate base h k bytes) _ n (promises .reallocate-refusal base h k bytes)
+
+  pub collect-number : (roots stack : List ℕ) (n : ℕ) → First (ofCollect base h roots stack) n → collect base h roots stack .answer .refusal ≡ n
+  collect-number roots stack n = first-one (ofCollect base h roots stack) _ n (promises .collect-refusal base h roots stack)
+
+  pub survey-number : (n : ℕ) → First (ofSurvey base h) n → survey base h .answer .refusal ≡ n
+  survey-number n = first-one (ofSurvey base h) _ n (promises .survey-refusal base h)
+
+  pub load-number : (k i n : ℕ) → First (ofWord base h k i) n → load base h k i .answer .refusal ≡ n
+  load-number k i n = first-one (ofWord base h k i) _ n (promises .load-refusal base h k i)
+
+  pub store-number : (k i w n : ℕ) → First (ofWord base h k i) n → store base h k i w .answer .refusal ≡ n
+  store-number k i w n = first-one (ofWord base h k i) _ n (promises .store-refusal base h k i w)
+
+-- a refusal tells nothing but its number: two refused calls with one number answer alike, and leave the heap alike
+pub refusals-alike : (c c' : Call) (stack stack' : List ℕ) (h : Heap) → ¬ Accepted (step c stack h) → step c stack h .answer .refusal ≡ step c' stack' h .answer .refusal
+    → (step c stack h .answer ≡ step c' stack' h .answer) × (step c stack h .heap ≡ step c' stack' h .heap)
+refusals-alike c c' stack stack' h no-number e =
+    refused-one h (step c stack h) (step c' stack' h) (promises .refused c stack h no-number) (promises .refused c' stack' h (λ none. no-number (e ∙ none))) e
+
+-- ---- shape, table and addresses
+
+-- a pool and a table are accepted by init exactly if their shape is good
+pub init-shape : (base : ℕ) (pool table : List ℕ) → ShapeInBytes base pool table → Accepted (init base (heapOf pool table))
+unfolding First ofInit
+init-shape base pool table s = init-number base (heapOf pool table) 0 (inr (λ bad. bad (promises .shape-in-bytes base pool table .1 s), refl))
+
+pub init-bad-shape : (base : ℕ) (pool table : List ℕ) → ¬ ShapeInBytes base pool table → init base (heapOf pool table) .answer .refusal ≡ 1
+unfolding First ofInit
+init-bad-shape base pool table bad = init-number base (heapOf pool table) 1 (inl (λ s. bad (promises .shape-in-bytes base pool table .0 s), refl))
+
+-- what a call leaves is one table
+pub table-one : (c : Call) (stack : List ℕ) (h : Heap) (table table' : List ℕ) → AllBytes table → AllBytes table' → entriesOf table ≡ step c stack h .heap .entries
+    → entriesOf table' ≡ step c stack h .heap .entries → table ≡ table'
+table-one c stack h table table' bytes bytes' e e' = promises .table-bytes table table' bytes bytes' (e ∙ sym e')
+
+points-one : (base n w : ℕ) (x y : Option ℕ) → Points base n w x → Points base n w y → x ≡ y
+unfolding Points addressOf
+points-one base n w none none p q = refl
+points-one base n w none (some k) p q = absurd (p k (q .0) (q .1))
+points-one base n w (some k) none p q = absurd (q k (p .0) (p .1))
+points-one base n w (some k) (some l) p q = ap some (omega (arith, p .1, q .1))
+
+-- a word has one target
+pub target-one : (base n w : ℕ) (x : Option ℕ) → Points base n w x → targetOf base n w ≡ x
+target-one base n w x = points-one base n w (targetOf base n w) x (promises .target-points base n w)
+
+leads-one : (base : ℕ) (es : List ℕ) (w : ℕ) (x y : Option ℕ) → Leads base es w x → Leads base es w y → x ≡ y
+unfolding Leads addressOf
+leads-one base es w none none p q = refl
+leads-one base es w none (some k) p q = absurd (p k (q .0) (q .2) (q .1))
+leads-one base es w (some k) none p q = absurd (q k (p .0) (p .2) (p .1))
+leads-one base es w (some k) (some l) p q = ap some (omega (arith, p .1, q .1))
+
+-- and leads to one object
+pub lead-one : (base : ℕ) (es : List ℕ) (w : ℕ) (x : Option ℕ) → Leads base es w x → leadsTo base es w ≡ x
+lead-one base es w x = leads-one base es w (leadsTo base es w) x (promises .leads-says base es w)
+
+-- ---- loads
+
+module _ (base : ℕ) (h : Heap) (good : Passed base h) where
+  word-number : (k i n : ℕ) → Object h k → First (when 8 (4 * blocksOf h k ≤ i) ∷ []) n → load base h k i .answer .refusal ≡ n
+  unfolding First ofWord
+  word-number k i n head last =
+      load-number base h k i n
+      (inr (
+        λ bad. bad (good .shape),
+        inr (
+          λ bad. bad (well-says (h .entries) (good .well)),
+          inr (λ out. omega (arith, entry-inside (h .entries) k (λ f. omega arith)), inr (λ other. other head, last)),
+        ),
+      ))
+
+  -- a word of an object is read from its four bytes
+  pub load-inside : (k i : ℕ) → Object h k → i < 4 * blocksOf h k → load base h k i .answer ≡ loaded (wordAt (h .pool) (4 * k + i))
+  unfolding First wordAt
+  load-inside k i head l =
+      let p = promises .read base h k i (word-number k i 0 head (inr (λ past. omega arith, refl))) in
+      let e : 4 * (4 * k + i) ≡ 16 * k + 4 * i = omega arith in
+      p .only ∙ ap loaded (rw e (p .value))
+
+  -- and past the last word it is 8
+  pub load-beyond : (k i : ℕ) → Object h k → 4 * blocksOf h k ≤ i → load base h k i .answer ≡ onlyRefusal 8
+  unfolding First step
+  load-beyond k i head l =
+      let e = word-number k i 8 head (inl (l, refl)) in
+      promises .refused (Load base k i) [] h (λ none. omega arith) .answer ∙ ap onlyRefusal e
+
+-- an object that stays has the same words, to the last
+pub same-words : (h h' : Heap) (o : ℕ) → Same h h' o → (i : ℕ) → i < 4 * blocksOf h o → wordAt (h' .pool) (4 * o + i) ≡ wordAt (h .pool) (4 * o + i)
+same-words h h' o s i l =
+    wordAt-same (h' .pool) (h .pool) (4 * o + i) (4 * o + i)
+    (λ j m. let e : 16 * o + (4 * i + j) ≡ 4 * (4 * o + i) + j = omega arith in rw e at (s .bytes (4 * i + j) (omega arith)))
+
+-- so every load of it answers as before, those past its last word too
+pub same-loads : (base : ℕ) (h h' : Heap) (o : ℕ) → Passed base h → Passed base h' → Object h o → Same h h' o
+    → (i : ℕ) → load base h' o i .answer ≡ load base h o i .answer
+same-loads base h h' o good good' head s i = go (decLt i (4 * blocksOf h o))
+  where
+    go : Dec (i < 4 * blocksOf h o) → load base h' o i .answer ≡ load base h o i .answer
+    go (yes l) =
+        load-inside base h' good' o i (s .head) (omega (arith, s .blocks))
+        ∙ ap loaded (same-words h h' o s i l)
+        ∙ sym (load-inside base h good o i head l)
+    go (no l) = load-beyond base h' good' o i (s .head) (omega (arith, s .blocks)) ∙ sym (load-beyond base h good o i head (omega arith))
+
+-- no call but a store changes what loads of another object answer, a collection none of a reachable one
+module _ (base : ℕ) (h : Heap) (good : Passed base h) where
+  pub allocate-loads : (bytes : ℕ) → Accepted (allocate base h bytes) → (o : ℕ) → Object h o
+      → (i : ℕ) → load base (allocate base h bytes .heap) o i .answer ≡ load base h o i .answer
+  allocate-loads bytes accepted o head =
+      let p = promises .allocated base h bytes accepted in
+      same-loads base h (allocate base h bytes .heap) o good (p .good) head (p .others o head)
+
+  pub free-loads : (k : ℕ) → Accepted (free base h k) → (o : ℕ) → Object h o → o ≢ k → (i : ℕ) → load base (free base h k .heap) o i .answer ≡ load base h o i .answer
+  free-loads k accepted o head other =
+      let p = promises .freed base h k accepted in
+      same-loads base h (free base h k .heap) o good (p .good) head (p .others o head other)
+
+  pub reallocate-loads : (k bytes : ℕ) → Accepted (reallocate base h k bytes) → (o : ℕ) → Object h o → o ≢ k
+      → (i : ℕ) → load base (reallocate base h k bytes .heap) o i .answer ≡ load base h o i .answer
+  reallocate-loads k bytes accepted o head other =
+      let p = promises .reallocated base h k bytes accepted in
+      same-loads base h (reallocate base h k bytes .heap) o good (p .good) head (p .others o head other)
+
+  pub store-loads : (k j w : ℕ) → Accepted (store base h k j w) → (o : ℕ) → Object h o → o ≢ k → (i : ℕ) → load base (store base h k j w .heap) o i .answer ≡ load base h o i .answer
+  store-loads k j w accepted o head other =
+      let p = promises .stored base h k j w accepted in
+      same-loads base h (store base h k j w .heap) o good (p .good) head (p .others o head other)
+
+pub collect-loads : (base : ℕ) (pool table roots stack : List ℕ) → Passed base (heapOf pool table) → Accepted (collect base (heapOf pool table) roots stack)
+    → (o : ℕ) → Reachable base (heapOf pool table) (wordsOf roots) o
+    → (i : ℕ) → load base (collect base (heapOf pool table) roots stack .heap) o i .answer ≡ load base (heapOf pool table) o i .answer
+collect-loads base pool table roots stack good accepted o reach =
+    let p = promises .reclaimed base pool table roots stack accepted in
+    same-loads base (heapOf pool table) (collect base (heapOf pool table) roots stack .heap) o good (p .good)
+    (reachable-head base (heapOf pool table) (wordsOf roots) (good .well) o reach) (p .others o reach)
+
+-- ---- the new object
+
+zero-word : (bs : List ℕ) (i : ℕ) → ((j : ℕ) → j < 4 → getD bs (4 * i + j) 0 ≡ 0) → wordAt bs i ≡ 0
+unfolding wordAt number
+zero-word bs i zeros = wordAt-same bs [] i 0 zeros
+
+-- every word of it is 0, and it has no more words than it should
+module _ (base : ℕ) (h : Heap) (bytes : ℕ) (accepted : Accepted (allocate base h bytes)) where
+  abbrev new : Outcome
+  new = allocate base h bytes
+
+  pub new-zero : (i : ℕ) → i < 4 * blocksFor bytes → load base (new .heap) (new .answer .block) i .answer ≡ loaded 0
+  new-zero i l =
+      let p = promises .allocated base h bytes accepted in
+      load-inside base (new .heap) (p .good) (new .answer .block) i (p .head) (omega (arith, p .blocks))
+      ∙ ap loaded
+      (zero-word (new .heap .pool) (4 * new .answer .block + i)
+      (λ j m. let e : 16 * new .answer .block + (4 * i + j) ≡ 4 * (4 * new .answer .block + i) + j = omega arith in rw e at (p .zero (4 * i + j) (omega arith))))
+
+  pub new-beyond : (i : ℕ) → 4 * blocksFor bytes ≤ i → load base (new .heap) (new .answer .block) i .answer ≡ onlyRefusal 8
+  new-beyond i l =
+      let p = promises .allocated base h bytes accepted in
+      load-beyond base (new .heap) (p .good) (new .answer .block) i (p .head) (omega (arith, p .blocks))
+
+-- a reallocated object has the old words as far as both reach, zeros after them, and no more words than it should
+module _ (base : ℕ) (h : Heap) (k bytes : ℕ) (good : Passed base h) (head : Object h k) (accepted : Accepted (reallocate base h k bytes)) where
+  abbrev again : Outcome
+  again = reallocate base h k bytes
+
+  pub again-kept : (i : ℕ) → i < 4 * blocksOf h k → i < 4 * blocksFor bytes → load base (again .heap) (again .answer .block) i .answer ≡ load base h k i .answer
+  again-kept i l m =
+      let p = promises .reallocated base h k bytes accepted in
+      let s = again .answer .block in
+      load-inside base (again .heap) (p .good) s i (p .head) (omega (arith, p .blocks))
+      ∙ ap loaded
+      (wordAt-same (again .heap .pool) (h .pool) (4 * s + i) (4 * k + i)
+      (λ j n.
+      let e : 16 * s + (4 * i + j) ≡ 4 * (4 * s + i) + j = omega arith in
+      let f : 16 * k + (4 * i + j) ≡ 4 * (4 * k + i) + j = omega arith in
+      rw (e, f) at (p .kept (4 * i + j) (omega arith) (omega arith))))
+      ∙ sym (load-inside base h good k i head l)
+
+  pub again-zero : (i : ℕ) → 4 * blocksOf h k ≤ i → i < 4 * blocksFor bytes → load base (again .heap) (again .answer .block) i .answer ≡ loaded 0
+  again-zero i l m =
+      let p = promises .reallocated base h k bytes accepted in
+      let s = again .answer .block in
+      load-inside base (again .heap) (p .good) s i (p .head) (omega (arith, p .blocks))
+      ∙ ap loaded
+      (zero-word (again .heap .pool) (4 * s + i)
+      (λ j n. let e : 16 * s + (4 * i + j) ≡ 4 * (4 * s + i) + j = omega arith in rw e at (p .zero (4 * i + j) (omega arith) (omega arith))))
+
+  pub again-beyond : (i : ℕ) → 4 * blocksFor bytes ≤ i → load base (again .heap) (again .answer .block) i .answer ≡ onlyRefusal 8
+  again-beyond i l =
+      let p = promises .reallocated base h k bytes accepted in
+      load-beyond base (again .heap) (p .good) (again .answer .block) i (p .head) (omega (arith, p .blocks))
+
+-- ---- counts
+
+survey-says : (base : ℕ) (h : Heap) → Passed base h → Surveyed h (survey base h)
+unfolding First ofSurvey
+survey-says base h good =
+    promises .surveyed base h (survey-number base h 0 (inr (λ bad. bad (good .shape), inr (λ bad. bad (well-says (h .entries) (good .well)), refl))))
+
+-- the used blocks that a survey finds after a call are those that one finds before it, and the answered change
+abbrev pub Sums : ℕ → Heap → Outcome → Type 0
+Sums base h r = pos (survey base (r .heap) .answer .used) ≡ pos (survey base h .answer .used) +ℤ r .answer .change
+
+used-sum : (base : ℕ) (h : Heap) (r : Outcome) → Passed base h → Passed base (r .heap) → Counts h r → Sums base h r
+used-sum base h r good good' c = rw (survey-says base (r .heap) good' .used, survey-says base h good .used) (c .sum)
+
+module _ (base : ℕ) (h : Heap) (good : Passed base h) where
+  pub allocate-sums : (bytes : ℕ) → Accepted (allocate base h bytes) → Sums base h (allocate base h bytes)
+  allocate-sums bytes accepted = let p = promises .allocated base h bytes accepted in used-sum base h _ good (p .good) (p .counts)
+
+  pub free-sums : (k : ℕ) → Accepted (free base h k) → Sums base h (free base h k)
+  free-sums k accepted = let p = promises .freed base h k accepted in used-sum base h _ good (p .good) (p .counts)
+
+  pub reallocate-sums : (k bytes : ℕ) → Accepted (reallocate base h k bytes) → Sums base h (reallocate base h k bytes)
+  reallocate-sums k bytes accepted = let p = promises .reallocated base h k bytes accepted in used-sum base h _ good (p .good) (p .counts)
+
+pub collect-sums : (base : ℕ) (pool table roots stack : List ℕ) → Passed base (heapOf pool table) → Accepted (collect base (heapOf pool table) roots stack)
+    → Sums base (heapOf pool table) (collect base (heapOf pool table) roots stack)
+collect-sums base pool table roots stack good accepted =
+    let p = promises .reclaimed base pool table roots stack accepted in used-sum base (heapOf pool table) _ good (p .good) (p .counts)
+
+-- after an init none are used
+pub init-none-used : (base : ℕ) (h : Heap) → Accepted (init base h) → survey base (init base h .heap) .answer .used ≡ 0
+init-none-used base h accepted =
+    let p = promises .initialised base h accepted in survey-says base (init base h .heap) (p .good) .used ∙ p .none-used
+
+-- no accepted request is larger than the largest heap
+pub allocate-most : (base : ℕ) (h : Heap) (bytes : ℕ) → Accepted (allocate base h bytes) → bytes ≤ 65536
+allocate-most base h bytes accepted =
+    let p = promises .allocated base h bytes accepted in
+    promises .rounded-up bytes 4096 .0 (rw (p .change) at (p .counts .range))
+
+size-of : (n : ℕ) → natAbs (negℤ (pos n)) ≡ n
+size-of zero = refl
+size-of (suc n) = refl
+
+-- what a collection no longer uses and what it still uses are together what was used
+pub collect-less : (base : ℕ) (pool table roots stack : List ℕ) → Accepted (collect base (heapOf pool table) roots stack)
+    → used (collect base (heapOf pool table) roots stack .heap .entries) + natAbs (collect base (heapOf pool table) roots stack .answer .change)
+    ≡ used (entriesOf table)
+collect-less base pool table roots stack accepted =
+    let p = promises .reclaimed base pool table roots stack accepted in
+    rw (p .change, size-of) (omega (arith, p .fewer))
+
+-- ---- room
+
+-- as many bytes as a freed object had, or fewer, can be allocated again
+pub free-again : (base : ℕ) (h : Heap) (k bytes : ℕ) → Accepted (free base h k) → 0 < bytes → bytes ≤ 16 * blocksOf h k
+    → Accepted (allocate base (free base h k .heap) bytes)
+free-again base h k bytes accepted more fits =
+    promises .freed base h k accepted .room bytes more (promises .rounded-up bytes (blocksOf h k) .1 fits)
+
+module _ (base : ℕ) (h : Heap) (good : Passed base h) where
+  -- nowhere are b blocks FREE exactly if the longest run that a survey finds is shorter
+  run-short : (b : ℕ) → NoRun h b ↔ (survey base h .answer .longest < b)
+  run-short b = (short, nowhere)
+    where
+      l : Longest (h .entries) (survey base h .answer .longest)
+      l = survey-says base h good .longest
+
+      short : NoRun h b → survey base h .answer .longest < b
+      short none-fits = go (decLt (survey base h .answer .longest) b)
+        where
+          go : Dec (survey base h .answer .longest < b) → survey base h .answer .longest < b
+          go (yes less) = less
+          go (no more) = absurd (none-fits (l .start) (run-shorter (h .entries) (survey base h .answer .longest) b (l .start) (omega arith) (l .run)))
+
+      nowhere : survey base h .answer .longest < b → NoRun h b
+      nowhere less s run = omega (arith, l .most b s run)
+
+  -- so a survey tells whether an allocate finds room
+  pub allocate-survey : (bytes : ℕ) → 0 < bytes → (allocate base h bytes .answer .refusal ≡ 9) ↔ (survey base h .answer .longest < blocksFor bytes)
+  allocate-survey bytes more =
+      let n = promises .allocate-no-room base h bytes in
+      (λ e. run-short (blocksFor bytes) .0 (n .0 e .2), λ less. n .1 (good, more, run-short (blocksFor bytes) .1 less))
+
+  -- and whether a reallocate does
+  pub reallocate-survey : (k bytes : ℕ) → 0 < bytes → Object h k
+      → (reallocate base h k bytes .answer .refusal ≡ 9)
+      ↔ ((blocksOf h k < blocksFor bytes) × ¬ RoomAfter h k (blocksFor bytes) × (survey base h .answer .longest < blocksFor bytes))
+  reallocate-survey k bytes more head =
+      let n = promises .reallocate-no-room base h k bytes in
+      (λ e. let w = n .0 e .3 in (w .0, w .1, run-short (blocksFor bytes) .0 (w .2)), λ w. n .1 (good, more, head, (w .0, w .1, run-short (blocksFor bytes) .1 (w .2))))
+
+-- ---- calls that leave all as it is
+
+-- after a survey every call goes as without it, and so after a load
+pub survey-then : (c : Call) (stack : List ℕ) (base : ℕ) (h : Heap) → step c stack (survey base h .heap) ≡ step c stack h
+survey-then c stack base h = ap (step c stack) (promises .survey-leaves base h)
+
+pub load-then : (c : Call) (stack : List ℕ) (base : ℕ) (h : Heap) (k i : ℕ) → step c stack (load base h k i .heap) ≡ step c stack h
+load-then c stack base h k i = ap (step c stack) (promises .load-leaves base h k i)
+
+-- and after a reallocate to as many blocks
+pub equal-then : (c : Call) (stack : List ℕ) (base : ℕ) (h : Heap) (k bytes : ℕ) → Accepted (reallocate base h k bytes) → blocksFor bytes ≡ blocksOf h k
+    → step c stack (reallocate base h k bytes .heap) ≡ step c stack h
+equal-then c stack base h k bytes accepted same = ap (step c stack) (promises .reallocated base h k bytes accepted .equal same)
