@@ -37,7 +37,7 @@ longest-one : (es : List ℕ) (l m : ℕ) → Longest es l → Longest es m → 
 longest-one es l m a b = omega (arith, a .most m (b .start) (b .run), b .most l (a .start) (a .run))
 
 -- the start that a search gives
-start-one : (es : List ℕ) (b s s' : ℕ) → Lowest es b (some s) → Lowest es b (some s') → s ≡ s'
+pub start-one : (es : List ℕ) (b s s' : ℕ) → Lowest es b (some s) → Lowest es b (some s') → s ≡ s'
 start-one es b s s' low low' = ap (elim [ none ↦ 0 | some x ↦ x ]) (lowest-one es b (some s) (some s') low low')
 
 -- ---- every place is one of the n from s on, or none of them

@@ -11,3 +11,4 @@ pub mod Bytes
 pub mod Promised
 pub mod Determined
 pub mod Observed
+pub mod Samples

@@ -1,3 +1,4 @@
 pub mod Conditions
 pub mod Promises
 pub mod Determined
+pub mod Samples
