@@ -83,11 +83,11 @@ allocated-one base h b r r' a a' = record {
   effect = record {
     change = a .change ∙ sym (a' .change);
     heap = record {
-      entries = by-place (λ (i : ℕ). entryAt (r .heap .entries) i ≡ entryAt (r' .heap .entries) i) s b among (λ i out. a .entries i out ∙ sym (out-entry i out));
+      entries = by-place (λ (i : ℕ). entryAt (r .heap .entries) i ≡ entryAt (r' .heap .entries) i) s b among (λ i out. a .entries i (λ in-it. out (omega arith)) ∙ sym (out-entry i out));
       bytes =
           by-bytes (r .heap) (r' .heap) s b
-          (λ i l. a .zero i l ∙ sym (in-byte i l))
-          (λ i out. a .bytes i out ∙ sym (out-byte i out));
+          (λ i l. a .zero i (omega arith) ∙ sym (in-byte i l))
+          (λ i out. a .bytes i (λ in-it. out (omega arith)) ∙ sym (out-byte i out));
     };
   };
 }
@@ -100,23 +100,23 @@ allocated-one base h b r r' a a' = record {
 
     -- what the second outcome says, said of the first one's block
     out-entry : (i : ℕ) → ¬ Among s b i → entryAt (r' .heap .entries) i ≡ entryAt (h .entries) i
-    out-entry = rw e (a' .entries)
+    out-entry i out = a' .entries i (λ in-it. out (omega (arith, e)))
 
     in-byte : (i : ℕ) → i < 16 * b → byteAt (r' .heap) (16 * s + i) ≡ 0
-    in-byte = rw e (a' .zero)
+    in-byte i l = rw e (a' .zero i (omega arith))
 
     out-byte : (i : ℕ) → ¬ Within s b i → byteAt (r' .heap) i ≡ byteAt h i
-    out-byte = rw e (a' .bytes)
+    out-byte i out = a' .bytes i (λ in-it. out (omega (arith, e)))
 
     head' : Object (r' .heap) s
     head' = rw e (a' .head)
 
     tail' : (j : ℕ) → 0 < j → j < b → entryAt (r' .heap .entries) (s + j) ≡ TAIL
-    tail' = rw e (a' .tail)
+    tail' j p l = rw e (a' .tail j p (omega arith))
 
     among : (j : ℕ) → j < b → entryAt (r .heap .entries) (s + j) ≡ entryAt (r' .heap .entries) (s + j)
     among zero l = let z : s + 0 ≡ s = omega arith in rw z (a .head ∙ sym head')
-    among (suc j) l = a .tail (suc j) (omega arith) l ∙ sym (tail' (suc j) (omega arith) l)
+    among (suc j) l = a .tail (suc j) (omega arith) (omega arith) ∙ sym (tail' (suc j) (omega arith) l)
 
 pub freed-one : (base : ℕ) (h : Heap) (k : ℕ) (r r' : Outcome) → Freed base h k r → Freed base h k r' → SameEffect r r'
 freed-one base h k r r' a a' = record {
@@ -125,7 +125,7 @@ freed-one base h k r r' a a' = record {
     entries =
         by-place (λ (i : ℕ). entryAt (r .heap .entries) i ≡ entryAt (r' .heap .entries) i) k (blocksOf h k)
         (λ j l. a .free (k + j) (omega arith) ∙ sym (a' .free (k + j) (omega arith)))
-        (λ i out. a .entries i out ∙ sym (a' .entries i out));
+        (λ i out. a .entries i (λ in-it. out (omega arith)) ∙ sym (a' .entries i (λ in-it. out (omega arith))));
     bytes = λ i. ap (λ (bytes : List ℕ). getD bytes i 0) (a .bytes ∙ sym (a' .bytes));
   };
 }
@@ -137,7 +137,7 @@ reallocated-one base h k b' r r' a a' = record {
     change = a .change ∙ sym (a' .change);
     heap = record {
       entries = by-place (λ (i : ℕ). entryAt (r .heap .entries) i ≡ entryAt (r' .heap .entries) i) s b' among not-among;
-      bytes = by-bytes (r .heap) (r' .heap) s b' within (λ i out. a .bytes i out ∙ sym (out-byte i out));
+      bytes = by-bytes (r .heap) (r' .heap) s b' within (λ i out. a .bytes i (λ in-it. out (omega arith)) ∙ sym (out-byte i out));
     };
   };
 }
@@ -161,19 +161,20 @@ reallocated-one base h k b' r r' a a' = record {
 
     -- what the second outcome says, said of the first one's block
     freed' : (i : ℕ) → Among k b i → ¬ Among s b' i → entryAt (r' .heap .entries) i ≡ FREE
-    freed' = rw e (a' .free)
+    freed' i old out = a' .free i (omega arith) (λ in-it. out (omega (arith, e)))
 
     out-entry : (i : ℕ) → ¬ Among k b i → ¬ Among s b' i → entryAt (r' .heap .entries) i ≡ entryAt (h .entries) i
-    out-entry = rw e (a' .entries)
+    out-entry i old out =
+        a' .entries i (λ in-it. old (omega arith)) (λ in-it. out (omega (arith, e)))
 
     kept' : (i : ℕ) → i < 16 * b → i < 16 * b' → byteAt (r' .heap) (16 * s + i) ≡ byteAt h (16 * k + i)
-    kept' = rw e (a' .kept)
+    kept' i l m = rw e (a' .kept i (omega arith) (omega arith))
 
     zero' : (i : ℕ) → 16 * b ≤ i → i < 16 * b' → byteAt (r' .heap) (16 * s + i) ≡ 0
-    zero' = rw e (a' .zero)
+    zero' i l m = rw e (a' .zero i (omega arith) (omega arith))
 
     out-byte : (i : ℕ) → ¬ Within s b' i → byteAt (r' .heap) i ≡ byteAt h i
-    out-byte = rw e (a' .bytes)
+    out-byte i out = a' .bytes i (λ in-it. out (omega (arith, e)))
 
     among : (j : ℕ) → j < b' → entryAt (r .heap .entries) (s + j) ≡ entryAt (r' .heap .entries) (s + j)
     among = object-entry (r .heap) (r' .heap) s b' (a .head) (rw e (a' .head)) (a .blocks) (rw e (a' .blocks))
@@ -181,24 +182,24 @@ reallocated-one base h k b' r r' a a' = record {
     not-among : (i : ℕ) → ¬ Among s b' i → entryAt (r .heap .entries) i ≡ entryAt (r' .heap .entries) i
     not-among i out =
         by-place (λ (i : ℕ). ¬ Among s b' i → entryAt (r .heap .entries) i ≡ entryAt (r' .heap .entries) i) k b
-        (λ j l out. a .free (k + j) (omega arith) out ∙ sym (freed' (k + j) (omega arith) out))
-        (λ i old out. a .entries i old out ∙ sym (out-entry i old out))
+        (λ j l out. a .free (k + j) (omega arith) (λ in-it. out (omega arith)) ∙ sym (freed' (k + j) (omega arith) out))
+        (λ i old out. a .entries i (λ in-it. old (omega arith)) (λ in-it. out (omega arith)) ∙ sym (out-entry i old out))
         i out
 
     within : (i : ℕ) → i < 16 * b' → byteAt (r .heap) (16 * s + i) ≡ byteAt (r' .heap) (16 * s + i)
     within i l = go (decLt i (16 * b))
       where
         go : Dec (i < 16 * b) → byteAt (r .heap) (16 * s + i) ≡ byteAt (r' .heap) (16 * s + i)
-        go (yes old) = a .kept i old l ∙ sym (kept' i old l)
-        go (no new) = a .zero i (omega arith) l ∙ sym (zero' i (omega arith) l)
+        go (yes old) = a .kept i (omega arith) (omega arith) ∙ sym (kept' i old l)
+        go (no new) = a .zero i (omega arith) (omega arith) ∙ sym (zero' i (omega arith) l)
 
 pub stored-one : (base : ℕ) (h : Heap) (k i w : ℕ) (r r' : Outcome) → Stored base h k i w r → Stored base h k i w r' → SameHeap (r .heap) (r' .heap)
 stored-one base h k i w r r' a a' = record {
   entries = λ j. ap (λ (es : List ℕ). entryAt es j) (a .table ∙ sym (a' .table));
   bytes =
       by-place (λ (j : ℕ). byteAt (r .heap) j ≡ byteAt (r' .heap) j) (16 * k + 4 * i) 4
-      (λ j l. a .four j l ∙ sym (a' .four j l))
-      (λ j out. a .bytes j out ∙ sym (a' .bytes j out));
+      (λ j l. a .four j (omega arith) ∙ sym (a' .four j (omega arith)))
+      (λ j out. a .bytes j (λ in-it. out (omega arith)) ∙ sym (a' .bytes j (λ in-it. out (omega arith))));
 }
 
 pub loaded-one : (h : Heap) (k i : ℕ) (r r' : Outcome) → Loaded h k i r → Loaded h k i r' → r .answer ≡ r' .answer
