@@ -10,5 +10,6 @@ pub mod Collecting
 pub mod Bytes
 pub mod Promised
 pub mod Determined
+pub mod Whole
 pub mod Observed
 pub mod Samples

@@ -1,31 +1,33 @@
 -- What a caller sees of the promises through later calls, to the last word, the last block and the exact number.
 -- Only the promises are used, never how a call is defined, so a promise that said less would not give these laws.
 -- Assumes nothing.
-use mathlib.Core.Path.{_≡_, refl, ap, sym, _∙_}
+use mathlib.Core.Path.{_≡_, refl, ap, ap₂, sym, _∙_}
 use mathlib.Core.Logic.{_≢_, _↔_, inl, inr}
 use mathlib.Core.List.{List, [], _∷_}
 use mathlib.Core.Option.{Option, some, none}
 use Prim.Native.Nat.{ℕ, zero, suc, _+_, _*_, _≤_, _<_}
 use native.Mathlib.Decide.{decLt}
 use native.Mathlib.Omega.{arith}
-use lib.IntN.{pos, negℤ, _+ℤ_, natAbs}
+use lib.IntN.{ℤ, pos, negℤ, subℕ, _+ℤ_, natAbs}
 use lib.ListN.{getD}
 use Rattle.rules.specs.Words.{number, wordAt, wordsOf}
 use Rattle.rules.specs.Entries.{entriesOf}
-use Rattle.rules.specs.Tables.{used}
+use Rattle.rules.specs.Tables.{used, objects}
 use Rattle.rules.specs.Pointers.{addressOf, targetOf, leadsTo}
 use Rattle.rules.specs.Meaning.{AllBytes, Points, Leads, Longest, ShapeInBytes, Passed, Accepted}
-use Rattle.rules.specs.Outcomes.{Heap, Outcome, heapOf, onlyRefusal, loaded}
+use Rattle.rules.specs.Outcomes.{Heap, Answer, Outcome, heapOf, placement, collection, findings, onlyRefusal, placedAt, collectedTo, surveyed, loaded}
 use Rattle.rules.specs.Reach.{Reachable}
 use Rattle.rules.specs.Calls.{blocksFor, init, allocate, free, reallocate, collect, survey, load, store}
-use Rattle.rules.specs.Runs.{Call, Load, step}
+use Rattle.rules.specs.Runs.{Call, Init, Allocate, Free, Reallocate, Collect, Survey, Load, Store, step}
 use Rattle.rules.proofs.Words.{wordAt-same}
 use Rattle.rules.proofs.Tables.{entry-inside, well-says, run-shorter}
 use Rattle.keeping.proofs.Owners.{reachable-head}
 use Rattle.promises.specs.Conditions.{when, First, RoomAfter, NoRun, ofInit, ofAllocate, ofFree, ofReallocate, ofCollect, ofSurvey, ofWord}
 use Rattle.promises.specs.Promises.{Object, blocksOf, Same, Counts, Surveyed}
+use Rattle.promises.specs.Determined.{partsOf}
 use Rattle.promises.proofs.Promised.{promises}
 use Rattle.promises.proofs.Determined.{first-one, refused-one}
+use Rattle.promises.proofs.Whole.{whole}
 
 -- ---- a call answers the number that its conditions give
 
@@ -339,3 +341,46 @@ load-then c stack base h k i = ap (step c stack) (promises .load-leaves base h k
 pub equal-then : (c : Call) (stack : List ℕ) (base : ℕ) (h : Heap) (k bytes : ℕ) → Accepted (reallocate base h k bytes) → blocksFor bytes ≡ blocksOf h k
     → step c stack (reallocate base h k bytes .heap) ≡ step c stack h
 equal-then c stack base h k bytes accepted same = ap (step c stack) (promises .reallocated base h k bytes accepted .equal same)
+
+-- ---- the whole answer of an accepted call: what its record gives, and zero in every other part
+
+module _ (base : ℕ) (h : Heap) where
+  pub init-answer : Accepted (init base h) → init base h .answer ≡ onlyRefusal 0
+  unfolding step partsOf
+  init-answer accepted = whole .only-parts (Init base) [] h ∙ ap onlyRefusal accepted
+
+  pub allocate-answer : (bytes : ℕ) → Accepted (allocate base h bytes) → allocate base h bytes .answer ≡ placedAt (allocate base h bytes .answer .block) (pos (blocksFor bytes))
+  unfolding step partsOf
+  allocate-answer bytes accepted =
+      let p = promises .allocated base h bytes accepted in
+      whole .only-parts (Allocate base bytes) [] h ∙ ap₂ (λ (r : ℕ) (d : ℤ). placement r (allocate base h bytes .answer .block) d) accepted (p .change)
+
+  pub free-answer : (k : ℕ) → Accepted (free base h k) → free base h k .answer ≡ placedAt 0 (negℤ (pos (blocksOf h k)))
+  unfolding step partsOf
+  free-answer k accepted =
+      whole .only-parts (Free base k) [] h ∙ ap₂ (λ (r : ℕ) (d : ℤ). placement r 0 d) accepted (promises .freed base h k accepted .change)
+
+  pub reallocate-answer : (k bytes : ℕ) → Accepted (reallocate base h k bytes)
+      → reallocate base h k bytes .answer ≡ placedAt (reallocate base h k bytes .answer .block) (subℕ (blocksFor bytes) (blocksOf h k))
+  unfolding step partsOf
+  reallocate-answer k bytes accepted =
+      let p = promises .reallocated base h k bytes accepted in
+      whole .only-parts (Reallocate base k bytes) [] h ∙ ap₂ (λ (r : ℕ) (d : ℤ). placement r (reallocate base h k bytes .answer .block) d) accepted (p .change)
+
+  pub collect-answer : (roots stack : List ℕ) → Accepted (collect base h roots stack)
+      → collect base h roots stack .answer
+      ≡ collectedTo (collect base h roots stack .answer .kept) (collect base h roots stack .answer .rescans) (collect base h roots stack .answer .change)
+  unfolding step partsOf
+  collect-answer roots stack accepted =
+      let a : Answer = collect base h roots stack .answer in
+      whole .only-parts (Collect base roots) stack h ∙ ap (λ (r : ℕ). collection r (a .kept) (a .rescans) (a .change)) accepted
+
+  pub survey-answer : Accepted (survey base h) → survey base h .answer ≡ surveyed (used (h .entries)) (objects (h .entries)) (survey base h .answer .longest)
+  unfolding step partsOf
+  survey-answer accepted =
+      let p = promises .surveyed base h accepted in
+      whole .only-parts (Survey base) [] h ∙ (λ i. findings (accepted i) (p .used i) (p .objects i) (survey base h .answer .longest))
+
+  pub store-answer : (k i w : ℕ) → Accepted (store base h k i w) → store base h k i w .answer ≡ onlyRefusal 0
+  unfolding step partsOf
+  store-answer k i w accepted = whole .only-parts (Store base k i w) [] h ∙ ap onlyRefusal accepted

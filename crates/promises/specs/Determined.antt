@@ -1,11 +1,13 @@
 -- What is said of each call leaves one outcome: two that both satisfy the record of a call have the same answer, entries and bytes.
--- So a sentence that said less would not do. A part of the answer is meant here where the record speaks of it.
+-- So a sentence that said less would not do. What no record speaks of, the size of the heap and the parts that a call does not answer, is said last.
 -- Assumes nothing.
 use mathlib.Core.Path.{_≡_}
 use mathlib.Core.List.{List}
 use Prim.Native.Nat.{ℕ}
+use lib.ListN.{length}
 use Rattle.rules.specs.Tables.{entryAt}
-use Rattle.rules.specs.Outcomes.{Heap, Outcome}
+use Rattle.rules.specs.Outcomes.{Heap, Answer, Outcome, placement, collection, findings, reading, onlyRefusal}
+use Rattle.rules.specs.Runs.{Call, Init, Allocate, Free, Reallocate, Collect, Survey, Load, Store, step}
 use Rattle.keeping.specs.Keeping.{Collected}
 use Rattle.promises.specs.Conditions.{Condition, First}
 use Rattle.promises.specs.Promises.{byteAt, Refused, Initialised, Allocated, Freed, Reallocated, Stored, Loaded, Surveyed, Reclaimed}
@@ -55,3 +57,29 @@ pub record Determined : Type 1 where
   -- of a collection this and Collected of the crate keeping say it together
   pub reclaimed : (base : ℕ) (h : Heap) (roots stack : List ℕ) (r r' : Outcome) → Reclaimed base h roots r → Reclaimed base h roots r'
       → Collected base h roots stack r → Collected base h roots stack r' → SameCollection r r'
+
+-- ---- what the records leave open, for every call
+
+-- as many blocks and as many bytes as there were
+pub record Sized (before : Heap) (r : Outcome) : Type 0 where
+  pub blocks : length (r .heap .entries) ≡ length (before .entries)
+  pub bytes : length (r .heap .pool) ≡ length (before .pool)
+
+-- the parts that a call answers, and zero for every other
+unfoldable pub partsOf : Call → Answer → Answer
+partsOf (Init base) a = onlyRefusal (a .refusal)
+partsOf (Allocate base bytes) a = placement (a .refusal) (a .block) (a .change)
+partsOf (Free base k) a = placement (a .refusal) 0 (a .change)
+partsOf (Reallocate base k bytes) a = placement (a .refusal) (a .block) (a .change)
+partsOf (Collect base roots) a = collection (a .refusal) (a .kept) (a .rescans) (a .change)
+partsOf (Survey base) a = findings (a .refusal) (a .used) (a .objects) (a .longest)
+partsOf (Load base k i) a = reading (a .refusal) (a .value)
+partsOf (Store base k i w) a = onlyRefusal (a .refusal)
+
+pub record Whole : Type 0 where
+  -- no call changes the number of blocks or of bytes
+  pub sized : (c : Call) (stack : List ℕ) (h : Heap) → Sized h (step c stack h)
+  -- two heaps of one size with the same entries and bytes are one heap
+  pub one-heap : (h : Heap) (r r' : Outcome) → Sized h r → Sized h r' → SameHeap (r .heap) (r' .heap) → r .heap ≡ r' .heap
+  -- a part that a call does not answer is zero
+  pub only-parts : (c : Call) (stack : List ℕ) (h : Heap) → step c stack h .answer ≡ partsOf c (step c stack h .answer)
