@@ -4,6 +4,8 @@ use Rattle.rules.specs.Examples.{examples-hold, words-hold}
 use Rattle.rules.specs.Orders.{orders-hold}
 use Rattle.keeping.proofs.Collections.{keeps-exactly, any-stack}
 use Rattle.promises.proofs.Promised.{promises}
+use Rattle.promises.proofs.Determined.{determined}
+use Rattle.promises.proofs.Whole.{whole}
 use Rattle.runs.proofs.Noninterference.{noninterference}
 use Rattle.plain.proofs.Refinement.{answers-as-list}
 use Rattle.plain.proofs.Reached.{list-keeps-reachable}
@@ -18,6 +20,8 @@ guarantees = record {
   words-hold = words-hold;
   entry-points = entry-points;
   promises = promises;
+  determined = determined;
+  whole = whole;
   keeps-exactly = keeps-exactly;
   any-stack = any-stack;
   noninterference = noninterference;

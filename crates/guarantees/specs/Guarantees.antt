@@ -8,6 +8,7 @@ use Rattle.rules.specs.Examples.{Example, examples}
 use Rattle.rules.specs.Orders.{orders}
 use Rattle.keeping.specs.Keeping.{KeepsExactly, AnyStack}
 use Rattle.promises.specs.Promises.{Promises}
+use Rattle.promises.specs.Determined.{Determined, Whole}
 use Rattle.runs.specs.Noninterference.{Noninterference}
 use Rattle.plain.specs.Refines.{AnswersAsList, ListKeepsReachable, UsedIsSum}
 use Rattle.guarantees.specs.EntryPoints.{EntryPoints}
@@ -21,6 +22,9 @@ pub record Guarantees : Type 2 where
   pub entry-points : EntryPoints
   -- Each call of the rules: by which number it is refused, that it then changes nothing, and what it does otherwise.
   pub promises : Promises
+  -- That leaves one outcome: the same answer, the same entries and the same bytes; and no call changes the size of the heap.
+  pub determined : Determined
+  pub whole : Whole
   -- A collection keeps exactly the reachable objects, and the mark stack has no influence on it.
   pub keeps-exactly : KeepsExactly
   pub any-stack : AnyStack

@@ -8,7 +8,7 @@
 use mathlib.Core.List.{List, [], _∷_, _++_}
 use Prim.Native.Nat.{ℕ, _+_, _*_}
 use lib.ListN.{replicate}
-use Rattle.rules.specs.Words.{bytesOf, withWord, wordsOf}
+use Rattle.rules.specs.Words.{bytesOf, withWord}
 use Rattle.rules.specs.Outcomes.{Heap, Outcome, heapOf}
 use Rattle.rules.specs.Calls.{collect}
 

@@ -11,15 +11,15 @@ use native.Mathlib.Omega.{arith}
 use lib.IntN.{negℤ, pos}
 use lib.ListN.{getD}
 use Rattle.rules.specs.Entries.{FREE, TAIL}
-use Rattle.rules.specs.Tables.{entryAt, used, objects}
-use Rattle.rules.specs.Meaning.{Lowest, Longest}
+use Rattle.rules.specs.Tables.{entryAt, used}
+use Rattle.rules.specs.Meaning.{Lowest}
 use Rattle.rules.specs.Outcomes.{Heap, Outcome, onlyRefusal, loaded}
-use Rattle.rules.proofs.Tables.{entry-inside, extent-of, lowest-one}
+use Rattle.rules.proofs.Tables.{entry-inside, extent-of, lowest-one, longest-one}
 use Rattle.keeping.specs.Keeping.{Collected}
 use Rattle.keeping.proofs.Same.{keeps-one}
 use Rattle.promises.specs.Conditions.{Condition, First, RoomAfter}
 use Rattle.promises.specs.Promises.{blocksOf, byteAt, Object, Among, Within, Refused, Initialised, Allocated, Freed, Reallocated, Stored, Loaded, Surveyed, Reclaimed}
-use Rattle.promises.specs.Determined.{SameHeap, SameEffect, SamePlace, SameFindings, SameCollection, Determined}
+use Rattle.promises.specs.Determined.{SameHeap, SameEffect, SamePlace, SameFindings, Determined}
 
 -- ---- numbers
 
@@ -31,10 +31,6 @@ first-one (c ∷ cs) n n' f f' =
     (λ here. ⊎-elim (λ here'. here .1 ∙ sym (here' .1)) (λ later'. absurd (later' .0 (here .0))) f')
     (λ later. ⊎-elim (λ here'. absurd (later .0 (here' .0))) (λ later'. first-one cs n n' (later .1) (later' .1)) f')
     f
-
--- the length of the longest run is one number. It belongs to the laws of Longest in the crate rules
-longest-one : (es : List ℕ) (l m : ℕ) → Longest es l → Longest es m → l ≡ m
-longest-one es l m a b = omega (arith, a .most m (b .start) (b .run), b .most l (a .start) (a .run))
 
 -- the start that a search gives
 pub start-one : (es : List ℕ) (b s s' : ℕ) → Lowest es b (some s) → Lowest es b (some s') → s ≡ s'
@@ -213,20 +209,15 @@ surveyed-one h r r' a a' = record {
 }
 
 pub reclaimed-one : (base : ℕ) (h : Heap) (roots stack : List ℕ) (r r' : Outcome) → Reclaimed base h roots r → Reclaimed base h roots r'
-    → Collected base h roots stack r → Collected base h roots stack r' → SameCollection r r'
+    → Collected base h roots stack r → Collected base h roots stack r' → SameEffect r r'
 reclaimed-one base h roots stack r r' a a' c c' =
     let e : r .heap .entries ≡ r' .heap .entries = keeps-one (c .table) (c' .table) in
     record {
-      kept = c .kept ∙ ap objects e ∙ sym (c' .kept);
-      rescans = c .passes ∙ sym (c' .passes);
-      effect = record {
-        change = a .change ∙ ap (λ (es : List ℕ). negℤ (pos (used (h .entries) - used es))) e ∙ sym (a' .change);
-        heap = record {
-          entries = λ i. ap (λ (es : List ℕ). entryAt es i) e;
-          bytes = λ i. ap (λ (bytes : List ℕ). getD bytes i 0) (a .bytes ∙ sym (a' .bytes));
-        };
+      change = a .change ∙ ap (λ (es : List ℕ). negℤ (pos (used (h .entries) - used es))) e ∙ sym (a' .change);
+      heap = record {
+        entries = λ i. ap (λ (es : List ℕ). entryAt es i) e;
+        bytes = λ i. ap (λ (bytes : List ℕ). getD bytes i 0) (a .bytes ∙ sym (a' .bytes));
       };
-      stack = c .stack ∙ sym (c' .stack);
     }
 
 pub determined : Determined

@@ -4,7 +4,7 @@
 use mathlib.Core.Path.{_≡_, refl, ap, ap₂, sym, _∙_}
 use mathlib.Core.Logic.{_≢_, _↔_, inl, inr}
 use mathlib.Core.List.{List, [], _∷_}
-use mathlib.Core.Option.{Option, some, none}
+use mathlib.Core.Option.{Option, none}
 use Prim.Native.Nat.{ℕ, zero, suc, _+_, _*_, _≤_, _<_}
 use native.Mathlib.Decide.{decLt}
 use native.Mathlib.Omega.{arith}
@@ -13,7 +13,7 @@ use lib.ListN.{getD}
 use Rattle.rules.specs.Words.{number, wordAt, wordsOf}
 use Rattle.rules.specs.Entries.{entriesOf}
 use Rattle.rules.specs.Tables.{used, objects}
-use Rattle.rules.specs.Pointers.{addressOf, targetOf, leadsTo}
+use Rattle.rules.specs.Pointers.{targetOf, leadsTo}
 use Rattle.rules.specs.Meaning.{AllBytes, Points, Leads, Longest, ShapeInBytes, Passed, Accepted}
 use Rattle.rules.specs.Outcomes.{Heap, Answer, Outcome, heapOf, placement, collection, findings, onlyRefusal, placedAt, collectedTo, surveyed, loaded}
 use Rattle.rules.specs.Reach.{Reachable}
@@ -21,6 +21,7 @@ use Rattle.rules.specs.Calls.{blocksFor, init, allocate, free, reallocate, coll
 use Rattle.rules.specs.Runs.{Call, Init, Allocate, Free, Reallocate, Collect, Survey, Load, Store, step}
 use Rattle.rules.proofs.Words.{wordAt-same}
 use Rattle.rules.proofs.Tables.{entry-inside, well-says, run-shorter}
+use Rattle.rules.proofs.Pointers.{points-one, leads-one}
 use Rattle.keeping.proofs.Owners.{reachable-head}
 use Rattle.promises.specs.Conditions.{when, First, RoomAfter, NoRun, ofInit, ofAllocate, ofFree, ofReallocate, ofCollect, ofSurvey, ofWord}
 use Rattle.promises.specs.Promises.{Object, blocksOf, Same, Counts, Surveyed}
@@ -78,23 +79,9 @@ pub table-one : (c : Call) (stack : List ℕ) (h : Heap) (table table' : List �
     → entriesOf table' ≡ step c stack h .heap .entries → table ≡ table'
 table-one c stack h table table' bytes bytes' e e' = promises .table-bytes table table' bytes bytes' (e ∙ sym e')
 
-points-one : (base n w : ℕ) (x y : Option ℕ) → Points base n w x → Points base n w y → x ≡ y
-unfolding Points addressOf
-points-one base n w none none p q = refl
-points-one base n w none (some k) p q = absurd (p k (q .0) (q .1))
-points-one base n w (some k) none p q = absurd (q k (p .0) (p .1))
-points-one base n w (some k) (some l) p q = ap some (omega (arith, p .1, q .1))
-
 -- a word has one target
 pub target-one : (base n w : ℕ) (x : Option ℕ) → Points base n w x → targetOf base n w ≡ x
 target-one base n w x = points-one base n w (targetOf base n w) x (promises .target-points base n w)
-
-leads-one : (base : ℕ) (es : List ℕ) (w : ℕ) (x y : Option ℕ) → Leads base es w x → Leads base es w y → x ≡ y
-unfolding Leads addressOf
-leads-one base es w none none p q = refl
-leads-one base es w none (some k) p q = absurd (p k (q .0) (q .2) (q .1))
-leads-one base es w (some k) none p q = absurd (q k (p .0) (p .2) (p .1))
-leads-one base es w (some k) (some l) p q = ap some (omega (arith, p .1, q .1))
 
 -- and leads to one object
 pub lead-one : (base : ℕ) (es : List ℕ) (w : ℕ) (x : Option ℕ) → Leads base es w x → leadsTo base es w ≡ x

@@ -33,13 +33,6 @@ pub record SameFindings (r r' : Outcome) : Type 0 where
   pub objects : r .answer .objects ≡ r' .answer .objects
   pub longest : r .answer .longest ≡ r' .answer .longest
 
--- two collections answer and leave the same
-pub record SameCollection (r r' : Outcome) : Type 0 where
-  pub kept : r .answer .kept ≡ r' .answer .kept
-  pub rescans : r .answer .rescans ≡ r' .answer .rescans
-  pub effect : SameEffect r r'
-  pub stack : r .stack ≡ r' .stack
-
 pub record Determined : Type 1 where
   -- one number is that of the first condition that holds
   pub number : (cs : List Condition) (n n' : ℕ) → First cs n → First cs n' → n ≡ n'
@@ -54,9 +47,9 @@ pub record Determined : Type 1 where
   pub stored : (base : ℕ) (h : Heap) (k i w : ℕ) (r r' : Outcome) → Stored base h k i w r → Stored base h k i w r' → SameHeap (r .heap) (r' .heap)
   pub loaded : (h : Heap) (k i : ℕ) (r r' : Outcome) → Loaded h k i r → Loaded h k i r' → r .answer ≡ r' .answer
   pub surveyed : (h : Heap) (r r' : Outcome) → Surveyed h r → Surveyed h r' → SameFindings r r'
-  -- of a collection this and Collected of the crate keeping say it together
+  -- of a collection the table is left as Collected of the crate keeping says, whose other parts its own law determines (collected-one)
   pub reclaimed : (base : ℕ) (h : Heap) (roots stack : List ℕ) (r r' : Outcome) → Reclaimed base h roots r → Reclaimed base h roots r'
-      → Collected base h roots stack r → Collected base h roots stack r' → SameCollection r r'
+      → Collected base h roots stack r → Collected base h roots stack r' → SameEffect r r'
 
 -- ---- what the records leave open, for every call
 
