@@ -12,7 +12,7 @@ pub extern "C" fn blockheap_init(base: u64, pool: &[u8], table: &mut [u8]) -> u3
     ensures { λ r. ⌜ leaves (onlyRefusal r) (heapOf (now (pool .entry)) (now (table .exit)))
         ≡ init base (heapOf (now (pool .entry)) (now (table .entry))) ⌝ }
 {
-    heap::init(Address(base), pool, table)
+    heap::init(Address::of_number(base), pool, table)
 }
 
 #[no_mangle]
@@ -27,8 +27,13 @@ pub extern "C" fn blockheap_allocate(
     ensures { λ r. ⌜ leaves (placement r (now (block .exit)) (now (change .exit))) (heapOf (now (pool .exit)) (now (table .exit)))
         ≡ allocate base (heapOf (now (pool .entry)) (now (table .entry))) bytes ⌝ }
 {
-    let p = heap::allocate(Address(base), pool, table, Bytes(bytes as usize));
-    *block = p.block.0 as u32;
+    let p = heap::allocate(
+        Address::of_number(base),
+        pool,
+        table,
+        Bytes::of_number(bytes),
+    );
+    *block = p.block.number() as u32;
     let d = p.change;
     *change = d;
     p.refusal
@@ -45,7 +50,12 @@ pub extern "C" fn blockheap_free(
     ensures { λ r. ⌜ leaves (placement r 0 (now (change .exit))) (heapOf (now (pool .entry)) (now (table .exit)))
         ≡ free base (heapOf (now (pool .entry)) (now (table .entry))) block ⌝ }
 {
-    let f = heap::free(Address(base), pool, table, Block(block as usize));
+    let f = heap::free(
+        Address::of_number(base),
+        pool,
+        table,
+        Block::of_number(block),
+    );
     let d = f.change;
     *change = d;
     f.refusal
@@ -65,13 +75,13 @@ pub extern "C" fn blockheap_reallocate(
         ≡ reallocate base (heapOf (now (pool .entry)) (now (table .entry))) block bytes ⌝ }
 {
     let p = heap::reallocate(
-        Address(base),
+        Address::of_number(base),
         pool,
         table,
-        Block(block as usize),
-        Bytes(bytes as usize),
+        Block::of_number(block),
+        Bytes::of_number(bytes),
     );
-    *new_block = p.block.0 as u32;
+    *new_block = p.block.number() as u32;
     let d = p.change;
     *change = d;
     p.refusal
@@ -91,7 +101,7 @@ pub extern "C" fn blockheap_collect(
     ensures { λ r. ⌜ leavesWith (collection r (now (kept .exit)) (now (rescans .exit)) (now (change .exit))) (heapOf (now (pool .entry)) (now (table .exit))) (now (stack .exit))
         ≡ collect base (heapOf (now (pool .entry)) (now (table .entry))) (now (roots .entry)) (now (stack .entry)) ⌝ }
 {
-    let c = collector::collect(Address(base), pool, table, roots, stack);
+    let c = collector::collect(Address::of_number(base), pool, table, roots, stack);
     *kept = c.kept;
     *rescans = c.rescans;
     let d = c.change;
@@ -111,7 +121,7 @@ pub extern "C" fn blockheap_survey(
     ensures { λ r. ⌜ leaves (findings r (now (used .exit)) (now (objects .exit)) (now (longest .exit))) (heapOf (now (pool .entry)) (now (table .entry)))
         ≡ survey base (heapOf (now (pool .entry)) (now (table .entry))) ⌝ }
 {
-    let s = heap::survey(Address(base), pool, table);
+    let s = heap::survey(Address::of_number(base), pool, table);
     *used = s.used;
     *objects = s.objects;
     *longest = s.longest;
@@ -131,10 +141,10 @@ pub extern "C" fn blockheap_load(
         ≡ load base (heapOf (now (pool .entry)) (now (table .entry))) block word ⌝ }
 {
     let l = heap::load(
-        Address(base),
+        Address::of_number(base),
         pool,
         table,
-        Block(block as usize),
+        Block::of_number(block),
         word as usize,
     );
     *value = l.value;
@@ -154,10 +164,10 @@ pub extern "C" fn blockheap_store(
         ≡ store base (heapOf (now (pool .entry)) (now (table .entry))) block word value ⌝ }
 {
     heap::store(
-        Address(base),
+        Address::of_number(base),
         pool,
         table,
-        Block(block as usize),
+        Block::of_number(block),
         word as usize,
         value,
     )

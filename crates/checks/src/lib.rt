@@ -9,9 +9,6 @@ use memory::Address;
 use memory::Block;
 use memory::Bytes;
 
-// The first number that is no address.
-const END: u64 = 4294967296;
-
 // Whether the table's length, the pool's length and the base suit each other.
 pub fn good_shape(base: Address, pool: &[u8], table: &[u8]) -> bool
     ensures { λ r. ⌜ r ≡ goodShape (base .0) (heapOf (now (pool .entry)) (now (table .entry))) ⌝ }
@@ -24,20 +21,10 @@ pub fn good_shape(base: Address, pool: &[u8], table: &[u8]) -> bool
         return false;
     }
     let n = entries::blocks(table);
-    if pool.len() != Bytes::of_blocks(n).0 {
+    if !Bytes::of_blocks(n).is_length_of(pool) {
         return false;
     }
-    let at = base.0;
-    if at % 16 != 0 {
-        return false;
-    }
-    if at < 16 {
-        return false;
-    }
-    if END < at {
-        return false;
-    }
-    base.of_block(Block(n)).0 <= END
+    base.is_base(n)
 }
 
 // Refusals 1 and 2, of every call but init.
@@ -61,7 +48,7 @@ pub fn request(base: Address, pool: &[u8], table: &[u8], bytes: Bytes) -> u32
     if r != 0 {
         return r;
     }
-    if bytes.0 == 0 {
+    if bytes.is_zero() {
         return 5;
     }
     0
@@ -94,7 +81,7 @@ fn named(table: &[u8], k: Block) -> u32
     requires { ⌜ length (now table) ≤ 1024 ⌝ }
     ensures { λ r. ⌜ r ≡ firstOf (nameTests (heapOf [] (now (table .entry))) (k .0)) ⌝ }
 {
-    if entries::blocks(table) <= k.0 {
+    if !k.is_below(entries::blocks(table)) {
         return 6;
     }
     if entries::entry(table, k) != entries::HEAD {

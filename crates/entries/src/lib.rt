@@ -33,7 +33,7 @@ pub fn entry(table: &[u8], k: Block) -> u8
     requires { ⌜ k .0 < length (entriesOf (now table)) ⌝ }
     ensures { λ r. ⌜ r ≡ entryAt (entriesOf (now (table .entry))) (k .0) ⌝ }
 {
-    let i = k.0;
+    let i = k.index();
     (table[i / 4] >> (2 * (i % 4))) & 3
 }
 
@@ -51,7 +51,7 @@ pub fn set_entry(table: &mut [u8], k: Block, e: u8)
     requires { ⌜ (k .0 < length (entriesOf (now table))) × (e < 4) ⌝ }
     ensures { λ _. ⌜ entriesOf (now (table .exit)) ≡ set (entriesOf (now (table .entry))) (k .0) e ⌝ }
 {
-    let i = k.0;
+    let i = k.index();
     put(table, i / 4, i % 4, e);
 }
 
@@ -60,7 +60,7 @@ pub fn set_run(table: &mut [u8], from: Block, count: usize, e: u8)
     requires { ⌜ (from .0 + count ≤ length (entriesOf (now table))) × (e < 4) ⌝ }
     ensures { λ _. ⌜ entriesOf (now (table .exit)) ≡ sets (entriesOf (now (table .entry))) (from .0) (replicate count e) ⌝ }
 {
-    let first = from.0;
+    let first = from.index();
     let mut i = 0;
     while i < count {
         let j = first % 4 + i % 4;
@@ -156,7 +156,7 @@ pub fn skip(table: &[u8], from: Block, count: usize) -> Block
     requires { ⌜ (length (now table) ≤ 1024) × ((from .0 ≤ length (entriesOf (now table))) × (0 < count)) ⌝ }
     ensures { λ r. ⌜ (r .0 ≤ length (entriesOf (now (table .entry)))) × ((from .0 ≤ r .0) × NoStart (entriesOf (now (table .entry))) count (from .0) (r .0)) ⌝ }
 {
-    let first = from.0;
+    let first = from.index();
     if first % 4 != 0 {
         return from;
     }
@@ -171,9 +171,9 @@ pub fn skip(table: &[u8], from: Block, count: usize) -> Block
     let mut i = pass_by_16(table, byte + 1, count);
     while 1 < n - i {
         if may_start(table, i, count) != 0 {
-            return Block(4 * i);
+            return Block::first().plus(4 * i);
         }
         i += 1;
     }
-    Block(4 * i)
+    Block::first().plus(4 * i)
 }

@@ -14,44 +14,54 @@ fn init(example: u64, base: u64) {
     print::begin(example, &table);
     print::text(b" init at base ");
     print::number(base);
-    let refusal = heap::init(Address(base), &pool, &mut table);
+    let refusal = heap::init(Address::of_number(base), &pool, &mut table);
     print::refusal(refusal);
     print::end(&table);
 }
 
-fn allocate(example: u64, pool: &mut [u8; 128], table: &mut [u8; 2], bytes: usize) {
+fn allocate(example: u64, pool: &mut [u8; 128], table: &mut [u8; 2], bytes: u64) {
     print::begin(example, &*table);
     print::text(b" allocate ");
     print::bytes(bytes);
-    let r = heap::allocate(Address(BASE), &mut *pool, &mut *table, Bytes(bytes));
+    let r = heap::allocate(
+        Address::of_number(BASE),
+        &mut *pool,
+        &mut *table,
+        Bytes::of_number(bytes),
+    );
     print::refusal(r.refusal);
     print::block(r.block);
     print::change(r.change);
     print::end(&*table);
 }
 
-fn free(example: u64, pool: &[u8; 128], table: &mut [u8; 2], k: usize) {
+fn free(example: u64, pool: &[u8; 128], table: &mut [u8; 2], k: u64) {
     print::begin(example, &*table);
     print::text(b" free block ");
-    print::number(k as u64);
-    let r = heap::free(Address(BASE), pool, &mut *table, Block(k));
+    print::number(k);
+    let r = heap::free(
+        Address::of_number(BASE),
+        pool,
+        &mut *table,
+        Block::of_number(k),
+    );
     print::refusal(r.refusal);
     print::change(r.change);
     print::end(&*table);
 }
 
-fn reallocate(example: u64, pool: &mut [u8; 128], table: &mut [u8; 2], k: usize, bytes: usize) {
+fn reallocate(example: u64, pool: &mut [u8; 128], table: &mut [u8; 2], k: u64, bytes: u64) {
     print::begin(example, &*table);
     print::text(b" reallocate block ");
-    print::number(k as u64);
+    print::number(k);
     print::text(b" to ");
     print::bytes(bytes);
     let r = heap::reallocate(
-        Address(BASE),
+        Address::of_number(BASE),
         &mut *pool,
         &mut *table,
-        Block(k),
-        Bytes(bytes),
+        Block::of_number(k),
+        Bytes::of_number(bytes),
     );
     print::refusal(r.refusal);
     print::block(r.block);
@@ -62,7 +72,7 @@ fn reallocate(example: u64, pool: &mut [u8; 128], table: &mut [u8; 2], k: usize,
 fn survey(example: u64, pool: &[u8; 128], table: &[u8; 2]) {
     print::begin(example, table);
     print::text(b" survey");
-    let r = heap::survey(Address(BASE), pool, table);
+    let r = heap::survey(Address::of_number(BASE), pool, table);
     print::refusal(r.refusal);
     print::part(b"used", r.used);
     print::part(b"objects", r.objects);
@@ -70,27 +80,40 @@ fn survey(example: u64, pool: &[u8; 128], table: &[u8; 2]) {
     print::end(table);
 }
 
-fn load(example: u64, pool: &[u8; 128], table: &[u8; 2], k: usize, i: usize) {
+fn load(example: u64, pool: &[u8; 128], table: &[u8; 2], k: u64, i: usize) {
     print::begin(example, table);
     print::text(b" load word ");
     print::number(i as u64);
     print::text(b" of block ");
-    print::number(k as u64);
-    let r = heap::load(Address(BASE), pool, table, Block(k), i);
+    print::number(k);
+    let r = heap::load(
+        Address::of_number(BASE),
+        pool,
+        table,
+        Block::of_number(k),
+        i,
+    );
     print::refusal(r.refusal);
     print::part(b"value", r.value);
     print::end(table);
 }
 
-fn store(example: u64, pool: &mut [u8; 128], table: &[u8; 2], k: usize, i: usize, w: u32) {
+fn store(example: u64, pool: &mut [u8; 128], table: &[u8; 2], k: u64, i: usize, w: u32) {
     print::begin(example, table);
     print::text(b" store ");
     print::number(w as u64);
     print::text(b" in word ");
     print::number(i as u64);
     print::text(b" of block ");
-    print::number(k as u64);
-    let refusal = heap::store(Address(BASE), &mut *pool, table, Block(k), i, w);
+    print::number(k);
+    let refusal = heap::store(
+        Address::of_number(BASE),
+        &mut *pool,
+        table,
+        Block::of_number(k),
+        i,
+        w,
+    );
     print::refusal(refusal);
     print::end(table);
 }
@@ -99,13 +122,20 @@ fn store(example: u64, pool: &mut [u8; 128], table: &[u8; 2], k: usize, i: usize
 fn collect(example: u64, roots: &[u8], stack: &mut [u8]) {
     let mut pool = [0u8; 128];
     let mut table = [165u8, 169];
-    heap::store(Address(BASE), &mut pool, &table, Block(4), 0, 4096);
+    heap::store(
+        Address::of_number(BASE),
+        &mut pool,
+        &table,
+        Block::of_number(4),
+        0,
+        4096,
+    );
     print::begin(example, &table);
     print::text(b" collect from");
     print::root(roots);
     print::text(b" with a stack of ");
     print::number((stack.len() / 4) as u64);
-    let r = collector::collect(Address(BASE), &pool, &mut table, roots, stack);
+    let r = collector::collect(Address::of_number(BASE), &pool, &mut table, roots, stack);
     print::refusal(r.refusal);
     print::part(b"kept", r.kept);
     print::part(b"rescans", r.rescans);

@@ -9,8 +9,8 @@ pub fn number(n: u64) {
     io::print_decimal(1, n);
 }
 
-pub fn bytes(n: usize) {
-    number(n as u64);
+pub fn bytes(n: u64) {
+    number(n);
     text(b" byte");
     if n != 1 {
         text(b"s");
@@ -42,7 +42,7 @@ pub fn refusal(n: u32) {
 
 pub fn block(k: Block) {
     text(b", block ");
-    number(k.0 as u64);
+    number(k.number());
 }
 
 // A change in used blocks, with its sign.

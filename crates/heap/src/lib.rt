@@ -60,7 +60,7 @@ pub fn allocate(base: Address, pool: &mut [u8], table: &mut [u8], bytes: Bytes) 
     if r != 0 {
         return unplaced(r);
     }
-    if pool.len() < bytes.0 {
+    if !bytes.fits_in(&*pool) {
         return unplaced(9);
     }
     let count = bytes.blocks();
@@ -83,7 +83,7 @@ fn unplaced(refusal: u32) -> Placed
 {
     Placed {
         refusal,
-        block: Block(0),
+        block: Block::of_number(0),
         change: 0,
     }
 }
@@ -103,9 +103,7 @@ fn clear_blocks(pool: &mut [u8], k: Block, count: usize)
     requires { ⌜ (k .0 + count ≤ 4096) × (16 * (k .0 + count) ≤ length (now pool)) ⌝ }
     ensures { λ _. ⌜ now (pool .exit) ≡ clearedBlocks (now (pool .entry)) (k .0) count ⌝ }
 {
-    let start = k.offset().0;
-    let end = k.plus(count).offset().0;
-    memory::clear(&mut pool[start..end]);
+    memory::clear_part(pool, k.offset(), k.plus(count).offset());
 }
 
 // The object's blocks become FREE. Its bytes stay.
@@ -141,7 +139,7 @@ pub fn reallocate(
     if r != 0 {
         return unplaced(r);
     }
-    if pool.len() < bytes.0 {
+    if !bytes.fits_in(&*pool) {
         return unplaced(9);
     }
     let old = table::block_count(&*table, k);

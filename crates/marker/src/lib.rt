@@ -202,10 +202,10 @@ fn rescan(base: Address, pool: &[u8], table: &mut [u8], stack: &mut [u8]) -> boo
 {
     let n = entries::blocks(&*table);
     let mut overflow = false;
-    let mut i = 0;
-    while i < n {
-        overflow = rescan_block(base, pool, &mut *table, &mut *stack, overflow, Block(i));
-        i += 1;
+    let mut k = Block::first();
+    while k.is_below(n) {
+        overflow = rescan_block(base, pool, &mut *table, &mut *stack, overflow, k);
+        k = k.plus(1);
     }
     overflow
 }

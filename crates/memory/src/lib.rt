@@ -1,23 +1,28 @@
-// Numbers by kind, words in bytes, and parts of the pool. Only this crate knows the byte order.
+// Numbers by kind, words in bytes, and parts of the pool. Only this crate knows the byte order, and only its functions make a number of
+// a kind or pass between the kinds: the fields are private.
 ghost use mathlib.Core.Path.{_≡_};
 ghost use mathlib.Core.Logic.{_⊎_};
-ghost use Prim.Native.Nat.{_+_, _*_, _/_, _≤_, _<_, _^_};
+ghost use Prim.Native.Nat.{_+_, _-_, _*_, _/_, _≤_, _<_, _^_};
+ghost use lib.Dec.{eqb, leb, ltb};
 ghost use lib.IntN.{pos, negℤ, subℕ};
 ghost use lib.ListN.{length, take, drop, replicate};
 ghost use lib.Seq.{sets};
 ghost use Rattle.rules.specs.Words.{number, wordAt, withWord};
-ghost use Rattle.rules.specs.Pointers.{addressOf, targetOf};
+ghost use Rattle.rules.specs.Pointers.{addressOf, goodBase, targetOf};
 ghost use Rattle.rules.specs.Calls.{blocksFor};
 ghost use Rattle.memory.specs.Places.{found};
 
 // A block's number in the pool, from 0.
-pub struct Block(pub usize);
+pub struct Block(usize);
 
 // An address. A base that is not tested yet may be any number; that of a block fits a word, and the end of the last is at most 2^32.
-pub struct Address(pub u64);
+pub struct Address(u64);
 
 // A count of bytes, or an offset into the pool.
-pub struct Bytes(pub usize);
+pub struct Bytes(usize);
+
+// The first number that is no address.
+const END: u64 = 4294967296;
 
 // The block that a search found or that an address is of, or none.
 pub enum Found {
@@ -26,12 +31,55 @@ pub enum Found {
 }
 
 impl Block {
+    // The pool's first block.
+    pub fn first() -> Block
+        ensures { λ r. ⌜ r .0 ≡ 0 ⌝ }
+    {
+        Block(0)
+    }
+
+    // The block whose number a caller gave. There may be no such block.
+    pub fn of_number(n: u64) -> Block
+        ensures { λ r. ⌜ r .0 ≡ n ⌝ }
+    {
+        Block(n as usize)
+    }
+
+    // The number for a caller.
+    pub fn number(self) -> u64
+        ensures { λ r. ⌜ r ≡ self .0 ⌝ }
+    {
+        self.0 as u64
+    }
+
+    // The index of the block's entry among the table's entries.
+    pub fn index(self) -> usize
+        ensures { λ r. ⌜ r ≡ self .0 ⌝ }
+    {
+        self.0
+    }
+
     // The block `count` blocks further on.
     pub fn plus(self, count: usize) -> Block
         requires { ⌜ self .0 + count < 2 ^ 32 ⌝ }
         ensures { λ r. ⌜ r .0 ≡ self .0 + count ⌝ }
     {
         Block(self.0 + count)
+    }
+
+    // Whether it is one of n blocks.
+    pub fn is_below(self, n: usize) -> bool
+        ensures { λ r. ⌜ r ≡ ltb (self .0) n ⌝ }
+    {
+        self.0 < n
+    }
+
+    // How many of n blocks there are from this one on.
+    pub fn until(self, n: usize) -> usize
+        requires { ⌜ self .0 ≤ n ⌝ }
+        ensures { λ r. ⌜ r ≡ n - self .0 ⌝ }
+    {
+        n - self.0
     }
 
     // Where the block's bytes start in the pool.
@@ -67,6 +115,34 @@ impl Block {
 }
 
 impl Bytes {
+    // So many bytes as a caller asked for.
+    pub fn of_number(n: u64) -> Bytes
+        ensures { λ r. ⌜ r .0 ≡ n ⌝ }
+    {
+        Bytes(n as usize)
+    }
+
+    // Whether there are none.
+    pub fn is_zero(self) -> bool
+        ensures { λ r. ⌜ r ≡ eqb (self .0) 0 ⌝ }
+    {
+        self.0 == 0
+    }
+
+    // Whether the part has so many bytes or more.
+    pub fn fits_in(self, part: &[u8]) -> bool
+        ensures { λ r. ⌜ r ≡ leb (self .0) (length (now (part .entry))) ⌝ }
+    {
+        self.0 <= part.len()
+    }
+
+    // Whether the part has exactly so many bytes.
+    pub fn is_length_of(self, part: &[u8]) -> bool
+        ensures { λ r. ⌜ r ≡ eqb (length (now (part .entry))) (self .0) ⌝ }
+    {
+        part.len() == self.0
+    }
+
     // How many blocks hold so many bytes.
     pub fn blocks(self) -> usize
         requires { ⌜ self .0 < 2 ^ 32 ⌝ }
@@ -85,8 +161,33 @@ impl Bytes {
 }
 
 impl Address {
+    // The address that a caller gave.
+    pub fn of_number(n: u64) -> Address
+        ensures { λ r. ⌜ r .0 ≡ n ⌝ }
+    {
+        Address(n)
+    }
+
+    // Whether n blocks can lie from here on: a multiple of 16, at least 16, with the end of the last block in the address space.
+    pub fn is_base(self, n: usize) -> bool
+        requires { ⌜ n < 2 ^ 32 ⌝ }
+        ensures { λ r. ⌜ r ≡ goodBase (self .0) n ⌝ }
+    {
+        let at = self.0;
+        if at % 16 != 0 {
+            return false;
+        }
+        if at < 16 {
+            return false;
+        }
+        if END < at {
+            return false;
+        }
+        self.of_block(Block(n)).0 <= END
+    }
+
     // The address of block k.
-    pub fn of_block(self, k: Block) -> Address
+    fn of_block(self, k: Block) -> Address
         requires { ⌜ (self .0 ≤ 2 ^ 32) × (k .0 < 2 ^ 32) ⌝ }
         ensures { λ r. ⌜ r .0 ≡ addressOf (self .0) (k .0) ⌝ }
     {
@@ -174,6 +275,16 @@ pub fn clear(part: &mut [u8])
         part[i] = 0;
         i += 1;
     }
+}
+
+// The pool's bytes from start to end become zero.
+pub fn clear_part(pool: &mut [u8], start: Bytes, end: Bytes)
+    requires { ⌜ (start .0 ≤ end .0) × (end .0 ≤ length (now pool)) ⌝ }
+    ensures { λ _. ⌜ now (pool .exit) ≡ sets (now (pool .entry)) (start .0) (replicate (end .0 - start .0) 0) ⌝ }
+{
+    let from = start.0;
+    let to = end.0;
+    clear(&mut pool[from..to]);
 }
 
 // The count bytes from `from` on are copied to `to`. The two parts do not overlap.

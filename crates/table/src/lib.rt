@@ -14,11 +14,10 @@ pub fn block_count(table: &[u8], k: Block) -> usize
     requires { ⌜ (length (now table) ≤ 1024) × (k .0 < length (entriesOf (now table))) ⌝ }
     ensures { λ r. ⌜ (r ≡ blockCount (entriesOf (now (table .entry))) (k .0)) × (k .0 + r ≤ length (entriesOf (now (table .entry)))) ⌝ }
 {
-    let n = entries::blocks(table);
-    let first = k.0;
+    let most = k.until(entries::blocks(table));
     let mut count = 1;
-    while first + count < n {
-        if entries::entry(table, Block(first + count)) != entries::TAIL {
+    while count < most {
+        if entries::entry(table, k.plus(count)) != entries::TAIL {
             return count;
         }
         count += 1;
@@ -31,14 +30,12 @@ pub fn is_free(table: &[u8], from: Block, count: usize) -> bool
     requires { ⌜ (length (now table) ≤ 1024) × (from .0 ≤ length (entriesOf (now table))) ⌝ }
     ensures { λ r. ⌜ r ≡ leb count (freeFrom (entriesOf (now (table .entry))) (from .0)) ⌝ }
 {
-    let n = entries::blocks(table);
-    let first = from.0;
-    if n - first < count {
+    if from.until(entries::blocks(table)) < count {
         return false;
     }
     let mut i = 0;
     while i < count {
-        if entries::entry(table, Block(first + i)) != entries::FREE {
+        if entries::entry(table, from.plus(i)) != entries::FREE {
             return false;
         }
         i += 1;
@@ -52,21 +49,17 @@ pub fn first_run(table: &[u8], count: usize) -> Found
     ensures { λ r. ⌜ found r ≡ firstRun (entriesOf (now (table .entry))) count ⌝ }
 {
     let n = entries::blocks(table);
-    if n < count {
-        return Found::Nowhere;
-    }
-    let last = n - count;
-    let mut start = entries::skip(table, Block(0), count).0;
-    'starts: while start <= last {
+    let mut start = entries::skip(table, Block::first(), count);
+    'starts: while count <= start.until(n) {
         let mut i = 0;
         while i < count {
-            if entries::entry(table, Block(start + i)) != entries::FREE {
-                start = entries::skip(table, Block(start + i + 1), count).0;
+            if entries::entry(table, start.plus(i)) != entries::FREE {
+                start = entries::skip(table, start.plus(i + 1), count);
                 continue 'starts;
             }
             i += 1;
         }
-        return Found::At(Block(start));
+        return Found::At(start);
     }
     Found::Nowhere
 }
@@ -104,9 +97,9 @@ pub fn longest(table: &[u8]) -> usize
     let n = entries::blocks(table);
     let mut best = 0;
     let mut run = 0;
-    let mut i = 0;
-    while i < n {
-        if entries::entry(table, Block(i)) == entries::FREE {
+    let mut k = Block::first();
+    while k.is_below(n) {
+        if entries::entry(table, k) == entries::FREE {
             run += 1;
         } else {
             run = 0;
@@ -114,7 +107,7 @@ pub fn longest(table: &[u8]) -> usize
         if best < run {
             best = run;
         }
-        i += 1;
+        k = k.plus(1);
     }
     best
 }

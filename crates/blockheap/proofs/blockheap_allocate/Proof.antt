@@ -5,11 +5,20 @@ use Rattle.rules.proofs.Blocks.{allocated-small}
 use Rattle.blockheap.proofs.blockheap_allocate.Statement.{statement}
 use Rattle.blockheap.proofs.blockheap_allocate.Tie as tie
 
+of-number-requires : tie.Need-of-number-requires
+of-number-requires c κs = search needs
+
+of-number-requires-2 : tie.Need-of-number-requires-2
+of-number-requires-2 c κs = search needs
+
 allocate-requires : tie.Need-allocate-requires
 allocate-requires c κs = search needs
 
+number-requires : tie.Need-number-requires
+number-requires c κs = search needs
+
 cast-block : tie.Need-cast-block
-cast-block c = omega (arith, allocated-small _ _ _ _ (c .before .before .before .before .before .allocate .ensures))
+cast-block c = omega (arith, c .number .ensures, allocated-small _ _ _ _ (c .before .before .before .before .before .allocate .ensures))
 
 same-length : tie.Need-same-length
 same-length c = search needs
@@ -18,7 +27,7 @@ same-length-2 : tie.Need-same-length-2
 same-length-2 c = search needs
 
 returns : tie.Need-returns
-returns c = search needs
+returns c = rw (c .before .number .ensures) (search (needs, rw (c .before .before .before .before .before .before .before .before .before .before .of-number .ensures, c .before .before .before .before .before .before .before .of-number2 .ensures) at (c .before .before .before .before .before .before .allocate .ensures)))
 
 pub blockheap-allocate-spec : {M : Type 1} → statement M
-blockheap-allocate-spec = tie.close (tie.spec allocate-requires cast-block same-length same-length-2 returns)
+blockheap-allocate-spec = tie.close (tie.spec of-number-requires of-number-requires-2 allocate-requires number-requires cast-block same-length same-length-2 returns)

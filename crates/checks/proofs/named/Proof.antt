@@ -3,9 +3,8 @@ use mathlib.Core.Path.{_≡_, sym, ap, _∙_}
 use mathlib.Core.Bool.{not}
 use mathlib.Core.List.{List, []}
 use Prim.Native.Nat.{ℕ, _≤_, _<_}
-use native.Mathlib.Omega.{arith}
 use borrow.Author.Needs.{needs}
-use borrow.Author.Tests.{eq-eqb, ne-eqb, le-leb, lt-leb}
+use borrow.Author.Tests.{eq-eqb, ne-eqb, le-leb, lt-leb, ltb-true, ltb-false, not-true, not-false}
 use lib.ListN.{length}
 use Rattle.rules.specs.Entries.{entriesOf, HEAD}
 use Rattle.rules.specs.Tables.{entryAt}
@@ -28,17 +27,24 @@ module _ (table : List ℕ) (k : ℕ) where
 blocks-requires : tie.Need-blocks-requires
 blocks-requires c κs = search needs
 
+is-below-requires : tie.Need-is-below-requires
+is-below-requires c κs = search needs
+
 returns : tie.Need-returns
-returns c = far _ _ (omega arith)
+returns c = far _ _ (rw (← c .before .before .blocks2 .ensures) (ltb-false _ _ (sym (c .before .is-below .ensures) ∙ not-true _ (c .if1 .taken))))
+
+-- once the block is one of the table's
+inside : (c : tie.Else1) → let a = c .before .before .before .before .args in a .k .0 < length (entriesOf (a .table .now))
+inside c = rw (← c .before .before .blocks2 .ensures) (ltb-true _ _ (sym (c .before .is-below .ensures) ∙ not-false _ (c .if1 .left)))
 
 entry-requires : tie.Need-entry-requires
-entry-requires c κs = search needs
+entry-requires c κs = inside c
 
 returns-2 : tie.Need-returns-2
-returns-2 c = other _ _ (omega arith) (λ e. c .if2 .taken (c .before .entry .ensures ∙ e))
+returns-2 c = other _ _ (inside (c .before .before)) (λ e. c .if2 .taken (c .before .entry .ensures ∙ e))
 
 returns-3 : tie.Need-returns-3
-returns-3 c = head _ _ (omega arith) (sym (c .before .entry .ensures) ∙ c .if2 .left)
+returns-3 c = head _ _ (inside (c .before .before)) (sym (c .before .entry .ensures) ∙ c .if2 .left)
 
 pub named-spec : {M : Type 1} → statement M
-named-spec = tie.close (tie.spec blocks-requires returns entry-requires returns-2 returns-3)
+named-spec = tie.close (tie.spec blocks-requires is-below-requires returns entry-requires returns-2 returns-3)

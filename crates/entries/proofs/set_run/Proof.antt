@@ -19,6 +19,9 @@ Inv-loop table₀ count e first i₀ table i =
 abbrev μ-loop : tie.MeasureT-loop
 μ-loop table₀ count e first i₀ table i = count - i
 
+index-requires : tie.Need-index-requires Inv-loop μ-loop
+index-requires c κs = search needs
+
 loop-holds : tie.Need-loop-holds Inv-loop μ-loop
 loop-holds c = (search needs, (search needs, refl))
 
@@ -26,13 +29,13 @@ add-j : tie.Need-add-j Inv-loop μ-loop
 add-j c = search needs
 
 add-put : tie.Need-add-put Inv-loop μ-loop
-add-put c = omega (arith, length-entriesOf (c .before .before .before .before .args .table .now))
+add-put c = omega (arith, length-entriesOf (c .before .before .before .before .before .args .table .now))
 
 add-put-2 : tie.Need-add-put-2 Inv-loop μ-loop
-add-put-2 c = omega (arith, length-entriesOf (c .before .before .before .before .args .table .now))
+add-put-2 c = omega (arith, length-entriesOf (c .before .before .before .before .before .args .table .now))
 
 put-requires : tie.Need-put-requires Inv-loop μ-loop
-put-requires c κs = omega (arith, length-entriesOf (c .before .before .before .before .args .table .now))
+put-requires c κs = omega (arith, length-entriesOf (c .before .before .before .before .before .args .table .now))
 
 add-i : tie.Need-add-i Inv-loop μ-loop
 add-i c = search needs
@@ -42,19 +45,20 @@ loop-less c = search needs
 
 loop-again : tie.Need-loop-again Inv-loop μ-loop
 loop-again c =
-    let a = c .before .before .before .before .before .before .before .args in
+    let a = c .before .before .before .before .before .before .before .before .args in
+    let first = c .before .before .before .before .before .before .index .result in
     let l = c .before .before .before .before .before .loop in
-    let j = a .from .0 % 4 + l .i % 4 in
-    let k : 4 * (a .from .0 / 4 + l .i / 4 + j / 4) + j % 4 ≡ a .from .0 + l .i = omega arith in
-    (omega arith, (c .before .before .put .kept .0 ∙ l .inv .1 .0, rw (k, l .inv .1 .1) at (c .before .before .put .ensures) ∙ sym (sets-more (entriesOf (a .table .now)) (a .from .0) (l .i) (a .e))))
+    let j = first % 4 + l .i % 4 in
+    let k : 4 * (first / 4 + l .i / 4 + j / 4) + j % 4 ≡ first + l .i = omega arith in
+    (omega arith, (c .before .before .put .kept .0 ∙ l .inv .1 .0, rw (k, l .inv .1 .1) at (c .before .before .put .ensures) ∙ sym (sets-more (entriesOf (a .table .now)) first (l .i) (a .e))))
 
 same-length : tie.Need-same-length Inv-loop μ-loop
 same-length c = search needs
 
 returns : tie.Need-returns Inv-loop μ-loop
 returns c =
-    let n : c .before .loop .i ≡ c .before .before .before .args .count = omega arith in
-    rw n at (c .before .loop .inv .1 .1)
+    let n : c .before .loop .i ≡ c .before .before .before .before .args .count = omega arith in
+    rw (n, c .before .before .index .ensures) at (c .before .loop .inv .1 .1)
 
 pub set-run-spec : {M : Type 1} → statement M
 set-run-spec =
@@ -62,6 +66,7 @@ set-run-spec =
     (tie.spec
     Inv-loop
     μ-loop
+    index-requires
     loop-holds
     add-j
     add-put

@@ -1,6 +1,8 @@
 -- `skip`: no run starts from `from` to before byte i. The first byte is passed alone, those after it by sixteens and then one by one.
 -- Assumes nothing.
-use Prim.Native.Nat.{_+_, _-_, _*_, _/_, _≤_}
+use mathlib.Core.Path.{_≡_}
+use mathlib.Core.List.{List}
+use Prim.Native.Nat.{ℕ, _+_, _-_, _*_, _/_, _≤_}
 use native.Mathlib.Omega.{arith}
 use lib.ListN.{length}
 use borrow.Author.Needs.{needs}
@@ -11,17 +13,25 @@ use Rattle.entries.proofs.Starts.{no-start-join}
 use Rattle.entries.proofs.skip.Statement.{statement}
 use Rattle.entries.proofs.skip.Tie as tie
 
+-- no run starts before `end`, and the answer is the block with this number
+answered : (es : List ℕ) (count : ℕ) {from first block : ℕ} (end : ℕ) → end ≤ length es → first ≡ from → block ≡ end → (first ≤ end) × NoStart es count first end
+    → (block ≤ length es) × ((from ≤ block) × NoStart es count from block)
+answered es count end room f b known = rw (b, ← f) (room, known)
+
 abbrev Inv-loop : tie.InvT-loop
 Inv-loop table count first n byte i₀ i = (i ≤ length table) × ((first ≤ 4 * i) × NoStart (entriesOf table) count first (4 * i))
 
 abbrev μ-loop : tie.MeasureT-loop
 μ-loop table count first n byte i₀ i = length table - i
 
+index-requires : tie.Need-index-requires Inv-loop μ-loop
+index-requires c κs = search needs
+
 returns : tie.Need-returns Inv-loop μ-loop
 returns c = (search needs, (search needs, λ q l h r. omega arith))
 
 sub-if2 : tie.Need-sub-if2 Inv-loop μ-loop
-sub-if2 c = omega (arith, length-entriesOf (c .before .before .args .table .now))
+sub-if2 c = omega (arith, length-entriesOf (c .before .before .before .args .table .now))
 
 returns-2 : tie.Need-returns-2 Inv-loop μ-loop
 returns-2 c = (search needs, (search needs, λ q l h r. omega arith))
@@ -40,13 +50,13 @@ pass-by-16-requires c κs = search needs
 
 loop-holds : tie.Need-loop-holds Inv-loop μ-loop
 loop-holds c =
-    let a = c .before .before .before .before .before .before .args in
-    let r = c .pass-by-16 .ensures in
-    let byte = a .from .0 / 4 in (
+    let a = c .before .before .before .before .before .before .before .args in
+    let first = c .before .before .before .before .before .index .result in
+    let r = c .pass-by-16 .ensures in (
       r .0,
       (
         omega arith,
-        no-start-join (entriesOf (a .table .now)) (a .count) (a .from .0) (4 * (byte + 1)) (4 * c .pass-by-16 .result)
+        no-start-join (entriesOf (a .table .now)) (a .count) first (4 * (first / 4 + 1)) (4 * c .pass-by-16 .result)
             (λ q h k. c .before .before .may-start .ensures (c .before .if3 .left) q (omega arith) (omega arith)) (r .1 .1),
       ),
     )
@@ -57,13 +67,20 @@ sub-loop c = search needs
 may-start-requires-2 : tie.Need-may-start-requires-2 Inv-loop μ-loop
 may-start-requires-2 c κs = search needs
 
-mul-t14 : tie.Need-mul-t14 Inv-loop μ-loop
-mul-t14 c = search needs
+first-requires : tie.Need-first-requires Inv-loop μ-loop
+first-requires c κs = search needs
+
+mul-plus : tie.Need-mul-plus Inv-loop μ-loop
+mul-plus c = search needs
+
+plus-requires : tie.Need-plus-requires Inv-loop μ-loop
+plus-requires c κs = search needs
 
 returns-4 : tie.Need-returns-4 Inv-loop μ-loop
 returns-4 c =
-    let l = c .before .before .before .loop in
-    (omega (arith, length-entriesOf (c .before .before .before .before .before .before .before .before .before .before .args .table .now)), l .inv .1)
+    let l = c .before .before .before .before .before in
+    let a = l .before .before .before .before .before .before .before .before .args in
+    answered (entriesOf (a .table .now)) (a .count) (4 * l .loop .i) (omega (arith, length-entriesOf (a .table .now))) (l .before .before .before .before .before .before .index .ensures) (omega (arith, c .plus .ensures, c .before .first .ensures)) (l .loop .inv .1)
 
 add-i : tie.Need-add-i Inv-loop μ-loop
 add-i c = search needs
@@ -73,23 +90,30 @@ loop-less c = search needs
 
 loop-again : tie.Need-loop-again Inv-loop μ-loop
 loop-again c =
-    let a = c .before .before .before .before .before .before .before .before .before .before .args in
+    let a = c .before .before .before .before .before .before .before .before .before .before .before .args in
     let l = c .before .before .before .loop in (
       omega arith,
       (
         omega arith,
-        no-start-join (entriesOf (a .table .now)) (a .count) (a .from .0) (4 * l .i) (4 * (l .i + 1)) (l .inv .1 .1)
+        no-start-join (entriesOf (a .table .now)) (a .count) (c .before .before .before .before .before .before .before .before .before .index .result) (4 * l .i) (4 * (l .i + 1)) (l .inv .1 .1)
             (λ q h k. c .before .may-start2 .ensures (c .if4 .left) q h (omega arith)),
       ),
     )
 
-mul-t8 : tie.Need-mul-t8 Inv-loop μ-loop
-mul-t8 c = search needs
+first-requires-2 : tie.Need-first-requires-2 Inv-loop μ-loop
+first-requires-2 c κs = search needs
+
+mul-plus-2 : tie.Need-mul-plus-2 Inv-loop μ-loop
+mul-plus-2 c = search needs
+
+plus-requires-2 : tie.Need-plus-requires-2 Inv-loop μ-loop
+plus-requires-2 c κs = search needs
 
 returns-5 : tie.Need-returns-5 Inv-loop μ-loop
 returns-5 c =
-    let l = c .before .loop in
-    (omega (arith, length-entriesOf (c .before .before .before .before .before .before .before .before .args .table .now)), l .inv .1)
+    let l = c .before .before .before in
+    let a = l .before .before .before .before .before .before .before .before .args in
+    answered (entriesOf (a .table .now)) (a .count) (4 * l .loop .i) (omega (arith, length-entriesOf (a .table .now))) (l .before .before .before .before .before .before .index .ensures) (omega (arith, c .plus2 .ensures, c .before .first2 .ensures)) (l .loop .inv .1)
 
 pub skip-spec : {M : Type 1} → statement M
 skip-spec =
@@ -97,6 +121,7 @@ skip-spec =
     (tie.spec
     Inv-loop
     μ-loop
+    index-requires
     returns
     sub-if2
     returns-2
@@ -107,10 +132,14 @@ skip-spec =
     loop-holds
     sub-loop
     may-start-requires-2
-    mul-t14
+    first-requires
+    mul-plus
+    plus-requires
     returns-4
     add-i
     loop-less
     loop-again
-    mul-t8
+    first-requires-2
+    mul-plus-2
+    plus-requires-2
     returns-5)

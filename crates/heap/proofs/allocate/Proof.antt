@@ -3,8 +3,10 @@ use mathlib.Core.Path.{_≡_, sym, ap, _∙_}
 use mathlib.Core.Option.{some}
 use native.Mathlib.Omega.{arith}
 use borrow.Author.Needs.{needs}
-use Prim.Native.Nat.{_<_}
+use borrow.Author.Tests.{leb-true, leb-false, not-true, not-false}
+use Prim.Native.Nat.{_≤_, _<_}
 use lib.IntN.{pos}
+use lib.ListN.{length}
 use Rattle.rules.specs.Entries.{entriesOf}
 use Rattle.rules.specs.Tables.{firstRun}
 use Rattle.rules.specs.Meaning.{Shape}
@@ -21,11 +23,15 @@ use Rattle.heap.proofs.allocate.Tie as tie
 knows-at : (c : tie.Else1) → let a = c .before .before .before .before .before .before .args in (0 < a .bytes .0) × Shape (a .base .0) (heapOf (a .pool .now) (a .table .now))
 knows-at c = let a = c .before .before .before .before .before .before .args in allocate-knows (a .base .0) (a .pool .now) (a .table .now) (a .bytes .0) (c .before .request .ensures) (c .if1 .left)
 
+-- and once the bytes fit in the pool
+room-at : (c : tie.Else2) → let a = c .before .before .before .before .before .before .before .before .before .args in a .bytes .0 ≤ length (a .pool .now)
+room-at c = leb-true _ _ (sym (c .before .fits-in .ensures) ∙ not-false _ (c .if2 .left))
+
 -- and once the start is found
 some-blocks : (c : tie.After-k) → 0 < c .before .before .before .before .blocks2 .result
-some-blocks c = rw (c .before .before .before .before .blocks2 .ensures) (blocks-some _ (knows-at (c .before .before .before .before .before .before .before) .0))
+some-blocks c = rw (c .before .before .before .before .blocks2 .ensures) (blocks-some _ (knows-at (c .before .before .before .before .before .before .before .before) .0))
 
-start-at : (c : tie.After-k) → firstRun (entriesOf (c .before .before .before .before .before .before .before .before .before .before .before .before .before .args .table .now)) (c .before .before .before .before .blocks2 .result) ≡ some (c .k .given .0 .0 .0)
+start-at : (c : tie.After-k) → firstRun (entriesOf (c .before .before .before .before .before .before .before .before .before .before .before .before .before .before .args .table .now)) (c .before .before .before .before .blocks2 .result) ≡ some (c .k .given .0 .0 .0)
 start-at c = sym (c .before .before .first-run .ensures) ∙ ap found (c .k .given .1)
 
 request-requires : tie.Need-request-requires
@@ -43,6 +49,9 @@ same-length-2 c = search needs
 returns : tie.Need-returns
 returns c = rw (c .unplaced .ensures) (allocate-refused _ _ _ _ (c .before .before .request .ensures) (c .before .if1 .taken))
 
+fits-in-requires : tie.Need-fits-in-requires
+fits-in-requires c κs = search needs
+
 unplaced-requires-2 : tie.Need-unplaced-requires-2
 unplaced-requires-2 c κs = search needs
 
@@ -54,17 +63,17 @@ same-length-4 c = search needs
 
 returns-2 : tie.Need-returns-2
 returns-2 c =
-    let a = c .before .before .before .before .before .before .before .before .before .args in
+    let a = c .before .before .before .before .before .before .before .before .before .before .args in
     rw (c .unplaced2 .ensures)
-    (allocate-full _ _ _ _ (c .before .before .before .before .request .ensures) (c .before .before .before .if1 .left)
-    (request-nowhere (entriesOf (a .table .now)) (a .pool .now) (a .bytes .0) (knows-at (c .before .before .before) .1 .pool) (c .before .if2 .taken)))
+    (allocate-full _ _ _ _ (c .before .before .before .before .before .request .ensures) (c .before .before .before .before .if1 .left)
+    (request-nowhere (entriesOf (a .table .now)) (a .pool .now) (a .bytes .0) (knows-at (c .before .before .before .before) .1 .pool) (leb-false _ _ (sym (c .before .before .fits-in .ensures) ∙ not-true _ (c .before .if2 .taken)))))
 
 blocks-requires : tie.Need-blocks-requires
-blocks-requires c κs = let shape = knows-at (c .before .before) .1 in omega (arith, shape .pool, shape .few)
+blocks-requires c κs = let shape = knows-at (c .before .before .before) .1 in omega (arith, room-at c, shape .pool, shape .few)
 
 first-run-requires : tie.Need-first-run-requires
 first-run-requires c κs =
-    let knows = knows-at (c .before .before .before .before) in
+    let knows = knows-at (c .before .before .before .before .before) in
     (few-bytes _ _ _ (knows .1), rw (c .before .blocks2 .ensures) (blocks-some _ (knows .0)))
 
 enum-known-k : tie.Need-enum-known-k
@@ -73,13 +82,13 @@ enum-known-k c = search needs
 take-requires : tie.Need-take-requires
 take-requires c κs =
     let m = c .before .before .before in
-    let shape = knows-at (c .before .before .before .before .before .before .before .before .before .before) .1 in
+    let shape = knows-at (c .before .before .before .before .before .before .before .before .before .before .before) .1 in
     ((few-bytes _ _ _ shape, some-blocks m), (first-run _ _ _ (some-blocks m) (start-at m) .room, omega (arith, shape .pool)))
 
 difference-requires : tie.Need-difference-requires
 difference-requires c κs =
-    let shape = knows-at (c .before .before .before .before .before .before .before .before .before .before .before .before .before .before .before) .1 in
-    let few = blocks-least (c .before .before .before .before .before .before .before .before .before .before .before .before .before .before .before .before .before .before .before .before .before .args .bytes .0) 4096 (omega (arith, shape .pool, shape .few)) in
+    let shape = knows-at (c .before .before .before .before .before .before .before .before .before .before .before .before .before .before .before .before) .1 in
+    let few = blocks-least (c .before .before .before .before .before .before .before .before .before .before .before .before .before .before .before .before .before .before .before .before .before .before .args .bytes .0) 4096 (omega (arith, room-at (c .before .before .before .before .before .before .before .before .before .before .before .before .before), shape .pool, shape .few)) in
     omega arith
 
 enum-told : tie.Need-enum-told
@@ -98,7 +107,7 @@ returns-3 : tie.Need-returns-3
 returns-3 c =
     let m = c .before .before .before .before .before .before .before .before .before in
     let count = m .before .before .before .before .blocks2 .ensures in
-    allocate-done _ _ _ _ (c .before .before .before .before .before .before .before .before .before .before .before .before .before .before .before .before .before .request .ensures) _ _ _ _ (c .before .before .before .before .before .before .before .before .before .before .before .before .before .before .before .before .if1 .left)
+    allocate-done _ _ _ _ (c .before .before .before .before .before .before .before .before .before .before .before .before .before .before .before .before .before .before .request .ensures) _ _ _ _ (c .before .before .before .before .before .before .before .before .before .before .before .before .before .before .before .before .before .if1 .left)
     (rw count at (start-at m))
     (rw count at (c .before .before .before .before .before .take .ensures))
     (signed _ (c .difference .ok) ∙ c .difference .ensures ∙ gained _ ∙ ap pos count)
@@ -112,7 +121,7 @@ same-length-8 c = search needs
 returns-4 : tie.Need-returns-4
 returns-4 c =
     rw (c .unplaced3 .ensures)
-    (allocate-full _ _ _ _ (c .before .before .before .before .before .before .before .before .before .request .ensures) (c .before .before .before .before .before .before .before .before .if1 .left)
+    (allocate-full _ _ _ _ (c .before .before .before .before .before .before .before .before .before .before .request .ensures) (c .before .before .before .before .before .before .before .before .before .if1 .left)
     (rw (c .before .before .before .before .before .blocks2 .ensures) at (sym (c .before .before .before .first-run .ensures) ∙ ap found (c .before .enum-told .given .1))))
 
 pub allocate-spec : {M : Type 1} → statement M
@@ -124,6 +133,7 @@ allocate-spec =
     same-length
     same-length-2
     returns
+    fits-in-requires
     unplaced-requires-2
     same-length-3
     same-length-4

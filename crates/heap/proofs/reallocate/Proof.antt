@@ -9,7 +9,7 @@ use native.Mathlib.Omega.{arith}
 use lib.Dec.{leb}
 use lib.ListN.{length}
 use borrow.Author.Needs.{needs}
-use borrow.Author.Tests.{leb-true, leb-false}
+use borrow.Author.Tests.{leb-true, leb-false, not-true, not-false}
 use Rattle.rules.specs.Entries.{entriesOf}
 use Rattle.rules.specs.Tables.{blockCount, freeFrom}
 use Rattle.rules.specs.Outcomes.{heapOf, onlyRefusal, leaves}
@@ -56,11 +56,15 @@ module _ (table : List ℕ) (k b n end : ℕ) {r : Bool} (e : r ≡ leb n (freeF
   full f run = omega (arith, rw at at (leb-false n (freeFrom (entriesOf table) end) (sym e ∙ f)), run-le (entriesOf table) n (k + b) run)
 
 -- where the check has passed, the object is held
-accepted : (c : tie.After-block-count-arg) → let a = c .before .before .before .before .before .before .before .before .before .args in firstOf (resizeTests (a .base .0) (heapOf (a .pool .now) (a .table .now)) (a .k .0) (a .bytes .0)) ≡ 0
-accepted c = sym (c .before .before .before .before .resize .ensures) ∙ c .before .before .before .if1 .left
+accepted : (c : tie.After-block-count-arg) → let a = c .before .before .before .before .before .before .before .before .before .before .args in firstOf (resizeTests (a .base .0) (heapOf (a .pool .now) (a .table .now)) (a .k .0) (a .bytes .0)) ≡ 0
+accepted c = sym (c .before .before .before .before .before .resize .ensures) ∙ c .before .before .before .before .if1 .left
 
-held : (c : tie.After-block-count) → let a = c .before .before .before .before .before .before .before .before .before .before .args in Held (a .pool .now) (a .table .now) (a .k .0) (c .block-count .result)
-held c = let a = c .before .before .before .before .before .before .before .before .before .before .args in object (a .base .0) _ _ _ (a .bytes .0) (accepted (c .before)) _ (c .block-count .ensures .0)
+-- and the bytes fit in the pool
+room : (c : tie.Else2) → let a = c .before .before .before .before .before .before .before .before .before .args in a .bytes .0 ≤ length (a .pool .now)
+room c = leb-true _ _ (sym (c .before .fits-in .ensures) ∙ not-false _ (c .if2 .left))
+
+held : (c : tie.After-block-count) → let a = c .before .before .before .before .before .before .before .before .before .before .before .args in Held (a .pool .now) (a .table .now) (a .k .0) (c .block-count .result)
+held c = let a = c .before .before .before .before .before .before .before .before .before .before .before .args in object (a .base .0) _ _ _ (a .bytes .0) (accepted (c .before)) _ (c .block-count .ensures .0)
 
 resize-requires : tie.Need-resize-requires
 resize-requires c κs = tt
@@ -77,6 +81,9 @@ same-length-2 c = search needs
 returns : tie.Need-returns
 returns c = rw (c .unplaced .ensures) (reallocate-refused _ _ _ _ (c .before .before .resize .ensures) (c .before .if1 .taken))
 
+fits-in-requires : tie.Need-fits-in-requires
+fits-in-requires c κs = tt
+
 unplaced-requires-2 : tie.Need-unplaced-requires-2
 unplaced-requires-2 c κs = tt
 
@@ -87,16 +94,16 @@ same-length-4 : tie.Need-same-length-4
 same-length-4 c = search needs
 
 returns-2 : tie.Need-returns-2
-returns-2 c = rw (c .unplaced2 .ensures) (too-long _ _ _ _ _ (sym (c .before .before .before .before .resize .ensures) ∙ c .before .before .before .if1 .left) (c .before .if2 .taken))
+returns-2 c = rw (c .unplaced2 .ensures) (too-long _ _ _ _ _ (sym (c .before .before .before .before .before .resize .ensures) ∙ c .before .before .before .before .if1 .left) (leb-false _ _ (sym (c .before .before .fits-in .ensures) ∙ not-true _ (c .before .if2 .taken))))
 
 block-count-requires : tie.Need-block-count-requires
 block-count-requires c κs =
-    let a = c .before .before .before .before .before .before .before .before .before .args in
+    let a = c .before .before .before .before .before .before .before .before .before .before .args in
     let o = object (a .base .0) _ _ _ (a .bytes .0) (accepted c) _ refl in
     (o .few, o .inside)
 
 blocks-requires : tie.Need-blocks-requires
-blocks-requires c κs = omega (arith, held c .long, held-few (held c), c .before .before .if2 .left)
+blocks-requires c κs = omega (arith, held c .long, held-few (held c), room (c .before .before))
 
 shrink-requires : tie.Need-shrink-requires
 shrink-requires c κs =
@@ -145,7 +152,7 @@ returns-4 c =
 relocate-requires : tie.Need-relocate-requires
 relocate-requires c κs =
     let n = c .before .before .before .before .before .before in
-    (held (n .before .before), (omega arith, within _ _ _ _ _ (accepted (n .before .before .before)) _ (n .before .blocks2 .ensures) (n .before .before .before .before .if2 .left)))
+    (held (n .before .before), (omega arith, within _ _ _ _ _ (accepted (n .before .before .before)) _ (n .before .blocks2 .ensures) (room (n .before .before .before .before))))
 
 same-length-9 : tie.Need-same-length-9
 same-length-9 c = search needs
@@ -168,6 +175,7 @@ reallocate-spec =
     same-length
     same-length-2
     returns
+    fits-in-requires
     unplaced-requires-2
     same-length-3
     same-length-4

@@ -16,10 +16,10 @@ use Rattle.table.proofs.block_count.Statement.{statement}
 use Rattle.table.proofs.block_count.Tie as tie
 
 abbrev Inv-loop : tie.InvT-loop
-Inv-loop table n first count₀ count = ((0 < count) × (first + count ≤ n)) × ((j : ℕ) → j < count → 0 < j → entryAt (entriesOf table) (first + j) ≡ TAIL)
+Inv-loop table k most count₀ count = ((0 < count) × (count ≤ most)) × ((j : ℕ) → j < count → 0 < j → entryAt (entriesOf table) (k .0 + j) ≡ TAIL)
 
 abbrev μ-loop : tie.MeasureT-loop
-μ-loop table n first count₀ count = n - count
+μ-loop table k most count₀ count = most - count
 
 -- TAILs in the b blocks from k on, save the first, and none after them
 counted : (es : List ℕ) (k b : ℕ) → 0 < b → k + b ≤ length es → ((j : ℕ) → j < b → 0 < j → entryAt es (k + j) ≡ TAIL) → entryAt es (k + b) ≢ TAIL
@@ -29,22 +29,29 @@ counted es k b h r tails next = (sym (count-is es k b (record { some-block = h; 
 blocks-requires : tie.Need-blocks-requires Inv-loop μ-loop
 blocks-requires c κs = search needs
 
+until-requires : tie.Need-until-requires Inv-loop μ-loop
+until-requires c κs = search needs
+
 loop-holds : tie.Need-loop-holds Inv-loop μ-loop
 loop-holds c = (search needs, λ j l m. absurd (omega arith))
 
-add-loop : tie.Need-add-loop Inv-loop μ-loop
-add-loop c = record { fits = omega (arith, c .before .before .before .pre .0, length-entriesOf (c .before .before .before .args .table .now)) }
-
-add-t6 : tie.Need-add-t6 Inv-loop μ-loop
-add-t6 c = search needs
+plus-requires : tie.Need-plus-requires Inv-loop μ-loop
+plus-requires c κs =
+    let s = c .before .before .before .before .before in
+    omega (arith, s .pre .0, length-entriesOf (s .args .table .now))
 
 entry-requires : tie.Need-entry-requires Inv-loop μ-loop
 entry-requires c κs = search needs
 
+-- what is read is the entry `count` blocks after k
+entry-is : (c : tie.After-entry Inv-loop μ-loop)
+    → let a = c .before .before .before .before .before .before .before .args in c .entry .result ≡ entryAt (entriesOf (a .table .now)) (a .k .0 + c .before .before .before .loop .count)
+entry-is c = rw (← c .before .plus .ensures) (c .entry .ensures)
+
 returns : tie.Need-returns Inv-loop μ-loop
 returns c =
-    let l = c .before .before .before .loop in
-    counted _ _ (l .count) (omega arith) (omega arith) (l .inv .1) (λ t. c .if1 .taken (c .before .entry .ensures ∙ t))
+    let l = c .before .before .before .before .loop in
+    counted _ _ (l .count) (omega arith) (omega arith) (l .inv .1) (λ t. c .if1 .taken (entry-is (c .before) ∙ t))
 
 add-count : tie.Need-add-count Inv-loop μ-loop
 add-count c = search needs
@@ -54,13 +61,13 @@ loop-less c = search needs
 
 loop-again : tie.Need-loop-again Inv-loop μ-loop
 loop-again c =
-    let l = c .before .before .before .loop in
-    (search needs, below-more _ _ (l .inv .1) (λ m. sym (c .before .entry .ensures) ∙ c .if1 .left))
+    let l = c .before .before .before .before .loop in
+    (search needs, below-more _ _ (l .inv .1) (λ m. sym (entry-is (c .before)) ∙ c .if1 .left))
 
 returns-2 : tie.Need-returns-2 Inv-loop μ-loop
 returns-2 c =
     let l = c .before .loop in
-    let a = c .before .before .before .before .args in
+    let a = c .before .before .before .before .before .args in
     let es = entriesOf (a .table .now) in
     counted es (a .k .0) (l .count) (omega arith) (omega arith) (l .inv .1) (λ t. omega (arith, t, entry-outside es (a .k .0 + l .count) (omega arith)))
 
@@ -71,9 +78,9 @@ block-count-spec =
     Inv-loop
     μ-loop
     blocks-requires
+    until-requires
     loop-holds
-    add-loop
-    add-t6
+    plus-requires
     entry-requires
     returns
     add-count

@@ -17,45 +17,56 @@ use Rattle.table.proofs.first_run.Statement.{statement}
 use Rattle.table.proofs.first_run.Tie as tie
 
 abbrev Inv-loop : tie.InvT-loop
-Inv-loop table count n last start₀ i₀ start i = ((start ≡ start₀) × (i ≤ count)) × ((j : ℕ) → j < i → entryAt (entriesOf table) (start₀ + j) ≡ FREE)
+Inv-loop table count n start₀ i₀ start i = ((start .0 ≡ start₀ .0) × (i ≤ count)) × ((j : ℕ) → j < i → entryAt (entriesOf table) (start₀ .0 + j) ≡ FREE)
 
 abbrev μ-loop : tie.MeasureT-loop
-μ-loop table count n last start₀ i₀ start i = count - i
+μ-loop table count n start₀ i₀ start i = count - i
 
 abbrev Inv-starts : tie.InvT-starts
-Inv-starts table count n last start₀ start = (q : ℕ) → q < start → Run (entriesOf table) count q → ⊥
+Inv-starts table count n start₀ start = (start .0 ≤ n) × ((q : ℕ) → q < start .0 → Run (entriesOf table) count q → ⊥)
 
 abbrev μ-starts : tie.MeasureT-starts
-μ-starts table count n last start₀ start = n + 1 - start
+μ-starts table count n start₀ start = n - start .0
 
 blocks-requires : tie.Need-blocks-requires Inv-loop μ-loop Inv-starts μ-starts
 blocks-requires c κs = search needs
 
-returns : tie.Need-returns Inv-loop μ-loop Inv-starts μ-starts
-returns c = sym (none-first _ _ (search needs) (λ q r. omega (arith, r .room)))
+first-requires : tie.Need-first-requires Inv-loop μ-loop Inv-starts μ-starts
+first-requires c κs = search needs
 
 skip-requires : tie.Need-skip-requires Inv-loop μ-loop Inv-starts μ-starts
 skip-requires c κs = search needs
 
 starts-holds : tie.Need-starts-holds Inv-loop μ-loop Inv-starts μ-starts
-starts-holds c = λ q l. c .skip .ensures .1 .1 q (omega arith) l
+starts-holds c = (search needs, λ q l. c .skip .ensures .1 .1 q (omega arith) l)
+
+until-requires : tie.Need-until-requires Inv-loop μ-loop Inv-starts μ-starts
+until-requires c κs = search needs
 
 loop-holds : tie.Need-loop-holds Inv-loop μ-loop Inv-starts μ-starts
 loop-holds c = (search needs, λ j l. absurd (omega arith))
 
-add-t13 : tie.Need-add-t13 Inv-loop μ-loop Inv-starts μ-starts
-add-t13 c = search needs
+plus-requires : tie.Need-plus-requires Inv-loop μ-loop Inv-starts μ-starts
+plus-requires c κs =
+    let s = c .before .before .before .before .before .before .before .before .before in
+    omega (arith, s .pre .0, length-entriesOf (s .args .table .now))
 
 entry-requires : tie.Need-entry-requires Inv-loop μ-loop Inv-starts μ-starts
 entry-requires c κs = search needs
 
-add-t16 : tie.Need-add-t16 Inv-loop μ-loop Inv-starts μ-starts
-add-t16 c = search needs
+-- what is read is the entry i blocks after the start in hand
+entry-is : (c : tie.After-entry Inv-loop μ-loop Inv-starts μ-starts)
+    → let s = c .before .before .before .before .before .before in
+    c .entry .result ≡ entryAt (entriesOf (s .before .before .before .before .before .args .table .now)) (s .starts .start .0 + c .before .before .before .loop .i)
+entry-is c = rw (← c .before .before .before .loop .inv .0 .0, ← c .before .plus .ensures) (c .entry .ensures)
 
-add-t17 : tie.Need-add-t17 Inv-loop μ-loop Inv-starts μ-starts
-add-t17 c =
-    let s = c .before .before .before .before .before .before .before .before .before .before in
-    omega (arith, s .pre, length-entriesOf (s .args .table .now))
+add-plus : tie.Need-add-plus Inv-loop μ-loop Inv-starts μ-starts
+add-plus c = search needs
+
+plus-requires-2 : tie.Need-plus-requires-2 Inv-loop μ-loop Inv-starts μ-starts
+plus-requires-2 c κs =
+    let s = c .before .before .before .before .before .before .before .before .before .before .before .before in
+    omega (arith, s .pre .0, length-entriesOf (s .args .table .now))
 
 skip-requires-2 : tie.Need-skip-requires-2 Inv-loop μ-loop Inv-starts μ-starts
 skip-requires-2 c κs = search needs
@@ -65,12 +76,14 @@ starts-less c = search needs
 
 starts-again : tie.Need-starts-again Inv-loop μ-loop Inv-starts μ-starts
 starts-again c =
-    let l = c .before .before .before .before in
-    let e = l .loop .inv .0 .0 in
-    let t = c .before in
-    λ q. no-start-join _ _ 0 _ _
-    (λ q z h. run-skip _ _ _ (l .loop .i) (l .before .before .starts .inv) (search needs) (λ z. t .if2 .taken (t .before .entry .ensures ∙ rw e z)) q (omega arith))
-    (c .skip2 .ensures .1 .1) q (omega arith)
+    let t = c .before .before in
+    let l = t .before .before .before .before in
+    let lower = l .before .before .before .starts .inv .1 in (
+      search needs,
+      λ q. no-start-join _ _ 0 _ _
+          (λ q z h. run-skip _ _ _ (l .loop .i) lower (search needs) (λ z. t .if2 .taken (entry-is (t .before) ∙ z)) q (omega arith))
+          (c .skip2 .ensures .1 .1) q (omega arith),
+    )
 
 add-i : tie.Need-add-i Inv-loop μ-loop Inv-starts μ-starts
 add-i c = search needs
@@ -80,18 +93,18 @@ loop-less c = search needs
 
 loop-again : tie.Need-loop-again Inv-loop μ-loop Inv-starts μ-starts
 loop-again c =
-    let l = c .before .before .before in
-    (search needs, below-more _ _ (l .loop .inv .1) (rw (← l .loop .inv .0 .0) (sym (c .before .entry .ensures) ∙ c .if2 .left)))
+    let l = c .before .before .before .before in
+    (search needs, below-more _ _ (l .loop .inv .1) (sym (entry-is (c .before)) ∙ c .if2 .left))
+
+returns : tie.Need-returns Inv-loop μ-loop Inv-starts μ-starts
+unfolding Lowest
+returns c =
+    let l = c .before in
+    let s = l .before .before .before .starts in
+    rw (l .loop .inv .0 .0) (sym (first-is _ _ (some (s .start .0)) (search needs) (record { room = omega arith; free = λ i h. l .loop .inv .1 i (omega arith) }, s .inv .1)))
 
 returns-2 : tie.Need-returns-2 Inv-loop μ-loop Inv-starts μ-starts
-unfolding Lowest
-returns-2 c =
-    let l = c .before in
-    let e = l .loop .inv .0 .0 in
-    rw e (sym (first-is _ _ (some (l .before .before .starts .start)) (search needs) (record { room = omega arith; free = λ i h. l .loop .inv .1 i (omega arith) }, l .before .before .starts .inv)))
-
-returns-3 : tie.Need-returns-3 Inv-loop μ-loop Inv-starts μ-starts
-returns-3 c = sym (none-first _ _ (search needs) (λ q r. c .before .starts .inv q (omega (arith, r .room)) r))
+returns-2 c = sym (none-first _ _ (search needs) (λ q r. c .before .before .starts .inv .1 q (omega (arith, r .room)) r))
 
 pub first-run-spec : {M : Type 1} → statement M
 first-run-spec =
@@ -102,19 +115,20 @@ first-run-spec =
     Inv-starts
     μ-starts
     blocks-requires
-    returns
+    first-requires
     skip-requires
     starts-holds
+    until-requires
     loop-holds
-    add-t13
+    plus-requires
     entry-requires
-    add-t16
-    add-t17
+    add-plus
+    plus-requires-2
     skip-requires-2
     starts-less
     starts-again
     add-i
     loop-less
     loop-again
-    returns-2
-    returns-3)
+    returns
+    returns-2)

@@ -1,0 +1,22 @@
+-- `blockheap::blockheap_collect` meets its contract: the numbers go on as they came. Assumes nothing.
+use borrow.Author.Needs.{needs}
+use Rattle.blockheap.proofs.blockheap_collect.Statement.{statement}
+use Rattle.blockheap.proofs.blockheap_collect.Tie as tie
+
+of-number-requires : tie.Need-of-number-requires
+of-number-requires c κs = search needs
+
+collect-requires : tie.Need-collect-requires
+collect-requires c κs = search needs
+
+same-length : tie.Need-same-length
+same-length c = search needs
+
+same-length-2 : tie.Need-same-length-2
+same-length-2 c = search needs
+
+returns : tie.Need-returns
+returns c = search (needs, rw (c .before .before .before .before .before .before .before .before .of-number .ensures) at (c .before .before .before .before .before .collect .ensures))
+
+pub blockheap-collect-spec : {M : Type 1} → statement M
+blockheap-collect-spec = tie.close (tie.spec of-number-requires collect-requires same-length same-length-2 returns)

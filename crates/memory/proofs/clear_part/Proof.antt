@@ -1,0 +1,43 @@
+-- `clear_part`: the part that was lent comes back all zero, and is put in its place.
+-- Assumes nothing.
+use mathlib.Core.Path.{_≡_, refl, sym, _∙_}
+use mathlib.Core.List.{List, append-assoc}
+use Prim.Native.Nat.{ℕ, _+_, _-_, _≤_}
+use native.Mathlib.Omega.{arith}
+use lib.ListN.{length, drop, replicate, length-replicate, length-drop}
+use lib.Seq.{sets, sets-eq, length-take-le, drop-drop}
+use borrow.Author.Needs.{needs}
+use borrow.Rule.Slice.PartMut.{midOf, putMid}
+use Rattle.memory.proofs.clear_part.Statement.{statement}
+use Rattle.memory.proofs.clear_part.Tie as tie
+
+-- the part from a on of n bytes, all zero
+cleared : (pool part : List ℕ) (a n : ℕ) → a + n ≤ length pool → part ≡ replicate (length (midOf a n pool)) 0 → putMid a n pool part ≡ sets pool a (replicate n 0)
+cleared pool part a n room zero =
+    let long : length (midOf a n pool) ≡ n = length-take-le n (drop a pool) (simp length-drop (omega arith)) in
+    let filled : part ≡ replicate n 0 = rw long at zero in
+    let count : length {A = ℕ} (replicate n 0) ≡ n = length-replicate n 0 in
+    rw (filled, drop-drop) (sym (sets-eq (replicate n 0) pool a (rw count (omega arith)) ∙ rw (count, append-assoc) refl))
+
+sub-clear : tie.Need-sub-clear
+sub-clear c = search needs
+
+part-clear-start : tie.Need-part-clear-start
+part-clear-start c = search needs
+
+part-clear-end : tie.Need-part-clear-end
+part-clear-end c = search needs
+
+clear-requires : tie.Need-clear-requires
+clear-requires c κs = search needs
+
+same-length : tie.Need-same-length
+same-length c = search needs
+
+returns : tie.Need-returns
+returns c =
+    let args = c .before .before .before .before .before .args in
+    cleared _ _ (args .start .0) (args .end .0 - args .start .0) (omega arith) (c .before .before .clear .ensures)
+
+pub clear-part-spec : {M : Type 1} → statement M
+clear-part-spec = tie.close (tie.spec sub-clear part-clear-start part-clear-end clear-requires same-length returns)
