@@ -32,12 +32,12 @@ use Rattle.runs.proofs.Same.{Same}
 
 -- ---- the mark stacks pass the same tests
 
-stacks-whole : {stack stack′ : List ℕ} → SameStacks stack stack′ → wholeWords stack ≡ wholeWords stack′
+pub stacks-whole : {stack stack′ : List ℕ} → SameStacks stack stack′ → wholeWords stack ≡ wholeWords stack′
 unfolding wholeWords
 stacks-whole (equally-long l) = rw l
 stacks-whole (both-good x y) = rw (x .whole, y .whole)
 
-stacks-short : {stack stack′ : List ℕ} → SameStacks stack stack′ → ltb 64 (length stack / 4) ≡ ltb 64 (length stack′ / 4)
+pub stacks-short : {stack stack′ : List ℕ} → SameStacks stack stack′ → ltb 64 (length stack / 4) ≡ ltb 64 (length stack′ / 4)
 stacks-short (equally-long l) = rw l
 stacks-short (both-good x y) = le-ltb _ _ (x .short) ∙ sym (le-ltb _ _ (y .short))
 

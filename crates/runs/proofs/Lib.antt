@@ -1,4 +1,7 @@
 pub mod Same
 pub mod Collections
 pub mod Noninterference
+pub mod Conclusions
+pub mod Hypotheses
+pub mod Unseen
 pub mod Samples

@@ -1,0 +1,85 @@
+-- What two heaps that are not told apart have in common, said without the words of the statement: the answers as lists, the tables in bytes,
+-- and the words of allocated blocks.
+-- Assumes nothing.
+use mathlib.Core.Path.{_≡_, refl, sym, ap}
+use mathlib.Core.Logic.{_≢_}
+use mathlib.Core.Bool.{false}
+use mathlib.Core.List.{List, _∷_, map}
+use Prim.Native.Nat.{ℕ, _+_, _*_, _<_}
+use native.Mathlib.Omega.{arith}
+use lib.ListN.{length}
+use Rattle.rules.specs.Words.{wordAt}
+use Rattle.rules.specs.Entries.{FREE, tableOf}
+use Rattle.rules.specs.Tables.{entryAt}
+use Rattle.rules.specs.Outcomes.{Heap, Answer}
+use Rattle.rules.specs.Runs.{Call, Turn, after, answers}
+use Rattle.rules.proofs.Words.{wordAt-same}
+use Rattle.keeping.specs.Keeping.{butRescans}
+use Rattle.runs.specs.Noninterference.{SameAnswer, equal, but-rescans, SameAnswers, done, next, Indistinct}
+use Rattle.runs.specs.Unseen.{stackLengths, collects, withRescans}
+
+-- ---- one answer
+
+-- every part but the rescans is always the same
+pub answer-but-rescans : {call : Call} {stack stack′ : List ℕ} {a b : Answer} → SameAnswer stack stack′ a b call → butRescans a ≡ butRescans b
+answer-but-rescans (equal e) = ap butRescans e
+answer-but-rescans (but-rescans z l e) = e
+
+-- every part is, if the mark stacks are equally long
+pub answer-long : {call : Call} {stack stack′ : List ℕ} {a b : Answer} → SameAnswer stack stack′ a b call → length stack ≡ length stack′ → a ≡ b
+answer-long (equal e) l = e
+answer-long (but-rescans z n e) l = absurd (n l)
+
+-- or if the call is refused
+pub answer-refused : {call : Call} {stack stack′ : List ℕ} {a b : Answer} → SameAnswer stack stack′ a b call → a .refusal ≢ 0 → a ≡ b
+answer-refused (equal e) r = e
+answer-refused (but-rescans z n e) r = absurd (r z)
+
+-- or if it is no collection
+pub answer-other : {call : Call} {stack stack′ : List ℕ} {a b : Answer} → SameAnswer stack stack′ a b call → collects call ≡ false → a ≡ b
+answer-other (equal e) c = e
+answer-other (but-rescans z n e) c = let x : _≡_ {A = ℕ} 0 1 = cc in absurd (omega arith)
+
+-- ---- all answers
+
+cons-same : {A : Type 0} {a b : A} {xs ys : List A} → a ≡ b → xs ≡ ys → a ∷ xs ≡ b ∷ ys
+cons-same e f = cc
+
+pub answers-but-rescans : {ts us : List Turn} {xs ys : List Answer} → SameAnswers ts us xs ys → map butRescans xs ≡ map butRescans ys
+answers-but-rescans done = refl
+answers-but-rescans (next x r) = cons-same (answer-but-rescans x) (answers-but-rescans r)
+
+pub answers-long : {ts us : List Turn} {xs ys : List Answer} → SameAnswers ts us xs ys → stackLengths ts ≡ stackLengths us → xs ≡ ys
+unfolding stackLengths
+answers-long done l = refl
+answers-long (next {stack = s} {stack′ = s′} {ts = ts} {us = us} x r) l =
+    let e : length s ≡ length s′ = cc in
+    let f : stackLengths ts ≡ stackLengths us = cc in
+    cons-same (answer-long x e) (answers-long r f)
+
+-- each two mark stacks but the first are equally long: all answers are equal but for the rescans of the first
+pub answers-later : {t u : Turn} {ts us : List Turn} {a : Answer} {xs ys : List Answer} → SameAnswers (t ∷ ts) (u ∷ us) (a ∷ xs) ys
+    → stackLengths ts ≡ stackLengths us → (r : ℕ) × (ys ≡ withRescans r a ∷ xs)
+answers-later (next {a = a} {b = b} x rest) l =
+    (b .rescans, sym (cons-same (ap (withRescans (b .rescans)) (answer-but-rescans x)) (answers-long rest l)))
+
+-- ---- the heaps
+
+module _ {ts us : List Turn} {h h′ : Heap} (same : Indistinct ts us h h′) where
+  -- the answers but for the rescans
+  pub same-but-rescans : map butRescans (answers ts h) ≡ map butRescans (answers us h′)
+  same-but-rescans = answers-but-rescans (same .same-answers)
+
+  -- the answers, where each two mark stacks are equally long
+  pub same-lists : stackLengths ts ≡ stackLengths us → answers ts h ≡ answers us h′
+  same-lists l = answers-long (same .same-answers) l
+
+  -- the bytes of the tables
+  pub same-tables : tableOf (after ts h .entries) ≡ tableOf (after us h′ .entries)
+  same-tables = ap tableOf (same .same-table)
+
+  -- the four words of an allocated block
+  pub same-words : (k : ℕ) → entryAt (after ts h .entries) k ≢ FREE → (i : ℕ) → i < 4 → wordAt (after ts h .pool) (4 * k + i) ≡ wordAt (after us h′ .pool) (4 * k + i)
+  same-words k u i l =
+      wordAt-same (after ts h .pool) (after us h′ .pool) (4 * k + i) (4 * k + i)
+      (λ j m. let e : 4 * (4 * k + i) + j ≡ 16 * k + (4 * i + j) = omega arith in rw e (same .same-bytes k u (4 * i + j) (omega arith)))
