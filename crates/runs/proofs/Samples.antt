@@ -1,6 +1,8 @@
--- The hypotheses can be met by heaps that do differ, and heaps that differ in a reachable byte are told apart: both by computation.
+-- The statement used on three heaps. What the first answers is computed; what the second answers follows by the statement, with other dead
+-- bytes and other mark stacks. Heaps that differ in a reachable byte are told apart.
 -- Assumes nothing.
-use mathlib.Core.Path.{_≡_, refl, ap, _∙_}
+use mathlib.Core.Path.{_≡_, refl, sym, ap, _∙_}
+use mathlib.Core.Logic.{_≢_}
 use mathlib.Core.Bool.{Bool, true, not}
 use mathlib.Core.List.{List, [], _∷_}
 use Prim.Native.Nat.{ℕ, _+_, _*_}
@@ -10,23 +12,26 @@ use lib.IntN.{pos, negℤ}
 use lib.ListN.{length, getD, replicate}
 use Rattle.rules.specs.Tests.{either, count, leading, tabulate}
 use Rattle.rules.specs.Words.{number, bytesOf, wordAt, withWord, wordsOf}
-use Rattle.rules.specs.Entries.{entryOf, entriesOf}
-use Rattle.rules.specs.Tables.{entryAt, isHead, mayFollow, wellAfter, wellFormed, blockCount, freeFrom, fits, firstFrom, firstRun, placed, used, objects}
+use Rattle.rules.specs.Entries.{TAIL, entryOf, entriesOf, tableOf}
+use Rattle.rules.specs.Tables.{entryAt, isHead, mayFollow, wellAfter, wellFormed, blockCount, freeFrom, fits, firstFrom, firstRun, placed, used, objects, longest}
 use Rattle.rules.specs.Pointers.{addressOf, goodBase, targetOf, headsObject, headAt, leadsTo}
-use Rattle.rules.specs.Outcomes.{Heap, Answer, onlyRefusal, changeFrom, placedAt, collectedTo, loaded, unlessRefused, clearedBlocks}
+use Rattle.rules.specs.Outcomes.{Heap, Answer, onlyRefusal, changeFrom, placedAt, collectedTo, surveyed, loaded, unlessRefused, clearedBlocks}
 use Rattle.rules.specs.Refusals.{firstOf, goodShape, wholeWords}
 use Rattle.rules.specs.Marking.{pushed, visitTo, visit, walkWords, walk, drainFor, drain, trace, rootTo, markRoot, markRoots, passBlock, passFrom, pass, rescanFor, rescan, markAll, sweptEntry, freeingAfter, sweepFrom, sweep}
-use Rattle.rules.specs.Calls.{blocksFor, taken, placing, allocate, collecting, collect, load}
-use Rattle.rules.specs.Runs.{Call, Turn, step, answers}
+use Rattle.rules.specs.Calls.{blocksFor, taken, placing, allocate, free, collecting, collect, survey, load}
+use Rattle.rules.specs.Runs.{Collect, Turn, step, after, answers}
 use Rattle.rules.specs.Meaning.{Accepted}
 use Rattle.rules.proofs.Below.{allBelow, below}
 use Rattle.rules.proofs.Marking.{head-inside}
-use Rattle.keeping.specs.Keeping.{marking, collected, Agree, GoodStack}
+use Rattle.keeping.specs.Keeping.{marking, collected, Agree}
 use Rattle.keeping.proofs.Owners.{reachable-head}
 use Rattle.keeping.proofs.Kept.{collected-kept}
-use Rattle.runs.specs.Noninterference.{equally-long, both-good, Alike, done, next, SameAnswer, equal, but-rescans, SameAnswers, Indistinct}
-use Rattle.runs.specs.Samples.{sampleTable, sampleRoots, firstPool, secondPool, thirdPool, firstHeap, secondHeap, thirdHeap, sampleCalls, loadingCalls}
+use Rattle.runs.specs.Noninterference.{SameStacks, Alike, done, next, SameAnswers, Indistinct}
+use Rattle.runs.specs.Unseen.{callsOf, stackLengths}
+use Rattle.runs.specs.Samples.{sampleBase, sampleTable, sampleRoots, firstPool, secondPool, thirdPool, firstHeap, secondHeap, thirdHeap, firstCalls, secondCalls, loadingCalls}
 use Rattle.runs.proofs.Noninterference.{noninterference}
+use Rattle.runs.proofs.Conclusions.{answer-but-rescans, answers-later, same-tables, same-words}
+use Rattle.runs.proofs.Hypotheses.{stacks-good, alike-long, also-accepted}
 
 -- ---- agreement on the reachable objects, as a test over the objects that a collection keeps
 
@@ -51,33 +56,50 @@ agree-tested base h h′ roots well table t =
 
 -- ---- what is computed
 
+-- the answers of the first heap after its first collection
+abbrev pub laterAnswers : List Answer
+laterAnswers = onlyRefusal 7 ∷ onlyRefusal 1 ∷ loaded 0xDEAD_BEEF ∷ placedAt 1 (pos 2) ∷ loaded 0 ∷ collectedTo 5 1 (negℤ (pos 2)) ∷ surveyed 8 5 2 ∷ []
+
 pub record Computed : Type 0 where
   -- the table is well-formed
   pub well : wellFormed (firstHeap .entries) ≡ true
-  -- the first and the second agree on the kept objects, and differ in the first byte of the one that is not kept
-  pub tested : T (agreeTest firstHeap secondHeap (collected 4096 firstHeap (wordsOf sampleRoots) 0))
-  pub first-byte : getD firstPool 16 0 ≡ 0
-  pub second-byte : getD secondPool 16 0 ≡ 16
-  -- they answer the same, but for the rescans
-  pub first-answers : answers (sampleCalls (replicate 256 7)) firstHeap ≡ collectedTo 2 0 (negℤ (pos 3)) ∷ loaded 4096 ∷ onlyRefusal 7 ∷ placedAt 1 (pos 3) ∷ loaded 0 ∷ []
-  pub second-answers : answers (sampleCalls []) secondHeap ≡ collectedTo 2 1 (negℤ (pos 3)) ∷ loaded 4096 ∷ onlyRefusal 7 ∷ placedAt 1 (pos 3) ∷ loaded 0 ∷ []
+  -- the first and the second pool are equally long, and agree on the kept objects; they differ in the first byte of b, in a byte of block 4 and in the last byte of e
+  pub long : length firstPool ≡ length secondPool
+  pub tested : T (agreeTest firstHeap secondHeap (collected sampleBase firstHeap (wordsOf sampleRoots) 0))
+  pub first-bytes : getD firstPool 16 0 ∷ getD firstPool 79 0 ∷ getD firstPool 127 0 ∷ [] ≡ 0 ∷ 0 ∷ 0 ∷ []
+  pub second-bytes : getD secondPool 16 0 ∷ getD secondPool 79 0 ∷ getD secondPool 127 0 ∷ [] ≡ 112 ∷ 255 ∷ 32 ∷ []
+  -- what the first answers, and the table and the last word of g that it is left with
+  pub first-answers : answers firstCalls firstHeap ≡ collectedTo 5 2 (negℤ (pos 3)) ∷ laterAnswers
+  pub first-table : tableOf (after firstCalls firstHeap .entries) ≡ 65 ∷ 36 ∷ 165 ∷ []
+  pub first-used : entryAt (after firstCalls firstHeap .entries) 11 ≡ TAIL
+  pub first-word : wordAt (after firstCalls firstHeap .pool) 47 ≡ 0xDEAD_BEEF
+  -- three entries are enough for the second
+  pub second-rescans : step (Collect sampleBase sampleRoots) (replicate 12 9) secondHeap .answer .rescans ≡ 0
   -- the first and the third answer a load differently
-  pub first-loads : answers loadingCalls firstHeap ≡ collectedTo 2 1 (negℤ (pos 3)) ∷ loaded 0 ∷ []
-  pub third-loads : answers loadingCalls thirdHeap ≡ collectedTo 2 1 (negℤ (pos 3)) ∷ loaded 16777216 ∷ []
+  pub first-loads : answers loadingCalls firstHeap ≡ collectedTo 5 2 (negℤ (pos 3)) ∷ loaded 0xDEAD_BEEF ∷ []
+  pub third-loads : answers loadingCalls thirdHeap ≡ collectedTo 5 2 (negℤ (pos 3)) ∷ loaded 0x00AD_BEEF ∷ []
 
 pub computed : Computed
-unfolding agreeIn agreeTest marking collected count leading tabulate number bytesOf wordAt withWord wordsOf entryOf entriesOf mayFollow wellAfter wellFormed blockCount freeFrom fits firstFrom firstRun placed used objects addressOf goodBase targetOf headsObject headAt leadsTo changeFrom unlessRefused clearedBlocks firstOf goodShape wholeWords pushed visitTo visit walkWords walk drainFor drain trace rootTo markRoot markRoots passBlock passFrom pass rescanFor rescan markAll sweptEntry freeingAfter sweepFrom sweep blocksFor taken placing allocate collecting collect load step answers
+unfolding agreeIn agreeTest marking collected count leading tabulate number bytesOf wordAt withWord wordsOf entryOf entriesOf tableOf mayFollow wellAfter wellFormed blockCount freeFrom fits firstFrom firstRun placed used objects longest addressOf goodBase targetOf headsObject headAt leadsTo changeFrom unlessRefused clearedBlocks firstOf goodShape wholeWords pushed visitTo visit walkWords walk drainFor drain trace rootTo markRoot markRoots passBlock passFrom pass rescanFor rescan markAll sweptEntry freeingAfter sweepFrom sweep blocksFor taken placing allocate collecting collect free survey load step after answers
 computed =
     record {
       well = refl;
+      long = refl;
       tested = tt;
-      first-byte = refl;
-      second-byte = refl;
+      first-bytes = refl;
+      second-bytes = refl;
       first-answers = refl;
-      second-answers = refl;
+      first-table = refl;
+      first-used = refl;
+      first-word = refl;
+      second-rescans = refl;
       first-loads = refl;
       third-loads = refl;
     }
+
+firstRescans : List Answer → ℕ
+firstRescans [] = 0
+firstRescans (a ∷ xs) = a .rescans
 
 -- a first answer that is accepted
 firstRefusal : List Answer → ℕ
@@ -88,35 +110,54 @@ accepted : (t : Turn) (ts : List Turn) (h : Heap) (a : Answer) (xs : List Answer
 unfolding answers firstRefusal
 accepted t ts h a xs e z = ap firstRefusal e ∙ z
 
--- ---- two heaps that differ in bytes of an unreachable object
+-- ---- two heaps that differ in bytes of unreachable objects and of a free block
 
--- one mark stack has 64 entries, the other none
-full : GoodStack (replicate 256 7)
-full = record { whole = refl; short = omega arith }
+-- 0 and 3 entries
+samples-stacks : SameStacks [] (replicate 12 9)
+samples-stacks = stacks-good [] (replicate 12 9) 0 3 refl (omega arith) refl (omega arith)
 
-empty : GoodStack []
-empty = record { whole = refl; short = omega arith }
+-- then the same calls, with mark stacks of the same lengths
+pub samples-alike : Alike firstCalls secondCalls
+unfolding callsOf stackLengths bytesOf
+samples-alike = next _ samples-stacks (alike-long _ _ refl refl)
 
-pub samples-alike : Alike (sampleCalls (replicate 256 7)) (sampleCalls [])
-samples-alike =
-    next _ (both-good full empty) (next _ (equally-long refl) (next _ (equally-long refl) (next _ (equally-long refl) (next _ (equally-long refl) done))))
+pub first-second-agree : Agree sampleBase (wordsOf sampleRoots) firstHeap secondHeap
+first-second-agree = agree-tested sampleBase firstHeap secondHeap (wordsOf sampleRoots) (computed .well) refl (computed .tested)
 
-pub first-second-agree : Agree 4096 (wordsOf sampleRoots) firstHeap secondHeap
-first-second-agree = agree-tested 4096 firstHeap secondHeap (wordsOf sampleRoots) (computed .well) refl (computed .tested)
-
-pub first-second-indistinct : Indistinct (sampleCalls (replicate 256 7)) (sampleCalls []) firstHeap secondHeap
+pub first-second-indistinct : Indistinct firstCalls secondCalls firstHeap secondHeap
+unfolding step
 first-second-indistinct =
-    noninterference 4096 sampleTable sampleRoots firstPool secondPool (replicate 256 7) [] _ _ first-second-agree samples-alike
-    (accepted _ _ firstHeap _ _ (computed .first-answers) refl) (accepted _ _ secondHeap _ _ (computed .second-answers) refl)
+    let x = accepted _ _ firstHeap _ _ (computed .first-answers) refl in
+    noninterference sampleBase sampleTable sampleRoots firstPool secondPool [] (replicate 12 9) _ _ first-second-agree samples-alike
+    x (also-accepted sampleBase sampleRoots (firstHeap .entries) firstPool secondPool [] (replicate 12 9) (computed .long) samples-stacks x)
+
+-- so the second answers, with some number of rescans of its first collection
+pub second-answers : (r : ℕ) × (answers secondCalls secondHeap ≡ collectedTo 5 r (negℤ (pos 3)) ∷ laterAnswers)
+unfolding stackLengths bytesOf
+second-answers = answers-later (rw (computed .first-answers) at (first-second-indistinct .same-answers)) refl
+
+-- and that is the table which it is left with
+pub second-table : tableOf (after secondCalls secondHeap .entries) ≡ 65 ∷ 36 ∷ 165 ∷ []
+second-table = sym (same-tables first-second-indistinct) ∙ computed .first-table
+
+-- and that the last word of g
+pub second-word : wordAt (after secondCalls secondHeap .pool) 47 ≡ 0xDEAD_BEEF
+second-word = sym (same-words first-second-indistinct 11 (λ f. let e = computed .first-used in omega arith) 3 (omega arith)) ∙ computed .first-word
+
+-- the rescans do differ: 2 and 0
+pub rescans-differ : answers firstCalls firstHeap ≢ answers secondCalls secondHeap
+unfolding answers firstRescans
+rescans-differ e =
+    let a = ap firstRescans (computed .first-answers) in
+    let b = computed .second-rescans in
+    let c = ap firstRescans e in
+    omega arith
 
 -- ---- two heaps that differ in one byte of a reachable object
 
-value-same : {call : Call} {stack stack′ : List ℕ} {a b : Answer} → SameAnswer stack stack′ a b call → a .value ≡ b .value
-value-same (equal e) = ap (λ (a : Answer). a .value) e
-value-same (but-rescans z l e) = ap (λ (a : Answer). a .value) e
-
+-- the answers of the load: the second of two
 second-same : {t u t′ u′ : Turn} {a b c d : Answer} → SameAnswers (t ∷ u ∷ []) (t′ ∷ u′ ∷ []) (a ∷ b ∷ []) (c ∷ d ∷ []) → b .value ≡ d .value
-second-same (next _ (next x done)) = value-same x
+second-same (next _ (next x done)) = ap (λ (a : Answer). a .value) (answer-but-rescans x)
 
 -- a load tells them apart
 pub first-third-distinct : Indistinct loadingCalls loadingCalls firstHeap thirdHeap → ⊥
@@ -125,8 +166,8 @@ first-third-distinct same =
     omega arith
 
 -- so they do not agree on what is reachable: that is the only hypothesis which they do not meet
-pub first-third-disagree : Agree 4096 (wordsOf sampleRoots) firstHeap thirdHeap → ⊥
+pub first-third-disagree : Agree sampleBase (wordsOf sampleRoots) firstHeap thirdHeap → ⊥
 first-third-disagree agree =
     first-third-distinct
-    (noninterference 4096 sampleTable sampleRoots firstPool thirdPool [] [] _ _ agree (next _ (equally-long refl) (next _ (equally-long refl) done))
+    (noninterference sampleBase sampleTable sampleRoots firstPool thirdPool [] [] _ _ agree (alike-long _ _ refl refl)
     (accepted _ _ firstHeap _ _ (computed .first-loads) refl) (accepted _ _ thirdHeap _ _ (computed .third-loads) refl))

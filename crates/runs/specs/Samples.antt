@@ -1,32 +1,43 @@
--- Three small heaps: the first and the second differ in bytes of an unreachable object, the first and the third in a byte of a reachable one.
--- 8 blocks at base 4,096: an object of block 0, one of blocks 1 to 3, and one of blocks 4 to 7. The only root is the address of the last,
--- whose word 0 is the address of the first. So the object of blocks 1 to 3 is unreachable, and the two others are reachable.
+-- Three heaps of 12 blocks at base 0x20000000, whose tables are the same. A number is a block, an arrow a word that holds an address:
+--
+--     0     1  2     3     4      5  6     7     8     9 10 11
+--    [a]   [b  b]   [c]   free   [d  d]   [e]   [f]   [g  g  g]      roots: d, c
+--                                                                    d → a, d → g, g → f; the last word of g is 0xDEADBEEF
+--
+-- So b and e are unreachable. In the first heap they hold zeros, as block 4 does. In the second b and e point to each other, and block 4 is
+-- full of ones. The third is the first with another top byte in the last word of g, the last live byte of the pool.
 -- Assumes nothing.
-use mathlib.Core.List.{List, [], _∷_}
+use mathlib.Core.List.{List, [], _∷_, _++_}
 use Prim.Native.Nat.{ℕ}
 use lib.ListN.{set, replicate}
+use lib.Seq.{sets}
 use Rattle.rules.specs.Words.{bytesOf, withWord}
+use Rattle.rules.specs.Pointers.{addressOf}
 use Rattle.rules.specs.Outcomes.{Heap, heapOf}
-use Rattle.rules.specs.Runs.{Allocate, Collect, Load, Turn}
+use Rattle.rules.specs.Runs.{Allocate, Free, Collect, Survey, Load, Turn}
 use Rattle.runs.specs.Noninterference.{turn}
 
+abbrev pub sampleBase : ℕ
+sampleBase = 0x2000_0000
+
+-- HEAD HEAD TAIL HEAD, FREE HEAD TAIL HEAD, HEAD HEAD TAIL TAIL
 abbrev pub sampleTable : List ℕ
-sampleTable = 165 ∷ 169 ∷ []
+sampleTable = 101 ∷ 100 ∷ 165 ∷ []
 
 abbrev pub sampleRoots : List ℕ
-sampleRoots = bytesOf 4160
+sampleRoots = bytesOf (addressOf sampleBase 5) ++ bytesOf (addressOf sampleBase 3)
 
--- all bytes are zero but those of the pointer
+-- words 20 and 27 are the first and the last of d, words 36 and 47 those of g
 abbrev pub firstPool : List ℕ
-firstPool = withWord (replicate 128 0) 16 4096
+firstPool =
+    withWord (withWord (withWord (withWord (replicate 192 0) 20 (addressOf sampleBase 9)) 27 (addressOf sampleBase 0)) 36 (addressOf sampleBase 8)) 47 0xDEAD_BEEF
 
--- the unreachable object points to itself, and its last byte is 255
+-- word 4 is the first of b, word 31 the last of e
 abbrev pub secondPool : List ℕ
-secondPool = set (withWord firstPool 4 4112) 63 255
+secondPool = withWord (withWord (sets firstPool 64 (replicate 16 255)) 4 (addressOf sampleBase 7)) 31 (addressOf sampleBase 1)
 
--- the last byte of the object of blocks 4 to 7 is 1
 abbrev pub thirdPool : List ℕ
-thirdPool = set firstPool 127 1
+thirdPool = set firstPool 191 0
 
 abbrev pub firstHeap : Heap
 firstHeap = heapOf firstPool sampleTable
@@ -37,16 +48,30 @@ secondHeap = heapOf secondPool sampleTable
 abbrev pub thirdHeap : Heap
 thirdHeap = heapOf thirdPool sampleTable
 
--- a collection; then a word of a kept object is loaded, one of the freed object asked for, its blocks are allocated anew, and their last word is loaded
-abbrev pub sampleCalls : List ℕ → List Turn
-sampleCalls stack =
-    turn (Collect 4096 sampleRoots) stack
-    ∷ turn (Load 4096 4 0) []
-    ∷ turn (Load 4096 1 11) []
-    ∷ turn (Allocate 4096 33) []
-    ∷ turn (Load 4096 1 11) []
+-- the calls after the first collection, and the mark stacks of two collections among them
+abbrev pub laterCalls : List ℕ → List ℕ → List Turn
+laterCalls torn one =
+    -- b is no object any more
+    turn (Free sampleBase 1) []
+    -- the mark stack is no whole number of entries
+    ∷ turn (Collect sampleBase sampleRoots) torn
+    -- the last word of the last object
+    ∷ turn (Load sampleBase 9 11) []
+    -- two blocks, where b was, and their last word
+    ∷ turn (Allocate sampleBase 17) []
+    ∷ turn (Load sampleBase 1 7) []
+    -- the new object is unreachable; one entry is not enough for d and g
+    ∷ turn (Collect sampleBase sampleRoots) one
+    ∷ turn (Survey sampleBase) []
     ∷ []
 
--- a collection, and then the last word of the object of blocks 4 to 7 is loaded
+-- on the first heap no mark stack at first; on the second three entries. Whatever the mark stacks hold, they hold different bytes
+abbrev pub firstCalls : List Turn
+firstCalls = turn (Collect sampleBase sampleRoots) [] ∷ laterCalls (1 ∷ 2 ∷ 3 ∷ []) (bytesOf 7)
+
+abbrev pub secondCalls : List Turn
+secondCalls = turn (Collect sampleBase sampleRoots) (replicate 12 9) ∷ laterCalls (253 ∷ 254 ∷ 255 ∷ []) (bytesOf 8)
+
+-- a collection, and then the last word of the last object
 abbrev pub loadingCalls : List Turn
-loadingCalls = turn (Collect 4096 sampleRoots) [] ∷ turn (Load 4096 4 15) [] ∷ []
+loadingCalls = turn (Collect sampleBase sampleRoots) [] ∷ turn (Load sampleBase 9 11) [] ∷ []
