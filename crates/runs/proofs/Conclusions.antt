@@ -3,7 +3,7 @@
 -- Assumes nothing.
 use mathlib.Core.Path.{_≡_, refl, sym, ap}
 use mathlib.Core.Logic.{_≢_}
-use mathlib.Core.Bool.{false}
+use mathlib.Core.Bool.{false, true≢false}
 use mathlib.Core.List.{List, _∷_, map}
 use Prim.Native.Nat.{ℕ, _+_, _*_, _<_}
 use native.Mathlib.Omega.{arith}
@@ -38,7 +38,7 @@ answer-refused (but-rescans z n e) r = absurd (r z)
 -- or if it is no collection
 pub answer-other : {call : Call} {stack stack′ : List ℕ} {a b : Answer} → SameAnswer stack stack′ a b call → collects call ≡ false → a ≡ b
 answer-other (equal e) c = e
-answer-other (but-rescans z n e) c = let x : _≡_ {A = ℕ} 0 1 = cc in absurd (omega arith)
+answer-other (but-rescans z n e) c = absurd (true≢false c)
 
 -- ---- all answers
 
