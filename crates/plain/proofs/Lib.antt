@@ -11,3 +11,4 @@ pub mod Traces
 pub mod Sweeps
 pub mod Refinement
 pub mod Reached
+pub mod Consequences

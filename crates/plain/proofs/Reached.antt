@@ -45,13 +45,13 @@ at-of : {w : ℕ} {ws : List ℕ} → List·Memᴰ w ws → At ws w
 at-of (List·Memᴰ·head e) = record { index = 0; inside = omega arith; is = sym e }
 at-of (List·Memᴰ·tail m) = let a = at-of m in let l = a .inside in record { index = suc (a .index); inside = omega arith; is = a .is }
 
-of-at : (ws : List ℕ) (i : ℕ) → i < length ws → List·Memᴰ (getD ws i 0) ws
+pub of-at : (ws : List ℕ) (i : ℕ) → i < length ws → List·Memᴰ (getD ws i 0) ws
 of-at [] i h = absurd (omega arith)
 of-at (w ∷ ws) zero h = List·Memᴰ·head refl
 of-at (w ∷ ws) (suc i) h = List·Memᴰ·tail (of-at ws i (omega arith))
 
 -- what a word leads to is an object of the list
-led-member : (base w : ℕ) (os : List Object) {o : Object} → ledTo base w os ≡ some o → List·Memᴰ o os
+pub led-member : (base w : ℕ) (os : List Object) {o : Object} → ledTo base w os ≡ some o → List·Memᴰ o os
 unfolding ledTo
 led-member base w [] e = let z : _≡_ {A = ℕ} 0 1 = cc in absurd (omega arith)
 led-member base w (x ∷ os) {o} e = go (eqb w (base + 16 * x .start)) e (led-member base w os)
@@ -209,16 +209,16 @@ module _ (base : ℕ) (h : Heap) (os : List Object) (laid : Laid (h .pool) (h .e
 
 -- ---- after any calls
 
-left-represents : (ts : List Turn) {p : Plain} {h : Heap} → Represents p h → Represents (left ts p) (after ts h)
+pub left-represents : (ts : List Turn) {p : Plain} {h : Heap} → Represents p h → Represents (left ts p) (after ts h)
 unfolding left after
 left-represents [] r = r
 left-represents (t ∷ ts) r = left-represents ts (step-agrees (t .call) (t .stack) r .heap)
 
 -- some pool and table of n blocks
-abbrev blank : ℕ → Heap
+abbrev pub blank : ℕ → Heap
 blank n = record { pool = replicate (16 * n) 0; entries = replicate n FREE }
 
-blank-represents : (n : ℕ) → 1 ≤ n → n ≤ 4096 → Represents (record { size = n; objects = [] }) (blank n)
+pub blank-represents : (n : ℕ) → 1 ≤ n → n ≤ 4096 → Represents (record { size = n; objects = [] }) (blank n)
 blank-represents n l u =
     let e : length (replicate n FREE) ≡ n = length-replicate n FREE in
     record {

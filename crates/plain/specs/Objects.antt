@@ -2,7 +2,7 @@
 -- Assumes nothing.
 use mathlib.Core.List.{List, [], _∷_, _++_}
 use mathlib.Core.Option.{Option, some, none}
-use Prim.Native.Nat.{ℕ, _+_, _-_, _*_, max}
+use Prim.Native.Nat.{ℕ, _+_, _-_, _*_, _≤_, _<_, max}
 use lib.Dec.{eqb, leb, ltb}
 use lib.ListN.{replicate}
 use Rattle.rules.specs.Tests.{pick}
@@ -69,3 +69,8 @@ remove k (o ∷ os) = pick (eqb (o .start) k) os (o ∷ remove k os)
 unfoldable pub replace : Object → List Object → List Object
 replace x [] = []
 replace x (o ∷ os) = pick (eqb (o .start) (x .start)) (x ∷ os) (o ∷ replace x os)
+
+-- rising order: each object has blocks of its own, from block `from` on and after the end of the one before it. So no object stands twice
+pub data Rising : ℕ → List Object → Type 0 where
+  done : {from : ℕ} → Rising from []
+  next : {from : ℕ} {o : Object} {os : List Object} → from ≤ o .start → 0 < o .blocks → Rising (end o) os → Rising from (o ∷ os)

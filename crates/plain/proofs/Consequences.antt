@@ -1,0 +1,152 @@
+-- What the theorems come to. The sum of changes is one over the answers; the list's collection keeps the reachable objects in every heap
+-- that an init accepts; these are fixed by that, and stand in rising order, each once.
+-- Assumes nothing.
+use mathlib.Core.Path.{_≡_, refl, sym, subst, _∙_}
+use mathlib.Core.Bool.{Bool, true, false, not}
+use mathlib.Core.List.{List, [], _∷_, List·Memᴰ, List·Memᴰ·head, List·Memᴰ·tail}
+use mathlib.Core.Option.{Option, some, none}
+use Prim.Native.Nat.{ℕ, _≤_, _<_, _/_}
+use native.Mathlib.Omega.{arith}
+use lib.Dec.{T, ltb}
+use lib.IntN.{ℤ, pos}
+use lib.ListN.{length}
+use Rattle.rules.specs.Tests.{pick, both}
+use Rattle.rules.specs.Words.{wordsOf}
+use Rattle.rules.specs.Pointers.{goodBase}
+use Rattle.rules.specs.Tables.{used}
+use Rattle.rules.specs.Outcomes.{Heap, Answer}
+use Rattle.rules.specs.Refusals.{goodShape, wholeWords}
+use Rattle.rules.specs.Runs.{Collect, Turn, step, after, answers}
+use Rattle.rules.proofs.Refusals.{shape-true}
+use Rattle.plain.specs.Objects.{Object, Plain, end, Rising, done, next}
+use Rattle.plain.specs.Tracing.{isIn, ledTo, trace, among}
+use Rattle.plain.specs.Reaching.{Reachable, root, edge, Keeps}
+use Rattle.plain.specs.Replies.{Reply, refuseIf, collectedBy, reply, left}
+use Rattle.plain.specs.Refines.{fromInit, ListKeepsReachable, counted, changes, UsedIsSum}
+use Rattle.plain.proofs.Laid as lie
+use Rattle.plain.proofs.Sums.{used-is-sum}
+use Rattle.plain.proofs.Reached.{led-member, left-represents, blank-represents, list-keeps-reachable}
+
+-- ---- the sum of changes
+
+-- the sum d and the changes in the answers to the calls; an accepted init starts it anew
+unfoldable pub summed : List Turn → List Answer → ℤ → ℤ
+summed [] xs d = d
+summed (t ∷ ts) [] d = d
+summed (t ∷ ts) (a ∷ xs) d = summed ts xs (counted (t .call) a d)
+
+-- a caller who sees nothing but the answers can add it up
+pub changes-answered : (ts : List Turn) (h : Heap) (d : ℤ) → changes ts h d ≡ summed ts (answers ts h) d
+unfolding changes answers summed
+changes-answered [] h d = refl
+changes-answered (t ∷ ts) h d = let o = step (t .call) (t .stack) h in changes-answered ts (o .heap) (counted (t .call) (o .answer) d)
+
+-- and then knows how many blocks are used
+pub used-answered : (base : ℕ) (h : Heap) (ts : List Turn) (d : ℤ) → goodShape base h ≡ true
+    → pos (used (after (fromInit base ts) h .entries)) ≡ summed (fromInit base ts) (answers (fromInit base ts) h) d
+unfolding UsedIsSum
+used-answered base h ts d good = sym (used-is-sum base h ts d good) ∙ changes-answered (fromInit base ts) h d
+
+-- ---- what is kept
+
+-- any heap that an init accepts, with the calls after it on any base
+pub heap-keeps : (base : ℕ) (h : Heap) (ts : List Turn) (at room : ℕ) (roots : List ℕ) → goodShape base h ≡ true
+    → let os : List Object = left ts (record { size = length (h .entries); objects = [] }) .objects in
+    Keeps at os roots (among (trace (record { base = at; objects = os; room = room }) roots .reached) os)
+unfolding ListKeepsReachable
+heap-keeps base h ts at room roots good =
+    let s = shape-true base h good in
+    list-keeps-reachable (length (h .entries)) ts at room roots (s .some) (s .few)
+
+passes : (b : Bool) (r : ℕ) (p : Plain) (x : Reply) → 0 < r → refuseIf b r p x .answer .refusal ≡ 0 → refuseIf b r p x ≡ x
+passes true r p x l e = absurd (omega arith)
+passes false r p x l e = refl
+
+-- so an accepted collection leaves the reachable objects, whatever calls have made the list of an empty one, and with any mark stack
+pub collection-keeps : (n : ℕ) (ts : List Turn) (base : ℕ) (roots stack : List ℕ) → 1 ≤ n → n ≤ 4096
+    → let p : Plain = left ts (record { size = n; objects = [] }) in
+    reply (Collect base roots) stack p .answer .refusal ≡ 0 → Keeps base (p .objects) (wordsOf roots) (reply (Collect base roots) stack p .heap .objects)
+unfolding ListKeepsReachable reply collectedBy
+collection-keeps n ts base roots stack l u z =
+    let p = left ts (record { size = n; objects = [] }) in
+    let c = collectedBy p (trace (record { base = base; objects = p .objects; room = length stack / 4 }) (wordsOf roots)) in
+    let e = passes (not (both (goodBase base (p .size)) (both (wholeWords roots) (wholeWords stack)))) 1 p _ (omega arith) z in
+    let f = passes (ltb 4096 (length roots / 4)) 3 p _ (omega arith) (rw e at z) in
+    let g = passes (ltb 64 (length stack / 4)) 4 p c (omega arith) (rw (e, f) at z) in
+    rw (e, f, g) (list-keeps-reachable n ts base (length stack / 4) (wordsOf roots) l u)
+
+-- two lists of which both are what is to be kept have the same objects
+pub keeps-one : {base : ℕ} {os : List Object} {roots : List ℕ} {xs ys : List Object} → Keeps base os roots xs → Keeps base os roots ys
+    → (o : Object) → List·Memᴰ o xs → List·Memᴰ o ys
+keeps-one x y o m = y .all o (x .only o m)
+
+-- ---- in rising order
+
+rising-from : {a b : ℕ} {os : List Object} → a ≤ b → Rising b os → Rising a os
+rising-from l done = done
+rising-from {a} l (next {o = o} m b r) = let e : a ≤ o .start = omega arith in next e b r
+
+laid-rising : {pool es : List ℕ} {from : ℕ} {os : List Object} → lie.Laid pool es from os → Rising from os
+laid-rising (lie.done r g) = done
+laid-rising (lie.next l g y e r) = next l (y .some-block) (laid-rising r)
+
+among-rising : (m : List ℕ) {from : ℕ} {os : List Object} → Rising from os → Rising from (among m os)
+unfolding among
+among-rising m done = done
+among-rising m (next {from = from} {o = o} {os = os} l b r) = go (isIn (o .start) m) (among-rising m r)
+  where
+    go : (t : Bool) → Rising (end o) (among m os) → Rising from (pick t (o ∷ among m os) (among m os))
+    go true rest = next l b rest
+    go false rest = rising-from (omega arith) rest
+
+-- the objects after any calls, and those of them that are kept
+pub left-rising : (n : ℕ) (ts : List Turn) → 1 ≤ n → n ≤ 4096 → Rising 0 (left ts (record { size = n; objects = [] }) .objects)
+left-rising n ts l u = laid-rising (left-represents ts (blank-represents n l u) .laid)
+
+pub kept-rising : (n : ℕ) (ts : List Turn) (base room : ℕ) (roots : List ℕ) → 1 ≤ n → n ≤ 4096
+    → let os : List Object = left ts (record { size = n; objects = [] }) .objects in
+    Rising 0 (among (trace (record { base = base; objects = os; room = room }) roots .reached) os)
+kept-rising n ts base room roots l u = among-rising _ (left-rising n ts l u)
+
+-- ---- what is not reachable
+
+-- each element passes the test
+unfoldable pub allOf : {A : Type 0} → (A → Bool) → List A → Bool
+allOf f [] = true
+allOf f (x ∷ xs) = both (f x) (allOf f xs)
+
+both-parts : (a b : Bool) → T (both a b) → T a × T b
+both-parts true b t = (tt, t)
+both-parts false b t = absurd t
+
+all-at : {A : Type 0} (f : A → Bool) {x : A} {xs : List A} → T (allOf f xs) → List·Memᴰ x xs → T (f x)
+unfolding allOf
+all-at f {x} t (List·Memᴰ·head {x = y} {xs = ys} e) = subst (λ z. T (f z)) (sym e) (both-parts (f y) (allOf f ys) t .0)
+all-at f {x} t (List·Memᴰ·tail {x = y} {xs = ys} m) = all-at f (both-parts (f y) (allOf f ys) t .1) m
+
+-- a word that leads to an object leads to one of the set s
+unfoldable pub leadsInto : ℕ → List Object → (Object → Bool) → ℕ → Bool
+leadsInto base os s w = elim (ledTo base w os) [ none ↦ true | some o ↦ s o ]
+
+-- the set s of objects holds what the roots lead to, and what the words of its objects lead to
+pub record Closed (base : ℕ) (os : List Object) (roots : List ℕ) (s : Object → Bool) : Type 0 where
+  pub roots-in : T (allOf (leadsInto base os s) roots)
+  pub words-in : T (allOf (λ (o : Object). pick (s o) (allOf (leadsInto base os s) (o .words)) true) os)
+
+module _ (base : ℕ) (os : List Object) (roots : List ℕ) (s : Object → Bool) (c : Closed base os roots s) where
+  leads-in : (w : ℕ) (o : Object) → ledTo base w os ≡ some o → T (leadsInto base os s w) → T (s o)
+  unfolding leadsInto
+  leads-in w o e t = subst (λ (x : Option Object). T (elim x as (λ y. Bool) [ none ↦ true | some z ↦ s z ])) e t
+
+  member : {o : Object} → Reachable base os roots o → List·Memᴰ o os
+  member (root {w = w} m e) = led-member base w os e
+  member (edge {w = w} r m e) = led-member base w os e
+
+  -- so every reachable object is one of it
+  pub reachable-in : {o : Object} → Reachable base os roots o → T (s o)
+  reachable-in {o} (root {w = w} m e) = leads-in w o e (all-at (leadsInto base os s) (c .roots-in) m)
+  reachable-in {o} (edge {x = x} {w = w} r m e) = leads-in w o e (all-at (leadsInto base os s) (go (s x) (reachable-in r) (all-at _ (c .words-in) (member r))) m)
+    where
+      go : (b : Bool) → T b → T (pick b (allOf (leadsInto base os s) (x .words)) true) → T (allOf (leadsInto base os s) (x .words))
+      go true t u = u
+      go false t u = absurd t
