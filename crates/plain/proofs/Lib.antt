@@ -12,3 +12,4 @@ pub mod Sweeps
 pub mod Refinement
 pub mod Reached
 pub mod Consequences
+pub mod Samples

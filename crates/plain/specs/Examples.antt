@@ -1,8 +1,8 @@
 -- The worked examples 1 to 11 of a heap of 8 blocks at base 4,096, computed on the plain list: each call's answer and the list it leaves. And calls in a row.
 -- Assumes nothing.
 use mathlib.Core.Path.{_≡_, refl}
-use mathlib.Core.Bool.{true}
-use mathlib.Core.List.{List, [], _∷_, map}
+use mathlib.Core.Bool.{true, false}
+use mathlib.Core.List.{List, [], _∷_, _++_, map}
 use Prim.Native.Nat.{ℕ, _*_}
 use lib.IntN.{pos}
 use lib.ListN.{replicate, set}
@@ -10,11 +10,12 @@ use Rattle.rules.specs.Tests.{tabulate}
 use Rattle.rules.specs.Words.{number, bytesOf, wordAt, wordsOf}
 use Rattle.rules.specs.Pointers.{addressOf, goodBase}
 use Rattle.rules.specs.Entries.{entryOf, entriesOf}
-use Rattle.rules.specs.Outcomes.{Answer, onlyRefusal, placedAt, collectedTo, surveyed, loaded}
+use Rattle.rules.specs.Tables.{mayFollow, wellAfter, wellFormed}
+use Rattle.rules.specs.Outcomes.{Heap, Answer, heapOf, onlyRefusal, placedAt, collectedTo, surveyed, loaded}
 use Rattle.rules.specs.Refusals.{goodShape, wholeWords}
 use Rattle.rules.specs.Calls.{blocksFor}
 use Rattle.rules.specs.Runs.{Call, Init, Allocate, Free, Reallocate, Collect, Survey, Load, Store, Turn}
-use Rattle.rules.specs.Examples.{small, minus}
+use Rattle.rules.specs.Examples.{minus}
 use Rattle.plain.specs.Objects.{Object, object, Plain, total, find, lowestGap, longestGap, nextStart, insert, remove, replace}
 use Rattle.plain.specs.Tracing.{isIn, ledTo, push, followTo, follow, followAll, emptyFor, empty, subtree, fromRootTo, fromRoots, goThrough, again, againFor, trace, among}
 use Rattle.plain.specs.Replies.{Reply, places, allocatedAt, onObject, named, movedInto, resized, collectedBy, loadedFrom, storedIn, reply, replies}
@@ -76,19 +77,64 @@ pub examples-hold : map (λ (x : Example). x .is) examples ≡ map (λ (x : Exam
 unfolding examples tabulate number bytesOf wordAt wordsOf addressOf goodBase wholeWords blocksFor total find lowestGap nextStart insert remove replace isIn ledTo push followTo follow followAll emptyFor empty subtree fromRootTo fromRoots goThrough again againFor trace among places allocatedAt onObject named movedInto resized collectedBy reply
 examples-hold = refl
 
--- calls in a row, from a table that is not even well-formed: the init is accepted, and the plain list answers what follows
-unfoldable pub run : List Turn
-run =
-    fromInit 4096
-    (map (λ (c : Call). record { call = c; stack = [] })
-    (Allocate 4096 1 ∷ Allocate 4096 33 ∷ Allocate 4096 64 ∷ Store 4096 4 0 4096 ∷ Init 0 ∷ Collect 4096 (bytesOf 4160) ∷ Survey 4096 ∷ Load 4096 4 0 ∷ Load 4096 1 0 ∷ Init 4096 ∷ Survey 4096 ∷ []))
+-- ---- calls in a row
 
-pub run-accepted : goodShape 4096 (small 7 7) ≡ true
-unfolding goodShape goodBase addressOf entriesOf entryOf
-run-accepted = refl
+-- Twelve blocks at base 0x20000000. A number is a block, and an arrow a word that holds an address:
+--
+--     0     1  2  3     4     5  6     7  8  9 10     11
+--    [a]   [b  b  b]   [c]   [d  d]   [e  e  e  e]   [f]      e → a (its first word), e → d, d → c (the last words), f → e
+--
+-- The roots are b and e, so f is unreachable. One mark stack entry is not enough for a and d, so there is a rescan.
+abbrev pub runBase : ℕ
+runBase = 0x2000_0000
 
-pub run-answers : replies run (eight full)
-    ≡ onlyRefusal 0 ∷ placedAt 0 (pos 1) ∷ placedAt 1 (pos 3) ∷ placedAt 4 (pos 4) ∷ onlyRefusal 0 ∷ onlyRefusal 1 ∷ collectedTo 2 1 (minus 3)
-    ∷ surveyed 5 2 3 ∷ loaded 4096 ∷ onlyRefusal 7 ∷ onlyRefusal 0 ∷ surveyed 0 0 8 ∷ []
-unfolding run tabulate number bytesOf wordAt wordsOf addressOf goodBase wholeWords blocksFor total find lowestGap longestGap nextStart insert remove replace isIn ledTo push followTo follow followAll emptyFor empty subtree fromRootTo fromRoots goThrough again againFor trace among places allocatedAt onObject named movedInto resized collectedBy loadedFrom storedIn reply replies
+-- a call that takes no mark stack
+abbrev pub bare : Call → Turn
+bare c = record { call = c; stack = [] }
+
+-- the objects are allocated and linked; among the calls are refused ones (9, 8 and 1), and one on another base
+unfoldable pub filling : List Turn
+filling =
+    map bare
+    (Allocate runBase 16 ∷ Allocate runBase 33 ∷ Allocate runBase 1 ∷ Allocate runBase 32 ∷ Allocate runBase 64 ∷ Allocate runBase 15 ∷ Allocate runBase 1
+    ∷ Store runBase 7 0 (addressOf runBase 0) ∷ Store runBase 7 15 (addressOf runBase 5) ∷ Store runBase 5 7 (addressOf runBase 4)
+    ∷ Store runBase 11 0 (addressOf runBase 7) ∷ Store runBase 11 4 (addressOf runBase 7) ∷ Init 8 ∷ Load 4096 7 15 ∷ [])
+
+abbrev pub runRoots : List ℕ
+runRoots = addressOf runBase 1 ∷ addressOf runBase 7 ∷ []
+
+-- a collection; then f is no object any more, b is freed, and c grows by moving to where b was
+unfoldable pub ending : List Turn
+ending =
+    record { call = Collect runBase (bytesOf (addressOf runBase 1) ++ bytesOf (addressOf runBase 7)); stack = bytesOf 7 }
+    ∷ map bare (Survey runBase ∷ Load runBase 11 0 ∷ Load runBase 7 15 ∷ Free runBase 1 ∷ Reallocate runBase 4 40 ∷ Survey runBase ∷ [])
+
+abbrev pub run : List Turn
+run = fromInit runBase (filling ++ ending)
+
+-- before the init: a pool full of ones, and a table that is not even well-formed
+abbrev pub garbage : Heap
+garbage = heapOf (replicate 192 255) (7 ∷ 255 ∷ 170 ∷ [])
+
+pub run-accepted : (goodShape runBase garbage ≡ true) × (wellFormed (garbage .entries) ≡ false)
+unfolding goodShape goodBase addressOf entriesOf entryOf mayFollow wellAfter wellFormed
+run-accepted = (refl, refl)
+
+-- a list with an object in it
+abbrev pub twelve : Plain
+twelve = record { size = 12; objects = zeros 3 2 ∷ [] }
+
+unfoldable pub runAnswers : List Answer
+runAnswers =
+    onlyRefusal 0
+    -- the filling
+    ∷ placedAt 0 (pos 1) ∷ placedAt 1 (pos 3) ∷ placedAt 4 (pos 1) ∷ placedAt 5 (pos 2) ∷ placedAt 7 (pos 4) ∷ placedAt 11 (pos 1) ∷ onlyRefusal 9
+    ∷ onlyRefusal 0 ∷ onlyRefusal 0 ∷ onlyRefusal 0
+    ∷ onlyRefusal 0 ∷ onlyRefusal 8 ∷ onlyRefusal 1 ∷ loaded (addressOf runBase 5)
+    -- the ending
+    ∷ collectedTo 5 1 (minus 1)
+    ∷ surveyed 11 5 1 ∷ onlyRefusal 7 ∷ loaded (addressOf runBase 5) ∷ placedAt 0 (minus 3) ∷ placedAt 1 (pos 2) ∷ surveyed 10 4 1 ∷ []
+
+pub run-answers : replies run twelve ≡ runAnswers
+unfolding filling ending runAnswers tabulate number bytesOf wordAt wordsOf addressOf goodBase wholeWords blocksFor total find lowestGap longestGap nextStart insert remove replace isIn ledTo push followTo follow followAll emptyFor empty subtree fromRootTo fromRoots goThrough again againFor trace among places allocatedAt onObject named movedInto resized collectedBy loadedFrom storedIn reply replies
 run-answers = refl

@@ -1,0 +1,88 @@
+-- The theorems used on one run, from a table that is not well-formed: what the list answers is computed, and what the heap answers, how many
+-- blocks it uses and what a collection keeps follow by the theorems.
+-- Assumes nothing.
+use mathlib.Core.Path.{_≡_, refl, _∙_}
+use mathlib.Core.Bool.{not}
+use mathlib.Core.List.{List, [], _∷_, _++_, List·Memᴰ, List·Memᴰ·head, List·Memᴰ·tail}
+use native.Mathlib.Omega.{arith}
+use lib.Dec.{eqb}
+use lib.IntN.{pos}
+use lib.ListN.{replicate, set}
+use Rattle.rules.specs.Entries.{entriesOf}
+use Rattle.rules.specs.Tables.{used}
+use Rattle.rules.specs.Pointers.{addressOf, goodBase}
+use Rattle.rules.specs.Calls.{blocksFor}
+use Rattle.rules.specs.Runs.{after, answers}
+use Rattle.plain.specs.Objects.{Object, object, total, find, lowestGap, insert, replace}
+use Rattle.plain.specs.Tracing.{ledTo, trace, among}
+use Rattle.plain.specs.Reaching.{Reachable, root, edge, Keeps}
+use Rattle.plain.specs.Replies.{places, allocatedAt, onObject, named, loadedFrom, storedIn, reply, left}
+use Rattle.plain.specs.Refines.{AnswersAsList, ListKeepsReachable, counted}
+use Rattle.plain.specs.Examples.{zeros, runBase, filling, ending, runRoots, run, garbage, run-accepted, twelve, runAnswers, run-answers}
+use Rattle.plain.proofs.Refinement.{answers-as-list}
+use Rattle.plain.proofs.Reached.{of-at, list-keeps-reachable}
+use Rattle.plain.proofs.Consequences.{summed, used-answered, allOf, leadsInto, Closed, reachable-in}
+
+-- ---- what the heap answers
+
+pub garbage-answers : answers run garbage ≡ runAnswers
+unfolding AnswersAsList entriesOf
+garbage-answers = answers-as-list runBase garbage twelve (filling ++ ending) (run-accepted .0) refl ∙ run-answers
+
+-- ---- how many blocks are used
+
+-- whatever was counted before the init
+pub garbage-used : used (after run garbage .entries) ≡ 10
+unfolding summed counted filling ending runAnswers
+garbage-used =
+    let s = rw garbage-answers at (used-answered runBase garbage (filling ++ ending) (pos 99) (run-accepted .0)) in
+    cc
+
+-- ---- what a collection keeps
+
+abbrev c : Object
+c = zeros 4 1
+
+-- the last word is the address of c
+abbrev d : Object
+d = object 5 2 (set (replicate 8 0) 7 (addressOf runBase 4))
+
+abbrev e : Object
+e = object 7 4 (set (set (replicate 16 0) 0 (addressOf runBase 0)) 15 (addressOf runBase 5))
+
+abbrev f : Object
+f = object 11 1 (set (replicate 4 0) 0 (addressOf runBase 7))
+
+abbrev filled : List Object
+filled = zeros 0 1 ∷ zeros 1 3 ∷ c ∷ d ∷ e ∷ f ∷ []
+
+filling-left : left filling (record { size = 12; objects = [] }) .objects ≡ filled
+unfolding filling addressOf goodBase blocksFor total find lowestGap insert replace places allocatedAt onObject named loadedFrom storedIn reply left
+filling-left = refl
+
+-- what the collection of the run keeps, with one mark stack entry
+abbrev kept : List Object
+kept = among (trace (record { base = runBase; objects = filled; room = 1 }) runRoots .reached) filled
+
+pub run-keeps : Keeps runBase filled runRoots kept
+unfolding ListKeepsReachable
+run-keeps = rw filling-left at (list-keeps-reachable 12 filling runBase 1 runRoots (omega arith) (omega arith))
+
+-- a chain of two words from the second root
+pub c-reachable : Reachable runBase filled runRoots c
+unfolding ledTo addressOf
+c-reachable =
+    let r : Reachable runBase filled runRoots e = root {w = addressOf runBase 7} (List·Memᴰ·tail (List·Memᴰ·head refl)) refl in
+    let q : Reachable runBase filled runRoots d = edge {x = e} {w = addressOf runBase 5} r (of-at (e .words) 15 (omega arith)) refl in
+    edge {x = d} {w = addressOf runBase 4} q (of-at (d .words) 7 (omega arith)) refl
+
+pub c-kept : List·Memᴰ c kept
+c-kept = run-keeps .all c c-reachable
+
+-- no root and no word of another object leads to f
+all-but-f : Closed runBase filled runRoots (λ o. not (eqb (o .start) 11))
+unfolding allOf leadsInto ledTo addressOf
+all-but-f = record { roots-in = tt; words-in = tt }
+
+pub f-lost : List·Memᴰ f kept → ⊥
+f-lost m = reachable-in runBase filled runRoots _ all-but-f (run-keeps .only f m)
