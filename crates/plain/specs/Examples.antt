@@ -116,6 +116,7 @@ run = fromInit runBase (filling ++ ending)
 abbrev pub garbage : Heap
 garbage = heapOf (replicate 192 255) (7 ∷ 255 ∷ 170 ∷ [])
 
+-- the init is accepted all the same
 pub run-accepted : (goodShape runBase garbage ≡ true) × (wellFormed (garbage .entries) ≡ false)
 unfolding goodShape goodBase addressOf entriesOf entryOf mayFollow wellAfter wellFormed
 run-accepted = (refl, refl)
@@ -130,10 +131,10 @@ runAnswers =
     -- the filling
     ∷ placedAt 0 (pos 1) ∷ placedAt 1 (pos 3) ∷ placedAt 4 (pos 1) ∷ placedAt 5 (pos 2) ∷ placedAt 7 (pos 4) ∷ placedAt 11 (pos 1) ∷ onlyRefusal 9
     ∷ onlyRefusal 0 ∷ onlyRefusal 0 ∷ onlyRefusal 0
-    ∷ onlyRefusal 0 ∷ onlyRefusal 8 ∷ onlyRefusal 1 ∷ loaded (addressOf runBase 5)
+    ∷ onlyRefusal 0 ∷ onlyRefusal 8 ∷ onlyRefusal 1 ∷ loaded 0x2000_0050
     -- the ending
     ∷ collectedTo 5 1 (minus 1)
-    ∷ surveyed 11 5 1 ∷ onlyRefusal 7 ∷ loaded (addressOf runBase 5) ∷ placedAt 0 (minus 3) ∷ placedAt 1 (pos 2) ∷ surveyed 10 4 1 ∷ []
+    ∷ surveyed 11 5 1 ∷ onlyRefusal 7 ∷ loaded 0x2000_0050 ∷ placedAt 0 (minus 3) ∷ placedAt 1 (pos 2) ∷ surveyed 10 4 1 ∷ []
 
 pub run-answers : replies run twelve ≡ runAnswers
 unfolding filling ending runAnswers tabulate number bytesOf wordAt wordsOf addressOf goodBase wholeWords blocksFor total find lowestGap longestGap nextStart insert remove replace isIn ledTo push followTo follow followAll emptyFor empty subtree fromRootTo fromRoots goThrough again againFor trace among places allocatedAt onObject named movedInto resized collectedBy loadedFrom storedIn reply replies
