@@ -1,14 +1,14 @@
 -- A collection made on two heaps that differ in bytes of unreachable objects alone: the same table, the same answer, and pools that match again.
 -- Only the number of rescans looks at the room of the mark stack.
 -- Assumes nothing.
-use mathlib.Core.Path.{_≡_, refl, sym, _∙_}
+use mathlib.Core.Path.{_≡_, refl, sym, ap, _∙_}
 use mathlib.Core.Logic.{_≢_, inl}
 use mathlib.Core.Bool.{true}
 use mathlib.Core.List.{List, []}
 use Prim.Native.Nat.{ℕ, _+_, _*_, _/_, _%_, _<_}
 use native.Mathlib.Omega.{arith}
 use native.Mathlib.Decide.{ℕ-discrete}
-use lib.Dec.{ltb}
+use lib.Dec.{eqb, ltb}
 use lib.ListN.{length}
 use borrow.Author.Tests.{le-ltb}
 use Rattle.rules.specs.Words.{wordsOf}
@@ -35,7 +35,7 @@ use Rattle.runs.proofs.Same.{Same}
 pub stacks-whole : {stack stack′ : List ℕ} → SameStacks stack stack′ → wholeWords stack ≡ wholeWords stack′
 unfolding wholeWords
 stacks-whole (equally-long l) = rw l
-stacks-whole (both-good x y) = rw (x .whole, y .whole)
+stacks-whole (both-good x y) = ap (λ (r : ℕ). eqb r 0) (x .whole ∙ sym (y .whole))
 
 pub stacks-short : {stack stack′ : List ℕ} → SameStacks stack stack′ → ltb 64 (length stack / 4) ≡ ltb 64 (length stack′ / 4)
 stacks-short (equally-long l) = rw l
