@@ -58,6 +58,7 @@ heap-keeps base h ts at room roots good =
     let s = shape-true base h good in
     list-keeps-reachable (length (h .entries)) ts at room roots (s .some) (s .few)
 
+-- an accepted call passes each test, and its reply is what comes after
 passes : (b : Bool) (r : ℕ) (p : Plain) (x : Reply) → 0 < r → refuseIf b r p x .answer .refusal ≡ 0 → refuseIf b r p x ≡ x
 passes true r p x l e = absurd (omega arith)
 passes false r p x l e = refl
@@ -82,14 +83,17 @@ keeps-one x y o m = y .all o (x .only o m)
 
 -- ---- in rising order
 
+-- from a lower block on
 rising-from : {a b : ℕ} {os : List Object} → a ≤ b → Rising b os → Rising a os
 rising-from l done = done
 rising-from {a} l (next {o = o} m b r) = let e : a ≤ o .start = omega arith in next e b r
 
+-- a list that lies in a pool and a table
 laid-rising : {pool es : List ℕ} {from : ℕ} {os : List Object} → lie.Laid pool es from os → Rising from os
 laid-rising (lie.done r g) = done
 laid-rising (lie.next l g y e r) = next l (y .some-block) (laid-rising r)
 
+-- those that are among given starts
 among-rising : (m : List ℕ) {from : ℕ} {os : List Object} → Rising from os → Rising from (among m os)
 unfolding among
 among-rising m done = done
@@ -99,10 +103,11 @@ among-rising m (next {from = from} {o = o} {os = os} l b r) = go (isIn (o .start
     go true rest = next l b rest
     go false rest = rising-from (omega arith) rest
 
--- the objects after any calls, and those of them that are kept
+-- the objects after any calls
 pub left-rising : (n : ℕ) (ts : List Turn) → 1 ≤ n → n ≤ 4096 → Rising 0 (left ts (record { size = n; objects = [] }) .objects)
 left-rising n ts l u = laid-rising (left-represents ts (blank-represents n l u) .laid)
 
+-- as the collection of ListKeepsReachable keeps them
 pub kept-rising : (n : ℕ) (ts : List Turn) (base room : ℕ) (roots : List ℕ) → 1 ≤ n → n ≤ 4096
     → let os : List Object = left ts (record { size = n; objects = [] }) .objects in
     Rising 0 (among (trace (record { base = base; objects = os; room = room }) roots .reached) os)
@@ -115,10 +120,12 @@ unfoldable pub allOf : {A : Type 0} → (A → Bool) → List A → Bool
 allOf f [] = true
 allOf f (x ∷ xs) = both (f x) (allOf f xs)
 
+-- two tests that both hold
 both-parts : (a b : Bool) → T (both a b) → T a × T b
 both-parts true b t = (tt, t)
 both-parts false b t = absurd t
 
+-- read at one element
 all-at : {A : Type 0} (f : A → Bool) {x : A} {xs : List A} → T (allOf f xs) → List·Memᴰ x xs → T (f x)
 unfolding allOf
 all-at f {x} t (List·Memᴰ·head {x = y} {xs = ys} e) = subst (λ z. T (f z)) (sym e) (both-parts (f y) (allOf f ys) t .0)
@@ -134,10 +141,12 @@ pub record Closed (base : ℕ) (os : List Object) (roots : List ℕ) (s : Object
   pub words-in : T (allOf (λ (o : Object). pick (s o) (allOf (leadsInto base os s) (o .words)) true) os)
 
 module _ (base : ℕ) (os : List Object) (roots : List ℕ) (s : Object → Bool) (c : Closed base os roots s) where
+  -- what such a word leads to
   leads-in : (w : ℕ) (o : Object) → ledTo base w os ≡ some o → T (leadsInto base os s w) → T (s o)
   unfolding leadsInto
   leads-in w o e t = subst (λ (x : Option Object). T (elim x as (λ y. Bool) [ none ↦ true | some z ↦ s z ])) e t
 
+  -- a reachable object is one of the list
   member : {o : Object} → Reachable base os roots o → List·Memᴰ o os
   member (root {w = w} m e) = led-member base w os e
   member (edge {w = w} r m e) = led-member base w os e

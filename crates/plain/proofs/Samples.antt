@@ -25,6 +25,7 @@ use Rattle.plain.proofs.Consequences.{summed, used-answered, allOf, lea
 
 -- ---- what the heap answers
 
+-- as the list does, whatever pool, table and list held before
 pub garbage-answers : answers run garbage ≡ runAnswers
 unfolding AnswersAsList entriesOf
 garbage-answers = answers-as-list runBase garbage twelve (filling ++ ending) (run-accepted .0) refl ∙ run-answers
@@ -40,22 +41,27 @@ garbage-used =
 
 -- ---- what a collection keeps
 
+-- objects of the drawing, as the filling leaves them: c holds zeros
 abbrev c : Object
 c = zeros 4 1
 
--- the last word is the address of c
+-- the last word of d is the address of c
 abbrev d : Object
 d = object 5 2 (set (replicate 8 0) 7 (addressOf runBase 4))
 
+-- the first word of e is the address of a, the last that of d
 abbrev e : Object
 e = object 7 4 (set (set (replicate 16 0) 0 (addressOf runBase 0)) 15 (addressOf runBase 5))
 
+-- the first word of f is the address of e
 abbrev f : Object
 f = object 11 1 (set (replicate 4 0) 0 (addressOf runBase 7))
 
+-- all six, a and b with zeros
 abbrev filled : List Object
 filled = zeros 0 1 ∷ zeros 1 3 ∷ c ∷ d ∷ e ∷ f ∷ []
 
+-- the filling leaves these
 filling-left : left filling (record { size = 12; objects = [] }) .objects ≡ filled
 unfolding filling addressOf goodBase blocksFor total find lowestGap insert replace places allocatedAt onObject named loadedFrom storedIn reply left
 filling-left = refl
@@ -64,6 +70,7 @@ filling-left = refl
 abbrev kept : List Object
 kept = among (trace (record { base = runBase; objects = filled; room = 1 }) runRoots .reached) filled
 
+-- it keeps exactly what is reachable
 pub run-keeps : Keeps runBase filled runRoots kept
 unfolding ListKeepsReachable
 run-keeps = rw filling-left at (list-keeps-reachable 12 filling runBase 1 runRoots (omega arith) (omega arith))
@@ -76,6 +83,7 @@ c-reachable =
     let q : Reachable runBase filled runRoots d = edge {x = e} {w = addressOf runBase 5} r (of-at (e .words) 15 (omega arith)) refl in
     edge {x = d} {w = addressOf runBase 4} q (of-at (d .words) 7 (omega arith)) refl
 
+-- so c is kept
 pub c-kept : List·Memᴰ c kept
 c-kept = run-keeps .all c c-reachable
 
@@ -84,5 +92,6 @@ all-but-f : Closed runBase filled runRoots (λ o. not (eqb (o .start) 11))
 unfolding allOf leadsInto ledTo addressOf
 all-but-f = record { roots-in = tt; words-in = tt }
 
+-- so f is not kept
 pub f-lost : List·Memᴰ f kept → ⊥
 f-lost m = reachable-in runBase filled runRoots _ all-but-f (run-keeps .only f m)

@@ -42,13 +42,16 @@ answer-other (but-rescans z n e) c = absurd (true≢false c)
 
 -- ---- all answers
 
+-- equal heads and equal tails
 cons-same : {A : Type 0} {a b : A} {xs ys : List A} → a ≡ b → xs ≡ ys → a ∷ xs ≡ b ∷ ys
 cons-same e f = cc
 
+-- every part but the rescans, call by call
 pub answers-but-rescans : {ts us : List Turn} {xs ys : List Answer} → SameAnswers ts us xs ys → map butRescans xs ≡ map butRescans ys
 answers-but-rescans done = refl
 answers-but-rescans (next x r) = cons-same (answer-but-rescans x) (answers-but-rescans r)
 
+-- every part, if each two mark stacks are equally long
 pub answers-long : {ts us : List Turn} {xs ys : List Answer} → SameAnswers ts us xs ys → stackLengths ts ≡ stackLengths us → xs ≡ ys
 unfolding stackLengths
 answers-long done l = refl

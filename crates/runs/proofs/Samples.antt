@@ -31,28 +31,29 @@ use Rattle.runs.specs.Unseen.{callsOf, stackLengths}
 use Rattle.runs.specs.Samples.{sampleBase, sampleTable, sampleRoots, firstPool, secondPool, thirdPool, firstHeap, secondHeap, thirdHeap, firstCalls, secondCalls, loadingCalls}
 use Rattle.runs.proofs.Noninterference.{noninterference}
 use Rattle.runs.proofs.Conclusions.{answer-but-rescans, answers-later, same-tables, same-words}
-use Rattle.runs.proofs.Hypotheses.{stacks-good, alike-long, also-accepted}
+use Rattle.runs.proofs.Hypotheses.{stacks-good, alike-long, agree-of, also-accepted}
 
 -- ---- agreement on the reachable objects, as a test over the objects that a collection keeps
 
+-- the bytes of one object
 agreeIn : Heap → Heap → ℕ → Bool
 agreeIn h h′ o = allBelow (16 * blockCount (h .entries) o) (λ (i : ℕ). eqb (getD (h .pool) (16 * o + i) 0) (getD (h′ .pool) (16 * o + i) 0))
 
+-- the bytes of each kept object
 pub agreeTest : Heap → Heap → List ℕ → Bool
 agreeTest h h′ kept = allBelow (length (h .entries)) (λ (o : ℕ). either (not (isHead (entryAt kept o))) (agreeIn h h′ o))
 
+-- the kept objects are the reachable ones
 agree-tested : (base : ℕ) (h h′ : Heap) (roots : List ℕ) → wellFormed (h .entries) ≡ true → h .entries ≡ h′ .entries
     → T (agreeTest h h′ (collected base h roots 0)) → Agree base roots h h′
 unfolding agreeIn agreeTest
 agree-tested base h h′ roots well table t =
-    record {
-      table = table;
-      bytes = λ o r i l.
-          let k = collected-kept base h roots 0 well o r in
-          let a = below _ _ t o (head-inside (h .entries) o (reachable-head base h roots well o r)) in
-          let b : T (agreeIn h h′ o) = rw k at a in
-          eqb→eq _ _ (below _ _ b i l);
-    }
+    agree-of base roots h h′ table
+    (λ o r i l.
+    let k = collected-kept base h roots 0 well o r in
+    let a = below _ _ t o (head-inside (h .entries) o (reachable-head base h roots well o r)) in
+    let b : T (agreeIn h h′ o) = rw k at a in
+    eqb→eq _ _ (below _ _ b i l))
 
 -- ---- what is computed
 
@@ -97,15 +98,17 @@ computed =
       third-loads = refl;
     }
 
+-- the rescans of the first answer
 firstRescans : List Answer → ℕ
 firstRescans [] = 0
 firstRescans (a ∷ xs) = a .rescans
 
--- a first answer that is accepted
+-- its refusal number
 firstRefusal : List Answer → ℕ
 firstRefusal [] = 0
 firstRefusal (a ∷ xs) = a .refusal
 
+-- a first answer that is accepted
 accepted : (t : Turn) (ts : List Turn) (h : Heap) (a : Answer) (xs : List Answer) → answers (t ∷ ts) h ≡ a ∷ xs → a .refusal ≡ 0 → Accepted (step (t .call) (t .stack) h)
 unfolding answers firstRefusal
 accepted t ts h a xs e z = ap firstRefusal e ∙ z
@@ -121,9 +124,11 @@ pub samples-alike : Alike firstCalls secondCalls
 unfolding callsOf stackLengths bytesOf
 samples-alike = next _ samples-stacks (alike-long _ _ refl refl)
 
+-- they agree on what is reachable
 pub first-second-agree : Agree sampleBase (wordsOf sampleRoots) firstHeap secondHeap
 first-second-agree = agree-tested sampleBase firstHeap secondHeap (wordsOf sampleRoots) (computed .well) refl (computed .tested)
 
+-- so they are not told apart: the second collection is accepted because the first is
 pub first-second-indistinct : Indistinct firstCalls secondCalls firstHeap secondHeap
 unfolding step
 first-second-indistinct =
@@ -136,11 +141,11 @@ pub second-answers : (r : ℕ) × (answers secondCalls secondHeap ≡ collectedT
 unfolding stackLengths bytesOf
 second-answers = answers-later (rw (computed .first-answers) at (first-second-indistinct .same-answers)) refl
 
--- and that is the table which it is left with
+-- the table which it is left with
 pub second-table : tableOf (after secondCalls secondHeap .entries) ≡ 65 ∷ 36 ∷ 165 ∷ []
 second-table = sym (same-tables first-second-indistinct) ∙ computed .first-table
 
--- and that the last word of g
+-- and the last word of g
 pub second-word : wordAt (after secondCalls secondHeap .pool) 47 ≡ 0xDEAD_BEEF
 second-word = sym (same-words first-second-indistinct 11 (λ f. let e = computed .first-used in omega arith) 3 (omega arith)) ∙ computed .first-word
 
