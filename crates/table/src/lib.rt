@@ -14,9 +14,9 @@ pub fn block_count(table: &[u8], k: Block) -> usize
     requires { ⌜ (length (now table) ≤ 1024) × (k .0 < length (entriesOf (now table))) ⌝ }
     ensures { λ r. ⌜ (r ≡ blockCount (entriesOf (now (table .entry))) (k .0)) × (k .0 + r ≤ length (entriesOf (now (table .entry)))) ⌝ }
 {
-    let most = k.until(entries::blocks(table));
+    let n = entries::blocks(table);
     let mut count = 1;
-    while count < most {
+    while k.plus(count).is_below(n) {
         if entries::entry(table, k.plus(count)) != entries::TAIL {
             return count;
         }
