@@ -6,17 +6,12 @@ use mathlib.Core.List.{List}
 use Prim.Native.Nat.{ℕ, suc, _≤_}
 use native.Mathlib.Omega.{arith}
 use Rattle.rules.specs.Outcomes.{Heap, Answer, Outcome}
-use Rattle.keeping.specs.Keeping.{FewRescans, Collected, butRescans}
+use Rattle.keeping.specs.Keeping.{FewRescans, Collected, withRescans, butRescans}
 use Rattle.keeping.proofs.Same.{keeps-one}
-
--- an answer with another number of rescans
-abbrev withRescans : Answer → ℕ → Answer
-withRescans a n =
-    record { refusal = a .refusal; block = a .block; change = a .change; kept = a .kept; rescans = n; used = a .used; objects = a .objects; longest = a .longest; value = a .value }
 
 -- an answer is its rescans and all the rest
 pub answer-parts : (a b : Answer) → butRescans a ≡ butRescans b → a .rescans ≡ b .rescans → a ≡ b
-answer-parts a b e r = ap (λ (x : Answer). withRescans x (a .rescans)) e ∙ ap (withRescans b) r
+answer-parts a b e r = ap (withRescans (a .rescans)) e ∙ ap (λ (n : ℕ). withRescans n b) r
 
 -- with k objects beside one, there are at most k rescans
 pub few-beside : {k room rescans : ℕ} → FewRescans (suc k) room rescans → rescans ≤ k

@@ -85,10 +85,14 @@ pub record Collected (base : ℕ) (h : Heap) (roots lent : List ℕ) (o : Outcom
   -- every mark stack entry is zero
   pub stack : o .stack ≡ replicate (length lent) 0
 
+-- an answer with r rescans
+abbrev pub withRescans : ℕ → Answer → Answer
+withRescans r a =
+    record { refusal = a .refusal; block = a .block; change = a .change; kept = a .kept; rescans = r; used = a .used; objects = a .objects; longest = a .longest; value = a .value }
+
 -- an answer but for the number of rescans
 abbrev pub butRescans : Answer → Answer
-butRescans a =
-    record { refusal = a .refusal; block = a .block; change = a .change; kept = a .kept; rescans = 0; used = a .used; objects = a .objects; longest = a .longest; value = a .value }
+butRescans a = withRescans 0 a
 
 -- Exact keeping: every accepted collection of a pool and a table, from any roots and with any mark stack, answers and leaves that.
 abbrev pub KeepsExactly : Type 0

@@ -14,9 +14,9 @@ use Rattle.rules.specs.Tables.{entryAt}
 use Rattle.rules.specs.Outcomes.{Heap, Answer}
 use Rattle.rules.specs.Runs.{Call, Turn, after, answers}
 use Rattle.rules.proofs.Words.{wordAt-same}
-use Rattle.keeping.specs.Keeping.{butRescans}
+use Rattle.keeping.specs.Keeping.{withRescans, butRescans}
 use Rattle.runs.specs.Noninterference.{SameAnswer, equal, but-rescans, SameAnswers, done, next, Indistinct}
-use Rattle.runs.specs.Unseen.{stackLengths, collects, withRescans}
+use Rattle.runs.specs.Unseen.{stackLengths, collects}
 
 -- ---- one answer
 

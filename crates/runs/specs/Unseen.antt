@@ -10,7 +10,7 @@ use lib.ListN.{length}
 use Rattle.rules.specs.Words.{wordAt, wordsOf}
 use Rattle.rules.specs.Entries.{FREE, tableOf}
 use Rattle.rules.specs.Tables.{entryAt}
-use Rattle.rules.specs.Outcomes.{Heap, Answer, heapOf}
+use Rattle.rules.specs.Outcomes.{Heap, heapOf}
 use Rattle.rules.specs.Runs.{Call, Init, Allocate, Free, Reallocate, Collect, Survey, Load, Store, step, Turn, after, answers}
 use Rattle.rules.specs.Meaning.{Accepted}
 use Rattle.keeping.specs.Keeping.{Agree}
@@ -36,11 +36,6 @@ collects (Collect base roots) = true
 collects (Survey base) = false
 collects (Load base k i) = false
 collects (Store base k i w) = false
-
--- an answer with r rescans
-abbrev pub withRescans : ℕ → Answer → Answer
-withRescans r a =
-    record { refusal = a .refusal; block = a .block; change = a .change; kept = a .kept; rescans = r; used = a .used; objects = a .objects; longest = a .longest; value = a .value }
 
 -- a caller sees the same of two heaps, after the calls ts on the one and the calls us on the other
 pub record SeenAlike (ts us : List Turn) (h h′ : Heap) : Type 0 where
