@@ -22,6 +22,6 @@ pub use draw::{call as draw_call, entry, object_blocks};
 pub use guarded::Guarded;
 pub use pairs::{run_pairs, PairCounts};
 pub use random::Random;
-pub use subject::{library, second, second_on_list, wrapper, Subject};
+pub use subject::{library, on_list, second, second_on_list, wrapper, Subject};
 pub use walk::{run_walks, Sizes};
 pub use wanted::wanted;

@@ -117,15 +117,26 @@ fn on_wrapper(call: &Call, lent: &mut Lent) -> Result<[i64; 3], blockheap::Refus
 
 /// The plain-list heap on lent memory.
 pub fn second(call: &Call, lent: &mut Lent) -> Reply {
-    let (base, pool, table) = (lent.base, &mut lent.pool, &mut lent.table);
+    let (heap, roots, stack) = for_list(lent);
     reply(match call {
-        Call::Init => listheap::init(base, pool, table).map(|()| [0; 3]),
-        Call::Collect => {
-            listheap::collect_on_bytes(base, pool, table, &lent.roots, &mut lent.stack)
-                .map(collected_parts)
-        }
-        _ => listheap::on_bytes(base, pool, table, |heap| on_list(call, heap)),
+        Call::Init => heap.init().map(|()| [0; 3]),
+        Call::Collect => heap.collect(roots, stack).map(collected_parts),
+        _ => heap.on_list(|heap| call_on_list(call, heap)),
     })
+}
+
+/// Lets `work` change the list of the objects in lent memory.
+pub fn on_list<A>(
+    lent: &mut Lent,
+    work: impl FnOnce(&mut ListHeap) -> Result<A, Refusal>,
+) -> Result<A, Refusal> {
+    for_list(lent).0.on_list(work)
+}
+
+/// What is lent as the plain-list heap takes it: the heap, roots and mark stack.
+fn for_list(lent: &mut Lent) -> (listheap::Lent<'_>, &[u8], &mut [u8]) {
+    let heap = listheap::Lent { base: lent.base, pool: &mut lent.pool, table: &mut lent.table };
+    (heap, &lent.roots, &mut lent.stack)
 }
 
 /// The plain-list heap on a list that is kept from call to call; only roots and mark stack are lent.
@@ -141,11 +152,11 @@ pub fn second_on_list(call: &Call, heap: &mut ListHeap, lent: &Lent) -> Reply {
             let roots = listheap::words_of(&lent.roots);
             heap.collect(&roots, lent.stack.len() / 4).map(collected_parts)
         }
-        _ => on_list(call, heap),
+        _ => call_on_list(call, heap),
     })
 }
 
-fn on_list(call: &Call, heap: &mut ListHeap) -> Result<[i64; 3], Refusal> {
+fn call_on_list(call: &Call, heap: &mut ListHeap) -> Result<[i64; 3], Refusal> {
     let placed = |placed: listheap::Placed| [placed.block as i64, placed.change, 0];
     Ok(match *call {
         Call::Init | Call::Collect => unreachable!("handled by the callers"),

@@ -1,6 +1,8 @@
 //! The comparison must notice a wrong heap: each heap here follows all rules but one.
 
-use compare::{entry, object_blocks, run_pairs, run_walks, second, Call, Guarded, Lent, Reply};
+use compare::{
+    entry, object_blocks, on_list, run_pairs, run_walks, second, Call, Guarded, Lent, Reply,
+};
 use compare::{Coverage, Sizes, Subject};
 use listheap::{Collected, ListHeap, Marking, Placed, Refusal};
 use std::os::unix::process::ExitStatusExt;
@@ -142,10 +144,8 @@ fn collect_by(
     }
     let (roots, entries) = (listheap::words_of(&before.roots), before.stack.len() / 4);
     *lent = Lent { stack: lent.stack.clone(), ..before };
-    let collected = listheap::on_bytes(lent.base, &mut lent.pool, &mut lent.table, |heap| {
-        Ok(collect(heap, &roots, entries))
-    })
-    .expect("an accepted collection");
+    let collected =
+        on_list(lent, |heap| Ok(collect(heap, &roots, entries))).expect("an accepted collection");
     Reply::accepted([collected.kept as i64, collected.rescans as i64, collected.change])
 }
 
@@ -243,7 +243,7 @@ fn moves_into_its_own_blocks(call: &Call, lent: &mut Lent) -> Reply {
     if reply.refusal != Refusal::NoRoom.number() {
         return reply;
     }
-    let moved = listheap::on_bytes(lent.base, &mut lent.pool, &mut lent.table, |heap| {
+    let moved = on_list(lent, |heap| {
         let old = heap.objects.iter().find(|object| object.start == block).cloned();
         let freed = heap.free(block)?;
         let placed = heap.allocate(bytes)?;
@@ -268,7 +268,7 @@ fn misses_the_lowest_start(call: &Call, lent: &mut Lent) -> Reply {
     let mut reply = second(call, lent);
     if let (0, Call::Allocate { .. }) = (reply.refusal, call) {
         let block = reply.parts[0] as u64;
-        reply.parts[0] = listheap::on_bytes(lent.base, &mut lent.pool, &mut lent.table, |heap| {
+        reply.parts[0] = on_list(lent, |heap| {
             let free = |block| block < heap.blocks && heap.objects.iter().all(|o| o.start != block);
             let index = heap.objects.iter().position(|object| object.start == block);
             let object = index.expect("the new object");

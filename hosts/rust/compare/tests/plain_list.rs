@@ -1,7 +1,7 @@
 //! From an accepted init on, the library answers as a list of objects that is never read back from
 //! pool or table would.
 
-use compare::{draw_call, library, second_on_list, Call, Lent, Random};
+use compare::{draw_call, library, on_list, second_on_list, Call, Lent, Random};
 use listheap::ListHeap;
 
 const BASE: u64 = 4096;
@@ -41,8 +41,7 @@ fn change(call: &Call, parts: &[i64; 3]) -> i64 {
 
 /// The objects that table and pool hold.
 fn read_back(lent: &mut Lent) -> ListHeap {
-    listheap::on_bytes(lent.base, &mut lent.pool, &mut lent.table, |heap| Ok(heap.clone()))
-        .expect("a heap that is in order")
+    on_list(lent, |heap| Ok(heap.clone())).expect("a heap that is in order")
 }
 
 #[test]

@@ -1,24 +1,7 @@
 //! The plain-list heap behind the C header, so that the benchmark can run it as it runs the library.
 
-use listheap::{Collected, ListHeap, Placed, Refusal};
+use listheap::{Collected, Lent, Placed, Refusal};
 use std::slice::{from_raw_parts, from_raw_parts_mut};
-
-/// A heap as C hands it over. The list writes back what it read: where the header lends pool or table
-/// as const, the same bytes.
-struct Lent<'c> {
-    base: u64,
-    pool: &'c mut [u8],
-    table: &'c mut [u8],
-}
-
-impl Lent<'_> {
-    fn on_list<A>(
-        self,
-        call: impl FnOnce(&mut ListHeap) -> Result<A, Refusal>,
-    ) -> Result<A, Refusal> {
-        listheap::on_bytes(self.base, self.pool, self.table, call)
-    }
-}
 
 /// The refusal number, with the answer's parts in their places, zero on a refusal.
 unsafe fn answer<const N: usize>(result: Result<[i64; N], Refusal>, places: [*mut u32; N]) -> u32 {
@@ -40,7 +23,8 @@ fn collected_parts(collected: Collected) -> [i64; 3] {
     [collected.kept as i64, collected.rescans as i64, collected.change]
 }
 
-/// Exports a call on a heap: its own arguments, the places of its answers, and what it does.
+/// Exports a call on a heap: its own arguments, the places of its answers, and what it does. The list
+/// writes back what it read: where the header lends pool or table as const, the same bytes.
 macro_rules! export {
     ($name:ident($($argument:ident: $type:ty),*) -> [$($place:ident),*], $lent:ident => $call:expr) => {
         /// # Safety
@@ -58,8 +42,7 @@ macro_rules! export {
     };
 }
 
-export!(blockheap_init() -> [], lent =>
-    listheap::init(lent.base, lent.pool, lent.table).map(|()| []));
+export!(blockheap_init() -> [], lent => lent.init().map(|()| []));
 export!(blockheap_allocate(bytes: u64) -> [block, change], lent =>
     lent.on_list(|heap| heap.allocate(bytes)).map(placed_parts));
 export!(blockheap_free(block: u64) -> [change], lent =>
@@ -70,8 +53,7 @@ export!(blockheap_collect(roots: *const u8, roots_len: usize, stack: *mut u8, st
 -> [kept, rescans, change], lent => {
     let roots = from_raw_parts(roots, roots_len);
     let stack = from_raw_parts_mut(stack, stack_len);
-    listheap::collect_on_bytes(lent.base, lent.pool, lent.table, roots, stack)
-        .map(collected_parts)
+    lent.collect(roots, stack).map(collected_parts)
 });
 export!(blockheap_survey() -> [used, objects, longest], lent =>
     lent.on_list(|heap| Ok(heap.survey()))

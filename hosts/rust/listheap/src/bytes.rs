@@ -11,42 +11,86 @@ const FREE: u8 = 0;
 const HEAD: u8 = 1;
 const TAIL: u8 = 2;
 
-pub fn init(base: u64, pool: &[u8], table: &mut [u8]) -> Result<(), Refusal> {
-    check_shape(base, pool, table)?;
-    encode_table(&[], table);
-    Ok(())
+/// A heap in lent bytes.
+pub struct Lent<'m> {
+    pub base: u64,
+    pub pool: &'m mut [u8],
+    pub table: &'m mut [u8],
 }
 
-/// Reads the heap, lets `call` work on its list and, if it is accepted, writes the heap back.
-pub fn on_bytes<A>(
-    base: u64,
-    pool: &mut [u8],
-    table: &mut [u8],
-    call: impl FnOnce(&mut ListHeap) -> Result<A, Refusal>,
-) -> Result<A, Refusal> {
-    check_shape(base, pool, table)?;
-    let mut heap = decode(base, pool, table)?;
-    let answer = call(&mut heap)?;
-    encode(&heap, pool, table);
-    Ok(answer)
-}
-
-/// Collect, with roots and mark stack as bytes.
-pub fn collect_on_bytes(
-    base: u64,
-    pool: &mut [u8],
-    table: &mut [u8],
-    roots: &[u8],
-    stack: &mut [u8],
-) -> Result<Collected, Refusal> {
-    if roots.len() % WORD_BYTES != 0 || stack.len() % WORD_BYTES != 0 {
-        return Err(Refusal::Shape);
+impl Lent<'_> {
+    pub fn init(self) -> Result<(), Refusal> {
+        self.check_shape()?;
+        encode_table(&[], self.table);
+        Ok(())
     }
-    let collected = on_bytes(base, pool, table, |heap| {
-        heap.collect(&words_of(roots), stack.len() / WORD_BYTES)
-    })?;
-    stack.fill(0);
-    Ok(collected)
+
+    /// Reads the heap, lets `call` work on its list and, if it is accepted, writes the heap back.
+    pub fn on_list<A>(
+        self,
+        call: impl FnOnce(&mut ListHeap) -> Result<A, Refusal>,
+    ) -> Result<A, Refusal> {
+        self.check_shape()?;
+        let mut heap = self.decode()?;
+        let answer = call(&mut heap)?;
+        self.encode(&heap);
+        Ok(answer)
+    }
+
+    /// Collect, with roots and mark stack as bytes.
+    pub fn collect(self, roots: &[u8], stack: &mut [u8]) -> Result<Collected, Refusal> {
+        if roots.len() % WORD_BYTES != 0 || stack.len() % WORD_BYTES != 0 {
+            return Err(Refusal::Shape);
+        }
+        let entries = stack.len() / WORD_BYTES;
+        let collected = self.on_list(|heap| heap.collect(&words_of(roots), entries))?;
+        stack.fill(0);
+        Ok(collected)
+    }
+
+    fn check_shape(&self) -> Result<(), Refusal> {
+        let table_fits = (1..=1024).contains(&self.table.len());
+        let pool_fits = self.pool.len() == 64 * self.table.len();
+        let end = self.base.checked_add(self.pool.len() as u64);
+        let end_fits = end.is_some_and(|end| end <= ADDRESSES);
+        let base_fits = self.base >= 16 && self.base % 16 == 0 && end_fits;
+        if table_fits && pool_fits && base_fits {
+            Ok(())
+        } else {
+            Err(Refusal::Shape)
+        }
+    }
+
+    fn decode(&self) -> Result<ListHeap, Refusal> {
+        let mut heap = ListHeap::empty(self.base, ENTRIES_PER_BYTE * self.table.len() as u64);
+        for block in 0..heap.blocks {
+            match entry(self.table, block) {
+                FREE => {}
+                HEAD => heap.objects.push(Object { start: block, blocks: 1, words: Vec::new() }),
+                TAIL => match heap.objects.last_mut() {
+                    Some(object) if object.end() == block => object.blocks += 1,
+                    _ => return Err(Refusal::Table),
+                },
+                _ => return Err(Refusal::Table),
+            }
+        }
+        for object in &mut heap.objects {
+            object.words = words_of(&self.pool[bytes_of(object)]);
+        }
+        Ok(heap)
+    }
+
+    /// Writes the table anew and the words of every object; the bytes of free blocks stay.
+    fn encode(self, heap: &ListHeap) {
+        encode_table(&heap.objects, self.table);
+        for object in &heap.objects {
+            debug_assert_eq!(object.words.len() as u64, object.blocks * WORDS_PER_BLOCK);
+            let bytes = &mut self.pool[bytes_of(object)];
+            for (bytes, word) in bytes.chunks_exact_mut(WORD_BYTES).zip(&object.words) {
+                bytes.copy_from_slice(&word.to_le_bytes());
+            }
+        }
+    }
 }
 
 /// The words that the bytes spell, lowest byte first.
@@ -55,49 +99,6 @@ pub fn words_of(bytes: &[u8]) -> Vec<u32> {
         .chunks_exact(WORD_BYTES)
         .map(|word| word.iter().rev().fold(0, |above, byte| above * 256 + u32::from(*byte)))
         .collect()
-}
-
-fn check_shape(base: u64, pool: &[u8], table: &[u8]) -> Result<(), Refusal> {
-    let table_fits = (1..=1024).contains(&table.len());
-    let pool_fits = pool.len() == 64 * table.len();
-    let end = base.checked_add(pool.len() as u64);
-    let base_fits = base >= 16 && base % 16 == 0 && end.is_some_and(|end| end <= ADDRESSES);
-    if table_fits && pool_fits && base_fits {
-        Ok(())
-    } else {
-        Err(Refusal::Shape)
-    }
-}
-
-fn decode(base: u64, pool: &[u8], table: &[u8]) -> Result<ListHeap, Refusal> {
-    let mut heap = ListHeap::empty(base, ENTRIES_PER_BYTE * table.len() as u64);
-    for block in 0..heap.blocks {
-        match entry(table, block) {
-            FREE => {}
-            HEAD => heap.objects.push(Object { start: block, blocks: 1, words: Vec::new() }),
-            TAIL => match heap.objects.last_mut() {
-                Some(object) if object.end() == block => object.blocks += 1,
-                _ => return Err(Refusal::Table),
-            },
-            _ => return Err(Refusal::Table),
-        }
-    }
-    for object in &mut heap.objects {
-        object.words = words_of(&pool[bytes_of(object)]);
-    }
-    Ok(heap)
-}
-
-/// Writes the table anew and the words of every object; the bytes of free blocks stay.
-fn encode(heap: &ListHeap, pool: &mut [u8], table: &mut [u8]) {
-    encode_table(&heap.objects, table);
-    for object in &heap.objects {
-        debug_assert_eq!(object.words.len() as u64, object.blocks * WORDS_PER_BLOCK);
-        let bytes = &mut pool[bytes_of(object)];
-        for (bytes, word) in bytes.chunks_exact_mut(WORD_BYTES).zip(&object.words) {
-            bytes.copy_from_slice(&word.to_le_bytes());
-        }
-    }
 }
 
 fn encode_table(objects: &[Object], table: &mut [u8]) {
@@ -140,7 +141,8 @@ mod tests {
     #[test]
     fn a_table_and_its_list_are_the_same_heap() {
         let (mut pool, mut table) = ([7; 128], [165, 169]);
-        let spans = on_bytes(4096, &mut pool, &mut table, |heap| {
+        let lent = Lent { base: 4096, pool: &mut pool, table: &mut table };
+        let spans = lent.on_list(|heap| {
             Ok(heap.objects.iter().map(|o| (o.start, o.blocks)).collect::<Vec<_>>())
         });
         assert_eq!(spans, Ok(vec![(0, 1), (1, 3), (4, 4)]));

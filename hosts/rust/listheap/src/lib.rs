@@ -1,8 +1,8 @@
 //! The block heap as a plain list of objects, each a start, a block count and its words.
 //!
 //! It is written from the rules of the heap alone and shares nothing with the library: it keeps no
-//! table while it works, and finds room between the objects of its list. [`on_bytes`] reads a lent
-//! table and pool into such a list, lets a call work on the list, and writes the list back.
+//! table while it works, and finds room between the objects of its list. [`Lent::on_list`] reads
+//! a lent table and pool into such a list, lets a call work on the list, and writes the list back.
 //! It is made to be plain, not fast.
 
 mod bytes;
@@ -10,7 +10,7 @@ mod collect;
 mod heap;
 mod refusal;
 
-pub use bytes::{collect_on_bytes, init, on_bytes, words_of};
+pub use bytes::{words_of, Lent};
 pub use collect::{Collected, Marking};
 pub use heap::{ListHeap, Object, Placed, Survey};
 pub use refusal::Refusal;
