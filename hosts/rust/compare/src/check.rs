@@ -11,7 +11,7 @@ pub fn compare(subject: Subject, call: &Call, before: &Lent) -> Result<(Reply, L
     let difference = reply_difference(call, &reply, &expected_reply)
         .or_else(|| lent_difference(&after, &expected))
         .or_else(|| refusal_fault(&reply, before, &after))
-        .or_else(|| rescan_fault(call, &reply, before));
+        .or_else(|| rescan_fault(&reply, before));
     match difference {
         None => Ok((reply, after)),
         Some(difference) => Err(format!("{difference}\n  {}", describe(call, before))),
@@ -19,16 +19,18 @@ pub fn compare(subject: Subject, call: &Call, before: &Lent) -> Result<(Reply, L
 }
 
 fn reply_difference(call: &Call, reply: &Reply, expected: &Reply) -> Option<String> {
-    if reply.strayed {
-        return Some("the call wrote beside the places for its answers".to_string());
+    if reply.stray_words != 0 {
+        let words = reply.stray_words;
+        return Some(format!("{words} words beside the places for the answers were written"));
     }
     if reply.refusal != expected.refusal {
         return Some(format!("refusal {} where {} is right", reply.refusal, expected.refusal));
     }
-    let mut parts = call.answer_names().iter().zip(reply.parts.iter().zip(&expected.parts));
-    parts
-        .find(|(_, (part, expected))| part != expected)
-        .map(|(name, (part, expected))| format!("{name} {part} where {expected} is right"))
+    let parts = |name| (name, reply.parts[name], expected.parts[name]);
+    let mut answers = call.description().answers.iter().map(|name| parts(*name));
+    answers
+        .find(|(_, part, expected)| part != expected)
+        .map(|(name, part, expected)| format!("{name} {part} where {expected} is right"))
 }
 
 fn lent_difference(after: &Lent, expected: &Lent) -> Option<String> {
@@ -52,17 +54,17 @@ fn refusal_fault(reply: &Reply, before: &Lent, after: &Lent) -> Option<String> {
     if reply.refusal == 0 {
         return None;
     }
-    if reply.parts != [0; 3] {
+    if reply.parts.values().any(|part| *part != 0) {
         return Some(format!("the answer to a refused call is {:?}, not zero", reply.parts));
     }
     lent_difference(after, before).map(|difference| format!("{difference}, after a refusal"))
 }
 
 /// The bounds on the rescan number.
-fn rescan_fault(call: &Call, reply: &Reply, before: &Lent) -> Option<String> {
-    let [kept, rescans, _] = reply.parts;
+fn rescan_fault(reply: &Reply, before: &Lent) -> Option<String> {
+    let (kept, rescans) = (reply.parts.get("kept")?, *reply.parts.get("rescans")?);
     let most = if before.stack.len() as i64 / 4 >= kept - 1 { 0 } else { kept - 1 };
-    (*call == Call::Collect && rescans > most).then(|| format!("{rescans} rescans, at most {most}"))
+    (rescans > most).then(|| format!("{rescans} rescans, at most {most}"))
 }
 
 fn describe(call: &Call, lent: &Lent) -> String {

@@ -2,119 +2,95 @@
 //! that a number does not show.
 
 use crate::{Call, Reply};
+use std::collections::BTreeMap;
 use std::fmt::Write;
 
-const NUMBERS: usize = 10;
+/// Situations of an accepted call: which call, what it is called, and whether a reply shows it.
+type Situation = (&'static str, &'static str, fn(&Call, &Reply) -> bool);
 
-/// The refusal numbers that each call can give, in the order of [`Call::NAMES`].
-const REACHABLE: [&[usize]; 8] = [
-    &[0, 1],
-    &[0, 1, 2, 5, 9],
-    &[0, 1, 2, 6, 7],
-    &[0, 1, 2, 5, 6, 7, 9],
-    &[0, 1, 2, 3, 4],
-    &[0, 1, 2],
-    &[0, 1, 2, 6, 7, 8],
-    &[0, 1, 2, 6, 7, 8],
+const SITUATIONS: [Situation; 10] = [
+    ("reallocate", "as many blocks", |_, reply| reply.parts["change"] == 0),
+    ("reallocate", "fewer blocks", |_, reply| reply.parts["change"] < 0),
+    ("reallocate", "grown in place", |call, reply| grown(reply) && !moved(call, reply)),
+    ("reallocate", "moved", |call, reply| grown(reply) && moved(call, reply)),
+    ("collect", "nothing kept", |_, reply| reply.parts["kept"] == 0),
+    ("collect", "some kept, some freed", |_, reply| kept(reply) && reply.parts["change"] < 0),
+    ("collect", "nothing freed", |_, reply| kept(reply) && reply.parts["change"] == 0),
+    ("collect", "one rescan", |_, reply| reply.parts["rescans"] == 1),
+    ("collect", "two or more rescans", |_, reply| reply.parts["rescans"] > 1),
+    ("survey", "no free block", |_, reply| reply.parts["longest"] == 0),
 ];
 
-const SITUATIONS: [&str; 10] = [
-    "reallocate: as many blocks",
-    "reallocate: fewer blocks",
-    "reallocate: grown in place",
-    "reallocate: moved",
-    "collect: nothing kept",
-    "collect: some kept, some freed",
-    "collect: nothing freed",
-    "collect: one rescan",
-    "collect: two or more rescans",
-    "survey: no free block",
-];
+fn grown(reply: &Reply) -> bool {
+    reply.parts["change"] > 0
+}
+
+fn moved(call: &Call, reply: &Reply) -> bool {
+    matches!(call, Call::Reallocate { block, .. } if reply.parts["block"] != *block as i64)
+}
+
+fn kept(reply: &Reply) -> bool {
+    reply.parts["kept"] > 0
+}
+
+/// Each call with each refusal number that it can give.
+fn reachable() -> impl Iterator<Item = (&'static str, u32)> {
+    let calls = Call::DESCRIPTIONS.iter();
+    calls.flat_map(|call| call.refusals.iter().map(|number| (call.name, *number)))
+}
 
 #[derive(Clone, Default)]
 pub struct Coverage {
-    numbers: [[u64; NUMBERS]; 8],
+    numbers: BTreeMap<(&'static str, u32), u64>,
     situations: [u64; SITUATIONS.len()],
 }
 
 impl Coverage {
     pub fn calls(&self) -> u64 {
-        self.numbers.iter().flatten().sum()
+        self.numbers.values().sum()
     }
 
     pub fn count(&mut self, call: &Call, reply: &Reply) {
-        self.numbers[call.index()][reply.refusal as usize] += 1;
-        if reply.refusal == 0 {
-            for (count, seen) in self.situations.iter_mut().zip(situations(call, &reply.parts)) {
-                *count += u64::from(seen);
-            }
+        let name = call.description().name;
+        *self.numbers.entry((name, reply.refusal)).or_default() += 1;
+        for (count, (of_call, _, shown)) in self.situations.iter_mut().zip(SITUATIONS) {
+            let seen = of_call == name && reply.refusal == 0 && shown(call, reply);
+            *count += u64::from(seen);
         }
     }
 
     /// What should have been reached and was not, or the other way round.
     pub fn faults(&self) -> Vec<String> {
-        let mut faults = Vec::new();
-        for (call, name) in Call::NAMES.iter().enumerate() {
-            for number in 0..NUMBERS {
-                match (REACHABLE[call].contains(&number), self.numbers[call][number]) {
-                    (true, 0) => faults.push(format!("{name} never answered {number}")),
-                    (false, 1..) => {
-                        faults.push(format!("{name} answered {number}, which it cannot"))
-                    }
-                    _ => {}
-                }
-            }
-        }
+        let unreached = reachable().filter(|pair| !self.numbers.contains_key(pair));
+        let never = unreached.map(|(name, number)| format!("{name} never answered {number}"));
+        let wrong = self.numbers.keys().filter(|pair| reachable().all(|other| other != **pair));
+        let wrong =
+            wrong.map(|(name, number)| format!("{name} answered {number}, which it cannot"));
         let situations = SITUATIONS.iter().zip(self.situations);
         let unseen = situations.filter(|(_, count)| *count == 0);
-        faults.extend(unseen.map(|(name, _)| format!("never seen: {name}")));
-        faults
+        let unseen = unseen.map(|((call, name, _), _)| format!("never seen: {call}: {name}"));
+        never.chain(wrong).chain(unseen).collect()
     }
 
     /// A line for each call, with a column for each refusal number, then a line for each situation.
     pub fn table(&self) -> String {
+        let most = reachable().map(|(_, number)| number).max().unwrap_or(0);
         let mut text = format!("{:<12}", "refusal");
-        for number in 0..NUMBERS {
+        for number in 0..=most {
             write!(text, "{number:>8}").expect("text can be written");
         }
-        for (name, (numbers, reachable)) in
-            Call::NAMES.iter().zip(self.numbers.iter().zip(REACHABLE))
-        {
-            write!(text, "\n{name:<12}").expect("text can be written");
-            for (number, count) in numbers.iter().enumerate() {
-                let shown =
-                    if reachable.contains(&number) { count.to_string() } else { "-".into() };
+        for call in Call::DESCRIPTIONS {
+            write!(text, "\n{:<12}", call.name).expect("text can be written");
+            for number in 0..=most {
+                let count = self.numbers.get(&(call.name, number));
+                let shown = count.map_or("-".to_string(), u64::to_string);
                 write!(text, "{shown:>8}").expect("text can be written");
             }
         }
-        for (name, count) in SITUATIONS.iter().zip(self.situations) {
-            write!(text, "\n{name:<36}{count:>8}").expect("text can be written");
+        for ((call, name, _), count) in SITUATIONS.iter().zip(self.situations) {
+            let situation = format!("{call}: {name}");
+            write!(text, "\n{situation:<36}{count:>8}").expect("text can be written");
         }
         text
     }
-}
-
-fn situations(call: &Call, parts: &[i64; 3]) -> [bool; SITUATIONS.len()] {
-    let mut seen = [false; SITUATIONS.len()];
-    match *call {
-        Call::Reallocate { block, .. } => {
-            let [new_block, change, _] = *parts;
-            let moved = new_block != block as i64;
-            seen[0] = change == 0;
-            seen[1] = change < 0;
-            seen[2] = change > 0 && !moved;
-            seen[3] = change > 0 && moved;
-        }
-        Call::Collect => {
-            let [kept, rescans, change] = *parts;
-            seen[4] = kept == 0;
-            seen[5] = kept > 0 && change < 0;
-            seen[6] = kept > 0 && change == 0;
-            seen[7] = rescans == 1;
-            seen[8] = rescans > 1;
-        }
-        Call::Survey => seen[9] = parts[2] == 0,
-        _ => {}
-    }
-    seen
 }

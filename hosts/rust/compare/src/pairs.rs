@@ -3,9 +3,6 @@
 
 use crate::{draw, second, Call, Guarded, Lent, Random, Sizes, Subject};
 
-/// The place of the rescans among the parts of a collection's answer.
-const RESCANS: usize = 1;
-
 /// What was run: pairs and calls on each side, how many of these were refused, in how many pool bytes
 /// the pairs differed at the start, and how often stacks of different lengths took different rescans.
 #[derive(Clone, Copy, Debug, Default)]
@@ -93,9 +90,9 @@ impl Pair {
         counts.calls += 1;
         counts.refused += u64::from(replies[0].refusal != 0);
         if *call == Call::Collect && first.stack.len() != second.stack.len() {
-            let rescans = replies.map(|reply| reply.parts[RESCANS]);
-            counts.different_rescans += u64::from(rescans[0] != rescans[1]);
-            replies[1].parts[RESCANS] = rescans[0];
+            let rescans = replies[0].parts["rescans"];
+            let others = replies[1].parts.insert("rescans", rescans);
+            counts.different_rescans += u64::from(others != Some(rescans));
         }
         if replies[0] != replies[1] {
             return Err(format!("{call:?} answers {:?} and {:?}", replies[0], replies[1]));

@@ -10,107 +10,110 @@ pub type Subject<'s> = &'s dyn Fn(&Call, &mut Lent) -> Reply;
 /// The library through its raw calls. The places for the answers hold rubbish before each call and
 /// stand between guards.
 pub fn library(call: &Call, lent: &mut Lent) -> Reply {
-    let mut answers = Answers::new();
-    let [first, second, third] = answers.places();
-    let (pool_len, table_len) = (lent.pool.len(), lent.table.len());
-    let (roots_len, stack_len) = (lent.roots.len(), lent.stack.len());
+    let mut answers = Answers::new(call);
     macro_rules! hand_over {
-        ($call:ident $(, $argument:expr)*) => {{
+        ($call:ident $(, $argument:expr)* => $($answer:literal)*) => {{
+            let (pool_len, table_len) = (lent.pool.len(), lent.table.len());
             let (pool, table) = (lent.pool.as_mut_ptr(), lent.table.as_mut_ptr());
-            // Each buffer has pages of its own, and the answers have their array.
-            unsafe { raw::$call(lent.base, pool, pool_len, table, table_len $(, $argument)*) }
+            // Each buffer has pages of its own, and the answers have their memory.
+            unsafe {
+                raw::$call(
+                    lent.base, pool, pool_len, table, table_len
+                    $(, $argument)* $(, answers.place($answer).cast())*
+                )
+            }
         }};
     }
     let refusal = match *call {
-        Call::Init => hand_over!(blockheap_init),
-        Call::Allocate { bytes } => hand_over!(blockheap_allocate, bytes, first, second.cast()),
-        Call::Free { block } => hand_over!(blockheap_free, block, first.cast()),
+        Call::Init => hand_over!(blockheap_init =>),
+        Call::Allocate { bytes } => hand_over!(blockheap_allocate, bytes => "block" "change"),
+        Call::Free { block } => hand_over!(blockheap_free, block => "change"),
         Call::Reallocate { block, bytes } => {
-            hand_over!(blockheap_reallocate, block, bytes, first, second.cast())
+            hand_over!(blockheap_reallocate, block, bytes => "block" "change")
         }
         Call::Collect => {
-            let (roots, stack) = (lent.roots.as_ptr(), lent.stack.as_mut_ptr());
+            let (roots, roots_len) = (lent.roots.as_ptr(), lent.roots.len());
+            let (stack, stack_len) = (lent.stack.as_mut_ptr(), lent.stack.len());
             hand_over!(
-                blockheap_collect,
-                roots,
-                roots_len,
-                stack,
-                stack_len,
-                first,
-                second,
-                third.cast()
+                blockheap_collect, roots, roots_len, stack, stack_len => "kept" "rescans" "change"
             )
         }
-        Call::Survey => hand_over!(blockheap_survey, first, second, third),
-        Call::Load { block, word } => hand_over!(blockheap_load, block, word, first),
-        Call::Store { block, word, value } => hand_over!(blockheap_store, block, word, value),
+        Call::Survey => hand_over!(blockheap_survey => "used" "objects" "longest"),
+        Call::Load { block, word } => hand_over!(blockheap_load, block, word => "value"),
+        Call::Store { block, word, value } => hand_over!(blockheap_store, block, word, value =>),
     };
-    answers.reply(call, refusal)
+    answers.reply(refusal)
 }
 
-/// Three places for answers, each with a guard before and after it.
-struct Answers {
-    memory: [u32; 7],
+/// The places for the answers to a call, each with a guard before and after it.
+struct Answers<'c> {
+    call: &'c Call,
+    memory: Vec<u32>,
 }
 
-impl Answers {
+impl Answers<'_> {
     const RUBBISH: u32 = 0xDEAD_BEEF;
+    /// So many guards stand after the last place.
+    const GUARDS_AFTER: usize = 5;
 
-    fn new() -> Answers {
-        Answers { memory: [Answers::RUBBISH; 7] }
+    fn new(call: &Call) -> Answers<'_> {
+        let length = 2 * call.description().answers.len() + Answers::GUARDS_AFTER;
+        Answers { call, memory: vec![Answers::RUBBISH; length] }
     }
 
-    fn places(&mut self) -> [*mut u32; 3] {
-        let start = self.memory.as_mut_ptr();
-        [1, 3, 5].map(|place| start.wrapping_add(place))
+    /// The place for the answer of that name.
+    fn place(&mut self, name: &str) -> *mut u32 {
+        let part = self.call.description().answers.iter().position(|answer| *answer == name);
+        self.memory.as_mut_ptr().wrapping_add(2 * part.expect("the name of an answer") + 1)
     }
 
-    fn reply(&self, call: &Call, refusal: u32) -> Reply {
-        let mut reply = Reply::refused(refusal);
-        for (part, name) in call.answer_names().iter().enumerate() {
-            let bits = self.memory[2 * part + 1];
-            reply.parts[part] = if *name == "change" { (bits as i32).into() } else { bits.into() };
-        }
-        let untouched = |place: usize| self.memory[place] == Answers::RUBBISH;
-        let unused = call.answer_names().len()..3;
-        reply.strayed = !([0, 2, 4, 6].into_iter().all(untouched)
-            && unused.into_iter().all(|part| untouched(2 * part + 1)));
-        reply
+    fn reply(&self, refusal: u32) -> Reply {
+        let names = self.call.description().answers;
+        let (places, guards_after) = self.memory.split_at(2 * names.len());
+        let number = |name: &str, bits: u32| match name {
+            "change" => i64::from(bits as i32),
+            _ => i64::from(bits),
+        };
+        let parts: Vec<i64> =
+            names.iter().zip(places.chunks(2)).map(|(name, pair)| number(name, pair[1])).collect();
+        let guards = places.iter().step_by(2).chain(guards_after);
+        let stray_words = guards.filter(|guard| **guard != Answers::RUBBISH).count();
+        Reply { stray_words, ..Reply::new(self.call, refusal, &parts) }
     }
 }
 
 /// The library through the safe wrapper.
 pub fn wrapper(call: &Call, lent: &mut Lent) -> Reply {
-    on_wrapper(call, lent).map_or_else(|refusal| Reply::refused(refusal.number()), Reply::accepted)
+    reply(call, on_wrapper(call, lent).map_err(|refusal| refusal.number()))
 }
 
-fn on_wrapper(call: &Call, lent: &mut Lent) -> Result<[i64; 3], blockheap::Refusal> {
+fn on_wrapper(call: &Call, lent: &mut Lent) -> Result<Vec<i64>, blockheap::Refusal> {
     let word = u32::try_from(lent.base).map_err(|_| blockheap::Refusal::BadShape)?;
     let (base, at) = (Address::from_word(word), Block::from_number);
     let mut heap = Heap::resume(base, &mut lent.pool, &mut lent.table);
     let placed =
-        |placed: blockheap::Placed| [placed.block.number() as i64, placed.change.into(), 0];
+        |placed: blockheap::Placed| vec![placed.block.number() as i64, placed.change.into()];
     Ok(match *call {
         Call::Init => {
             Heap::init(base, &mut lent.pool, &mut lent.table)?;
-            [0; 3]
+            vec![]
         }
         Call::Allocate { bytes } => placed(heap.allocate(bytes)?),
-        Call::Free { block } => [heap.free(at(block))?.into(), 0, 0],
+        Call::Free { block } => vec![heap.free(at(block))?.into()],
         Call::Reallocate { block, bytes } => placed(heap.reallocate(at(block), bytes)?),
         Call::Collect => {
             let roots = Address::all_in(&lent.roots)?;
             let collected = heap.collect(roots, MarkEntry::all_in(&mut lent.stack)?)?;
-            [collected.kept.into(), collected.rescans.into(), collected.change.into()]
+            vec![collected.kept.into(), collected.rescans.into(), collected.change.into()]
         }
         Call::Survey => {
             let survey = heap.survey()?;
-            [survey.used.into(), survey.objects.into(), survey.longest.into()]
+            vec![survey.used.into(), survey.objects.into(), survey.longest.into()]
         }
-        Call::Load { block, word } => [heap.load(at(block), word)?.into(), 0, 0],
+        Call::Load { block, word } => vec![heap.load(at(block), word)?.into()],
         Call::Store { block, word, value } => {
             heap.store(at(block), word, value)?;
-            [0; 3]
+            vec![]
         }
     })
 }
@@ -118,11 +121,12 @@ fn on_wrapper(call: &Call, lent: &mut Lent) -> Result<[i64; 3], blockheap::Refus
 /// The plain-list heap on lent memory.
 pub fn second(call: &Call, lent: &mut Lent) -> Reply {
     let (heap, roots, stack) = for_list(lent);
-    reply(match call {
-        Call::Init => heap.init().map(|()| [0; 3]),
+    let result = match call {
+        Call::Init => heap.init().map(|()| vec![]),
         Call::Collect => heap.collect(roots, stack).map(collected_parts),
         _ => heap.on_list(|heap| call_on_list(call, heap)),
-    })
+    };
+    reply(call, result.map_err(Refusal::number))
 }
 
 /// Lets `work` change the list of the objects in lent memory.
@@ -142,10 +146,10 @@ fn for_list(lent: &mut Lent) -> (listheap::Lent<'_>, &[u8], &mut [u8]) {
 /// The plain-list heap on a list that is kept from call to call; only roots and mark stack are lent.
 pub fn second_on_list(call: &Call, heap: &mut ListHeap, lent: &Lent) -> Reply {
     let whole_entries = lent.roots.len() % 4 == 0 && lent.stack.len() % 4 == 0;
-    reply(match call {
+    let result = match call {
         Call::Init => {
             heap.objects.clear();
-            Ok([0; 3])
+            Ok(vec![])
         }
         Call::Collect if !whole_entries => Err(Refusal::Shape),
         Call::Collect => {
@@ -153,34 +157,38 @@ pub fn second_on_list(call: &Call, heap: &mut ListHeap, lent: &Lent) -> Reply {
             heap.collect(&roots, lent.stack.len() / 4).map(collected_parts)
         }
         _ => call_on_list(call, heap),
-    })
+    };
+    reply(call, result.map_err(Refusal::number))
 }
 
-fn call_on_list(call: &Call, heap: &mut ListHeap) -> Result<[i64; 3], Refusal> {
-    let placed = |placed: listheap::Placed| [placed.block as i64, placed.change, 0];
+fn call_on_list(call: &Call, heap: &mut ListHeap) -> Result<Vec<i64>, Refusal> {
+    let placed = |placed: listheap::Placed| vec![placed.block as i64, placed.change];
     Ok(match *call {
         Call::Init | Call::Collect => unreachable!("handled by the callers"),
         Call::Allocate { bytes } => placed(heap.allocate(bytes)?),
-        Call::Free { block } => [heap.free(block)?, 0, 0],
+        Call::Free { block } => vec![heap.free(block)?],
         Call::Reallocate { block, bytes } => placed(heap.reallocate(block, bytes)?),
         Call::Survey => {
             let survey = heap.survey();
-            [survey.used as i64, survey.objects as i64, survey.longest as i64]
+            vec![survey.used as i64, survey.objects as i64, survey.longest as i64]
         }
-        Call::Load { block, word } => [heap.load(block, word)?.into(), 0, 0],
+        Call::Load { block, word } => vec![heap.load(block, word)?.into()],
         Call::Store { block, word, value } => {
             heap.store(block, word, value)?;
-            [0; 3]
+            vec![]
         }
     })
 }
 
-fn collected_parts(collected: listheap::Collected) -> [i64; 3] {
-    [collected.kept as i64, collected.rescans as i64, collected.change]
+fn collected_parts(collected: listheap::Collected) -> Vec<i64> {
+    vec![collected.kept as i64, collected.rescans as i64, collected.change]
 }
 
-fn reply(result: Result<[i64; 3], Refusal>) -> Reply {
-    result.map_or_else(|refusal| Reply::refused(refusal.number()), Reply::accepted)
+fn reply(call: &Call, result: Result<Vec<i64>, u32>) -> Reply {
+    match result {
+        Ok(parts) => Reply::accepted(call, &parts),
+        Err(refusal) => Reply::refused(call, refusal),
+    }
 }
 
 #[cfg(test)]
@@ -190,16 +198,16 @@ mod tests {
     #[test]
     fn an_answer_beside_its_place_is_seen() {
         let free = Call::Free { block: 0 };
-        for (place, strayed) in [(0, true), (1, false), (2, true), (3, true)] {
-            let mut answers = Answers::new();
+        for (place, stray_words) in [(0, 1), (1, 0), (2, 1), (3, 1), (6, 1)] {
+            let mut answers = Answers::new(&free);
             answers.memory[place] = 0;
-            assert_eq!(answers.reply(&free, 0).strayed, strayed, "place {place}");
+            assert_eq!(answers.reply(0).stray_words, stray_words, "place {place}");
         }
     }
 
     #[test]
     fn an_answer_that_is_not_written_is_seen() {
-        let reply = Answers::new().reply(&Call::Survey, 1);
-        assert_ne!(reply.parts, [0; 3]);
+        let reply = Answers::new(&Call::Survey).reply(1);
+        assert!(reply.parts.values().all(|part| *part != 0));
     }
 }

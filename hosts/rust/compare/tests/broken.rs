@@ -105,7 +105,8 @@ fn a_right_heap_is_not_noticed() {
 fn an_empty_run_has_reached_nothing() {
     let faults = Coverage::default().faults();
     let numbers = faults.iter().filter(|fault| fault.contains("never answered")).count();
-    assert_eq!(numbers, 39, "pairs of a call and a refusal number");
+    let pairs = Call::DESCRIPTIONS.iter().map(|call| call.refusals.len()).sum();
+    assert_eq!(numbers, pairs, "pairs of a call and a refusal number");
 }
 
 /// Whether the heap's lengths fit each other, so that its blocks can be looked at.
@@ -146,7 +147,7 @@ fn collect_by(
     *lent = Lent { stack: lent.stack.clone(), ..before };
     let collected =
         on_list(lent, |heap| Ok(collect(heap, &roots, entries))).expect("an accepted collection");
-    Reply::accepted([collected.kept as i64, collected.rescans as i64, collected.change])
+    Reply::accepted(call, &[collected.kept as i64, collected.rescans as i64, collected.change])
 }
 
 /// A collection whose rescans are the fault's own.
@@ -226,9 +227,11 @@ fn frees_tails_of_kept_objects(call: &Call, lent: &mut Lent) -> Reply {
 fn clears_only_the_bytes_asked(call: &Call, lent: &mut Lent) -> Reply {
     let before = lent.pool.clone();
     let reply = second(call, lent);
-    let [block, change, _] = reply.parts;
-    if let (1.., Call::Allocate { bytes } | Call::Reallocate { bytes, .. }) = (change, *call) {
-        let start = 16 * block as usize;
+    let (Call::Allocate { bytes } | Call::Reallocate { bytes, .. }) = *call else {
+        return reply;
+    };
+    if reply.parts["change"] > 0 {
+        let start = 16 * reply.parts["block"] as usize;
         let stale = start + bytes as usize..start + bytes.next_multiple_of(16) as usize;
         lent.pool[stale.clone()].copy_from_slice(&before[stale]);
     }
@@ -252,7 +255,7 @@ fn moves_into_its_own_blocks(call: &Call, lent: &mut Lent) -> Reply {
         }
         Ok(Placed { change: placed.change + freed, ..placed })
     });
-    moved.map_or(reply, |placed| Reply::accepted([placed.block as i64, placed.change, 0]))
+    moved.map_or(reply, |placed| Reply::accepted(call, &[placed.block as i64, placed.change]))
 }
 
 fn counts_addresses_inside_blocks(call: &Call, lent: &mut Lent) -> Reply {
@@ -267,8 +270,8 @@ fn counts_addresses_inside_blocks(call: &Call, lent: &mut Lent) -> Reply {
 fn misses_the_lowest_start(call: &Call, lent: &mut Lent) -> Reply {
     let mut reply = second(call, lent);
     if let (0, Call::Allocate { .. }) = (reply.refusal, call) {
-        let block = reply.parts[0] as u64;
-        reply.parts[0] = on_list(lent, |heap| {
+        let block = reply.parts["block"] as u64;
+        let start = on_list(lent, |heap| {
             let free = |block| block < heap.blocks && heap.objects.iter().all(|o| o.start != block);
             let index = heap.objects.iter().position(|object| object.start == block);
             let object = index.expect("the new object");
@@ -276,8 +279,8 @@ fn misses_the_lowest_start(call: &Call, lent: &mut Lent) -> Reply {
                 heap.objects[object].start += 1;
             }
             Ok(heap.objects[object].start as i64)
-        })
-        .expect("a heap in order");
+        });
+        reply.parts.insert("block", start.expect("a heap in order"));
     }
     reply
 }
@@ -323,7 +326,7 @@ fn takes_any_base(call: &Call, lent: &mut Lent) -> Reply {
 fn answers_after_a_refusal(call: &Call, lent: &mut Lent) -> Reply {
     let mut reply = second(call, lent);
     if reply.refusal == 9 {
-        reply.parts[0] = 4096;
+        reply.parts.insert("block", 4096);
     }
     reply
 }

@@ -32,16 +32,16 @@ impl Example<'_> {
     }
 
     fn gives<const N: usize>(&mut self, call: Call, parts: [i64; N], table: [u8; 2]) -> &mut Self {
-        let mut all = [0; 3];
-        all[..N].copy_from_slice(&parts);
-        assert_eq!((self.subject)(&call, &mut self.lent), Reply::accepted(all), "{call:?}");
+        let expected = Reply::accepted(&call, &parts);
+        assert_eq!((self.subject)(&call, &mut self.lent), expected, "{call:?}");
         assert_eq!(self.lent.table[..], table, "the table after {call:?}");
         self
     }
 
     fn refuses(&mut self, call: Call, number: u32) -> &mut Self {
         let before = self.lent.table.to_vec();
-        assert_eq!((self.subject)(&call, &mut self.lent), Reply::refused(number), "{call:?}");
+        let expected = Reply::refused(&call, number);
+        assert_eq!((self.subject)(&call, &mut self.lent), expected, "{call:?}");
         assert_eq!(self.lent.table[..], before, "the table after {call:?}");
         self
     }

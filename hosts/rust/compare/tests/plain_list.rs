@@ -19,7 +19,8 @@ fn library_and_list_agree(seed: u64, table_bytes: usize, calls: usize) {
         let expected = second_on_list(&call, &mut list, &lent);
         let reply = library(&call, &mut lent);
         assert_eq!(reply, expected, "seed {seed}, call {number}: {call:?}");
-        used = if call == Call::Init { 0 } else { used + change(&call, &reply.parts) };
+        let change = reply.parts.get("change").unwrap_or(&0);
+        used = if call == Call::Init { 0 } else { used + change };
         assert_eq!(
             used,
             list.used() as i64,
@@ -31,12 +32,6 @@ fn library_and_list_agree(seed: u64, table_bytes: usize, calls: usize) {
             "seed {seed}, call {number}: objects after {call:?}"
         );
     }
-}
-
-/// The change in used blocks, 0 for a call that answers none.
-fn change(call: &Call, parts: &[i64; 3]) -> i64 {
-    let place = call.answer_names().iter().position(|name| *name == "change");
-    place.map_or(0, |place| parts[place])
 }
 
 /// The objects that table and pool hold.
