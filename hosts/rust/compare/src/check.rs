@@ -1,6 +1,6 @@
 //! One call, made on a subject and on the plain-list heap, and compared.
 
-use crate::{second, Call, Guarded, Lent, Reply, Subject};
+use crate::{second, Buffer, Call, Guarded, Lent, Reply, Subject};
 
 /// Makes the call on both and answers the reply with what is lent as it was left, or says what differs.
 pub fn compare(subject: Subject, call: &Call, before: &Lent) -> Result<(Reply, Lent), String> {
@@ -14,7 +14,7 @@ pub fn compare(subject: Subject, call: &Call, before: &Lent) -> Result<(Reply, L
         .or_else(|| rescan_fault(&reply, before));
     match difference {
         None => Ok((reply, after)),
-        Some(difference) => Err(format!("{difference}\n  {}", describe(call, before))),
+        Some(difference) => Err(format!("{difference}\n  {call:?} on {before}")),
     }
 }
 
@@ -34,11 +34,11 @@ fn reply_difference(call: &Call, reply: &Reply, expected: &Reply) -> Option<Stri
 }
 
 fn lent_difference(after: &Lent, expected: &Lent) -> Option<String> {
-    let mut buffers = after.buffers().into_iter().zip(expected.buffers());
-    buffers.find_map(|((name, got), (_, expected))| buffer_difference(name, got, expected))
+    let difference = |buffer| buffer_difference(buffer, &after[buffer], &expected[buffer]);
+    Buffer::ALL.into_iter().find_map(difference)
 }
 
-fn buffer_difference(name: &str, got: &Guarded, expected: &Guarded) -> Option<String> {
+fn buffer_difference(name: Buffer, got: &Guarded, expected: &Guarded) -> Option<String> {
     if !got.intact() {
         return Some(format!("a byte outside the {name} was written"));
     }
@@ -63,12 +63,6 @@ fn refusal_fault(reply: &Reply, before: &Lent, after: &Lent) -> Option<String> {
 /// The bounds on the rescan number.
 fn rescan_fault(reply: &Reply, before: &Lent) -> Option<String> {
     let (kept, rescans) = (reply.parts.get("kept")?, *reply.parts.get("rescans")?);
-    let most = if before.stack.len() as i64 / 4 >= kept - 1 { 0 } else { kept - 1 };
+    let most = if before[Buffer::Stack].len() as i64 / 4 >= kept - 1 { 0 } else { kept - 1 };
     (rescans > most).then(|| format!("{rescans} rescans, at most {most}"))
-}
-
-fn describe(call: &Call, lent: &Lent) -> String {
-    let lengths = lent.buffers().map(|(name, bytes)| format!("{name} of {} bytes", bytes.len()));
-    let shown = &lent.table[..lent.table.len().min(16)];
-    format!("{call:?} on base {}, {}; table begins {shown:?}", lent.base, lengths.join(", "))
 }

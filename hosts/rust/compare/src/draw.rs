@@ -1,5 +1,6 @@
 //! Random heaps, calls and arguments: mostly sensible, often at a border, sometimes absurd.
 
+use crate::Buffer::{Pool, Roots, Stack, Table};
 use crate::{Call, Guarded, Lent, Random};
 
 const FREE: u8 = 0;
@@ -21,7 +22,7 @@ fn set_entry(table: &mut [u8], block: u64, entry: u8) {
 }
 
 fn blocks(lent: &Lent) -> u64 {
-    4 * lent.table.len() as u64
+    4 * lent[Table].len() as u64
 }
 
 /// The number of blocks of the object whose head is `block`.
@@ -38,7 +39,7 @@ pub fn heads(table: &[u8]) -> Vec<u64> {
 fn some_head(random: &mut Random, lent: &Lent) -> u64 {
     let (start, blocks) = (random.below(blocks(lent)), blocks(lent));
     let mut in_turn = (start..blocks).chain(0..start);
-    in_turn.find(|block| entry(&lent.table, *block) == HEAD).unwrap_or(start)
+    in_turn.find(|block| entry(&lent[Table], *block) == HEAD).unwrap_or(start)
 }
 
 /// How the objects of a heap lead to each other.
@@ -107,7 +108,7 @@ pub fn good_base(random: &mut Random, table_bytes: u64) -> u64 {
 
 /// Fills the objects' words with pointers to each other.
 fn link(random: &mut Random, lent: &mut Lent, shape: Shape) {
-    let heads = heads(&lent.table);
+    let heads = heads(&lent[Table]);
     let target = |index: usize| heads.get(index).copied();
     for (index, head) in heads.iter().enumerate() {
         let targets = match shape {
@@ -131,7 +132,7 @@ fn link(random: &mut Random, lent: &mut Lent, shape: Shape) {
 
 /// Gives each word of the block's object a value, so many in a hundred of them pointers or nearly so.
 fn fill(random: &mut Random, lent: &mut Lent, head: u64, percent: u64) {
-    for word in 4 * head..4 * (head + object_blocks(&lent.table, head)) {
+    for word in 4 * head..4 * (head + object_blocks(&lent[Table], head)) {
         let value = if random.percent(percent) { word_value(random, lent) } else { 0 };
         lent.set_word(word as usize, value);
     }
@@ -139,8 +140,8 @@ fn fill(random: &mut Random, lent: &mut Lent, head: u64, percent: u64) {
 
 /// Clears an object and puts the targets' addresses at random places in it.
 fn point(random: &mut Random, lent: &mut Lent, head: u64, targets: [Option<u64>; 2]) {
-    let end = head + object_blocks(&lent.table, head);
-    lent.pool[16 * head as usize..16 * end as usize].fill(0);
+    let end = head + object_blocks(&lent[Table], head);
+    lent[Pool][16 * head as usize..16 * end as usize].fill(0);
     let middle = random.between(4 * head + 1, 4 * end - 1);
     let places = [random.between(middle, 4 * end - 1), random.between(4 * head, middle - 1)];
     for (place, target) in places.into_iter().zip(targets) {
@@ -178,7 +179,7 @@ pub fn call(random: &mut Random, lent: &mut Lent) -> Call {
         105..=169 => Call::Reallocate { block: block(random, lent), bytes: bytes(random, lent) },
         170..=214 => {
             draw_roots(random, lent);
-            lent.stack = Guarded::new(&stack(random));
+            lent[Stack] = Guarded::new(&stack(random));
             Call::Collect
         }
         215..=229 => Call::Survey,
@@ -195,7 +196,7 @@ pub fn call(random: &mut Random, lent: &mut Lent) -> Call {
 }
 
 fn bytes(random: &mut Random, lent: &Lent) -> u64 {
-    let pool = lent.pool.len() as u64;
+    let pool = lent[Pool].len() as u64;
     match random.below(16) {
         0 => 0,
         1 => random.pick(&HUGE) + random.below(32),
@@ -216,7 +217,7 @@ fn block(random: &mut Random, lent: &Lent) -> u64 {
 }
 
 fn word(random: &mut Random, lent: &Lent, block: u64) -> u64 {
-    let words = if block < blocks(lent) { 4 * object_blocks(&lent.table, block) } else { 4 };
+    let words = if block < blocks(lent) { 4 * object_blocks(&lent[Table], block) } else { 4 };
     match random.below(16) {
         0 => words,
         1 => words - 1,
@@ -239,7 +240,7 @@ pub fn draw_roots(random: &mut Random, lent: &mut Lent) {
     lent.set_roots(&roots);
     if random.percent(2) {
         let piece = random.between(1, 3) as usize;
-        lent.roots = Guarded::new(&[&lent.roots[..], &random.bytes(piece)].concat());
+        lent[Roots] = Guarded::new(&[&lent[Roots][..], &random.bytes(piece)].concat());
     }
 }
 
@@ -253,7 +254,7 @@ pub fn good_roots(random: &mut Random, lent: &Lent) -> Vec<u32> {
 }
 
 fn most_heads(random: &mut Random, lent: &Lent) -> Vec<u32> {
-    let heads = heads(&lent.table).into_iter();
+    let heads = heads(&lent[Table]).into_iter();
     heads.filter(|_| random.percent(85)).map(|head| address(lent, head)).collect()
 }
 
@@ -287,22 +288,22 @@ pub fn damage(random: &mut Random, lent: &mut Lent) {
 fn damage_once(random: &mut Random, lent: &mut Lent) {
     match random.below(8) {
         0 => lent.base = any_base(random, lent),
-        1 => lent.pool = Guarded::new(&random_length(random, &lent.pool, 65)),
-        2 => lent.table = Guarded::new(&random_length(random, &lent.table, 2)),
+        1 => lent[Pool] = Guarded::new(&random_length(random, &lent[Pool], 65)),
+        2 => lent[Table] = Guarded::new(&random_length(random, &lent[Table], 2)),
         3 => {
             let table_bytes = random.pick(&[0, 1025, 1026]);
-            lent.table = Guarded::zeroed(table_bytes);
-            lent.pool = Guarded::zeroed(64 * table_bytes);
+            lent[Table] = Guarded::zeroed(table_bytes);
+            lent[Pool] = Guarded::zeroed(64 * table_bytes);
         }
-        4 if !lent.table.is_empty() => {
-            let table = random.bytes(lent.table.len());
-            lent.table.copy_from_slice(&table);
+        4 if !lent[Table].is_empty() => {
+            let table = random.bytes(lent[Table].len());
+            lent[Table].copy_from_slice(&table);
         }
-        5 if !lent.table.is_empty() => set_entry(&mut lent.table, 0, TAIL),
-        6 | 7 if !lent.table.is_empty() => {
+        5 if !lent[Table].is_empty() => set_entry(&mut lent[Table], 0, TAIL),
+        6 | 7 if !lent[Table].is_empty() => {
             let block = random.below(blocks(lent));
             let wrong = random.pick(&[MARK, TAIL, FREE]);
-            set_entry(&mut lent.table, block, wrong);
+            set_entry(&mut lent[Table], block, wrong);
         }
         _ => lent.base = lent.base.wrapping_add(1),
     }
@@ -310,7 +311,7 @@ fn damage_once(random: &mut Random, lent: &mut Lent) {
 
 /// A base that may fit or not.
 pub fn any_base(random: &mut Random, lent: &Lent) -> u64 {
-    let pool = lent.pool.len() as u64;
+    let pool = lent[Pool].len() as u64;
     let highest = (1u64 << 32).wrapping_sub(pool);
     let misplaced = lent.base.wrapping_add(random.between(1, 15));
     let wrapping = pool.wrapping_neg();

@@ -1,43 +1,72 @@
 use crate::Guarded;
+use std::fmt;
+use std::ops::{Index, IndexMut};
 
-/// All that is lent to a call; roots and mark stack concern collect alone.
+/// A buffer that is lent.
+#[derive(Clone, Copy, Debug, PartialEq, Eq)]
+pub enum Buffer {
+    Pool,
+    Table,
+    Roots,
+    Stack,
+}
+
+impl Buffer {
+    pub const ALL: [Buffer; 4] = [Buffer::Pool, Buffer::Table, Buffer::Roots, Buffer::Stack];
+}
+
+impl fmt::Display for Buffer {
+    fn fmt(&self, f: &mut fmt::Formatter) -> fmt::Result {
+        f.write_str(&format!("{self:?}").to_lowercase())
+    }
+}
+
+/// All that is lent to a call; it may take less.
 #[derive(Clone, Debug)]
 pub struct Lent {
     pub base: u64,
-    pub pool: Guarded,
-    pub table: Guarded,
-    pub roots: Guarded,
-    pub stack: Guarded,
+    /// In the order of [`Buffer::ALL`].
+    pub buffers: [Guarded; Buffer::ALL.len()],
 }
 
 impl Lent {
+    /// A heap; roots and mark stack are empty.
     pub fn new(base: u64, pool: &[u8], table: &[u8]) -> Lent {
-        Lent {
-            base,
-            pool: Guarded::new(pool),
-            table: Guarded::new(table),
-            roots: Guarded::zeroed(0),
-            stack: Guarded::zeroed(0),
-        }
-    }
-
-    pub fn buffers(&self) -> [(&'static str, &Guarded); 4] {
-        [
-            ("pool", &self.pool),
-            ("table", &self.table),
-            ("roots", &self.roots),
-            ("stack", &self.stack),
-        ]
+        Lent { base, buffers: [pool, table, &[], &[]].map(Guarded::new) }
     }
 
     /// Puts words into the root list.
     pub fn set_roots(&mut self, words: &[u32]) {
         let bytes: Vec<u8> = words.iter().flat_map(|word| word.to_le_bytes()).collect();
-        self.roots = Guarded::new(&bytes);
+        self[Buffer::Roots] = Guarded::new(&bytes);
     }
 
     /// Writes a word into the pool, counted from the pool's start.
     pub fn set_word(&mut self, word: usize, value: u32) {
-        self.pool[4 * word..][..4].copy_from_slice(&value.to_le_bytes());
+        self[Buffer::Pool][4 * word..][..4].copy_from_slice(&value.to_le_bytes());
+    }
+}
+
+impl Index<Buffer> for Lent {
+    type Output = Guarded;
+
+    fn index(&self, buffer: Buffer) -> &Guarded {
+        &self.buffers[buffer as usize]
+    }
+}
+
+impl IndexMut<Buffer> for Lent {
+    fn index_mut(&mut self, buffer: Buffer) -> &mut Guarded {
+        &mut self.buffers[buffer as usize]
+    }
+}
+
+/// The numbers that are lent, how long each buffer is, and the first table entries.
+impl fmt::Display for Lent {
+    fn fmt(&self, f: &mut fmt::Formatter) -> fmt::Result {
+        let lengths = Buffer::ALL.map(|buffer| format!("{buffer} of {} bytes", self[buffer].len()));
+        let table = &self[Buffer::Table];
+        let shown = &table[..table.len().min(16)];
+        write!(f, "base {}, {}; table begins {shown:?}", self.base, lengths.join(", "))
     }
 }

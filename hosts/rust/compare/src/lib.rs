@@ -22,7 +22,7 @@ pub use check::compare;
 pub use coverage::Coverage;
 pub use draw::{call as draw_call, entry, object_blocks};
 pub use guarded::Guarded;
-pub use lent::Lent;
+pub use lent::{Buffer, Lent};
 pub use pairs::{run_pairs, PairCounts};
 pub use random::Random;
 pub use reply::Reply;

@@ -1,6 +1,7 @@
 //! Noninterference: two heaps that differ in dead bytes alone answer alike for ever after a
 //! collection.
 
+use crate::Buffer::{Pool, Roots, Stack, Table};
 use crate::{draw, second, Call, Guarded, Lent, Random, Sizes, Subject};
 
 /// What was run: pairs and calls on each side, how many of these were refused, in how many pool bytes
@@ -53,15 +54,15 @@ impl Pair {
         second(&Call::Collect, &mut collected);
         let mut sides = [heap.clone(), heap];
         for side in &mut sides {
-            refill_free_blocks(random, side, &collected.table);
-            side.stack = Guarded::new(&draw::good_stack(random));
+            refill_free_blocks(random, side, &collected[Table]);
+            side[Stack] = Guarded::new(&draw::good_stack(random));
         }
         Pair { base: sides[0].base, sides }
     }
 
     fn different_bytes(&self) -> u64 {
         let [first, second] = &self.sides;
-        first.pool.iter().zip(second.pool.iter()).filter(|(a, b)| a != b).count() as u64
+        first[Pool].iter().zip(second[Pool].iter()).filter(|(a, b)| a != b).count() as u64
     }
 
     /// A call for both sides: the same arguments, now and then on another base, and stacks of their own.
@@ -73,8 +74,8 @@ impl Pair {
             first.base = draw::any_base(random, first);
         }
         second.base = first.base;
-        second.roots = first.roots.clone();
-        second.stack = Guarded::new(&other_stack(random, &first.stack));
+        second[Roots] = first[Roots].clone();
+        second[Stack] = Guarded::new(&other_stack(random, &first[Stack]));
         call
     }
 
@@ -89,7 +90,7 @@ impl Pair {
         let mut replies = [subject(call, first), subject(call, second)];
         counts.calls += 1;
         counts.refused += u64::from(replies[0].refusal != 0);
-        if *call == Call::Collect && first.stack.len() != second.stack.len() {
+        if *call == Call::Collect && first[Stack].len() != second[Stack].len() {
             let rescans = replies[0].parts["rescans"];
             let others = replies[1].parts.insert("rescans", rescans);
             counts.different_rescans += u64::from(others != Some(rescans));
@@ -97,8 +98,11 @@ impl Pair {
         if replies[0] != replies[1] {
             return Err(format!("{call:?} answers {:?} and {:?}", replies[0], replies[1]));
         }
-        if *first.table != *second.table {
-            return Err(format!("{call:?} leaves tables {:?} and {:?}", first.table, second.table));
+        if *first[Table] != *second[Table] {
+            return Err(format!(
+                "{call:?} leaves tables {:?} and {:?}",
+                first[Table], second[Table]
+            ));
         }
         match different_block(first, second) {
             None => Ok(()),
@@ -134,9 +138,9 @@ fn other_stack(random: &mut Random, stack: &[u8]) -> Vec<u8> {
 /// The first allocated block whose bytes differ.
 fn different_block(first: &Lent, second: &Lent) -> Option<u64> {
     let mut allocated =
-        (0..4 * first.table.len() as u64).filter(|block| draw::entry(&first.table, *block) != 0);
+        (0..4 * first[Table].len() as u64).filter(|block| draw::entry(&first[Table], *block) != 0);
     allocated.find(|block| {
         let bytes = 16 * *block as usize..16 * *block as usize + 16;
-        first.pool[bytes.clone()] != second.pool[bytes]
+        first[Pool][bytes.clone()] != second[Pool][bytes]
     })
 }

@@ -1,5 +1,6 @@
 //! The heaps that can be compared, each as a function on calls and lent memory.
 
+use crate::Buffer::{Roots, Stack};
 use crate::{Call, Lent, Reply};
 use blockheap::{raw, Address, Block, Heap, MarkEntry};
 use listheap::{ListHeap, Refusal};
@@ -11,14 +12,13 @@ pub type Subject<'s> = &'s dyn Fn(&Call, &mut Lent) -> Reply;
 /// stand between guards.
 pub fn library(call: &Call, lent: &mut Lent) -> Reply {
     let mut answers = Answers::new(call);
+    let [pool, table, roots, stack] = &mut lent.buffers;
     macro_rules! hand_over {
         ($call:ident $(, $argument:expr)* => $($answer:literal)*) => {{
-            let (pool_len, table_len) = (lent.pool.len(), lent.table.len());
-            let (pool, table) = (lent.pool.as_mut_ptr(), lent.table.as_mut_ptr());
             // Each buffer has pages of its own, and the answers have their memory.
             unsafe {
                 raw::$call(
-                    lent.base, pool, pool_len, table, table_len
+                    lent.base, pool.as_mut_ptr(), pool.len(), table.as_mut_ptr(), table.len()
                     $(, $argument)* $(, answers.place($answer).cast())*
                 )
             }
@@ -32,10 +32,10 @@ pub fn library(call: &Call, lent: &mut Lent) -> Reply {
             hand_over!(blockheap_reallocate, block, bytes => "block" "change")
         }
         Call::Collect => {
-            let (roots, roots_len) = (lent.roots.as_ptr(), lent.roots.len());
-            let (stack, stack_len) = (lent.stack.as_mut_ptr(), lent.stack.len());
+            let (entries, length) = (stack.as_mut_ptr(), stack.len());
             hand_over!(
-                blockheap_collect, roots, roots_len, stack, stack_len => "kept" "rescans" "change"
+                blockheap_collect, roots.as_ptr(), roots.len(), entries, length
+                => "kept" "rescans" "change"
             )
         }
         Call::Survey => hand_over!(blockheap_survey => "used" "objects" "longest"),
@@ -90,20 +90,21 @@ pub fn wrapper(call: &Call, lent: &mut Lent) -> Reply {
 fn on_wrapper(call: &Call, lent: &mut Lent) -> Result<Vec<i64>, blockheap::Refusal> {
     let word = u32::try_from(lent.base).map_err(|_| blockheap::Refusal::BadShape)?;
     let (base, at) = (Address::from_word(word), Block::from_number);
-    let mut heap = Heap::resume(base, &mut lent.pool, &mut lent.table);
+    let [pool, table, roots, stack] = &mut lent.buffers;
+    let mut heap = Heap::resume(base, pool, table);
     let placed =
         |placed: blockheap::Placed| vec![placed.block.number() as i64, placed.change.into()];
     Ok(match *call {
         Call::Init => {
-            Heap::init(base, &mut lent.pool, &mut lent.table)?;
+            Heap::init(base, pool, table)?;
             vec![]
         }
         Call::Allocate { bytes } => placed(heap.allocate(bytes)?),
         Call::Free { block } => vec![heap.free(at(block))?.into()],
         Call::Reallocate { block, bytes } => placed(heap.reallocate(at(block), bytes)?),
         Call::Collect => {
-            let roots = Address::all_in(&lent.roots)?;
-            let collected = heap.collect(roots, MarkEntry::all_in(&mut lent.stack)?)?;
+            let roots = Address::all_in(roots)?;
+            let collected = heap.collect(roots, MarkEntry::all_in(stack)?)?;
             vec![collected.kept.into(), collected.rescans.into(), collected.change.into()]
         }
         Call::Survey => {
@@ -139,13 +140,13 @@ pub fn on_list<A>(
 
 /// What is lent as the plain-list heap takes it: the heap, roots and mark stack.
 fn for_list(lent: &mut Lent) -> (listheap::Lent<'_>, &[u8], &mut [u8]) {
-    let heap = listheap::Lent { base: lent.base, pool: &mut lent.pool, table: &mut lent.table };
-    (heap, &lent.roots, &mut lent.stack)
+    let [pool, table, roots, stack] = &mut lent.buffers;
+    (listheap::Lent { base: lent.base, pool, table }, roots, stack)
 }
 
 /// The plain-list heap on a list that is kept from call to call; only roots and mark stack are lent.
 pub fn second_on_list(call: &Call, heap: &mut ListHeap, lent: &Lent) -> Reply {
-    let whole_entries = lent.roots.len() % 4 == 0 && lent.stack.len() % 4 == 0;
+    let whole_entries = lent[Roots].len() % 4 == 0 && lent[Stack].len() % 4 == 0;
     let result = match call {
         Call::Init => {
             heap.objects.clear();
@@ -153,8 +154,8 @@ pub fn second_on_list(call: &Call, heap: &mut ListHeap, lent: &Lent) -> Reply {
         }
         Call::Collect if !whole_entries => Err(Refusal::Shape),
         Call::Collect => {
-            let roots = listheap::words_of(&lent.roots);
-            heap.collect(&roots, lent.stack.len() / 4).map(collected_parts)
+            let roots = listheap::words_of(&lent[Roots]);
+            heap.collect(&roots, lent[Stack].len() / 4).map(collected_parts)
         }
         _ => call_on_list(call, heap),
     };

@@ -1,5 +1,6 @@
 //! The comparison must notice a wrong heap: each heap here follows all rules but one.
 
+use compare::Buffer::{Pool, Roots, Stack, Table};
 use compare::{
     entry, object_blocks, on_list, run_pairs, run_walks, second, Call, Guarded, Lent, Reply,
 };
@@ -111,23 +112,23 @@ fn an_empty_run_has_reached_nothing() {
 
 /// Whether the heap's lengths fit each other, so that its blocks can be looked at.
 fn in_shape(lent: &Lent) -> bool {
-    lent.pool.len() == 64 * lent.table.len()
+    lent[Pool].len() == 64 * lent[Table].len()
 }
 
 fn heads(lent: &Lent) -> Vec<u64> {
-    let blocks = 0..4 * lent.table.len() as u64;
-    blocks.filter(|block| in_shape(lent) && entry(&lent.table, *block) == 1).collect()
+    let blocks = 0..4 * lent[Table].len() as u64;
+    blocks.filter(|block| in_shape(lent) && entry(&lent[Table], *block) == 1).collect()
 }
 
 /// A right collection on a pool that was changed for it.
 fn collect_on_changed_pool(call: &Call, lent: &mut Lent, change: impl Fn(&mut Lent)) -> Reply {
-    let pool = lent.pool.clone();
+    let pool = lent[Pool].clone();
     if *call == Call::Collect {
         change(lent);
     }
     let reply = second(call, lent);
     if *call == Call::Collect {
-        lent.pool = pool;
+        lent[Pool] = pool;
     }
     reply
 }
@@ -138,13 +139,14 @@ fn collect_by(
     lent: &mut Lent,
     collect: impl Fn(&mut ListHeap, &[u32], usize) -> Collected,
 ) -> Reply {
-    let before = lent.clone();
+    let mut before = lent.clone();
     let right = second(call, lent);
     if *call != Call::Collect || right.refusal != 0 {
         return right;
     }
-    let (roots, entries) = (listheap::words_of(&before.roots), before.stack.len() / 4);
-    *lent = Lent { stack: lent.stack.clone(), ..before };
+    let (roots, entries) = (listheap::words_of(&before[Roots]), before[Stack].len() / 4);
+    before[Stack] = lent[Stack].clone();
+    *lent = before;
     let collected =
         on_list(lent, |heap| Ok(collect(heap, &roots, entries))).expect("an accepted collection");
     Reply::accepted(call, &[collected.kept as i64, collected.rescans as i64, collected.change])
@@ -166,8 +168,8 @@ fn collect_with_rescans(
 }
 
 fn reverse_words(lent: &mut Lent) {
-    lent.pool.chunks_exact_mut(4).for_each(<[u8]>::reverse);
-    lent.roots.chunks_exact_mut(4).for_each(<[u8]>::reverse);
+    lent[Pool].chunks_exact_mut(4).for_each(<[u8]>::reverse);
+    lent[Roots].chunks_exact_mut(4).for_each(<[u8]>::reverse);
 }
 
 fn reads_words_highest_byte_first(call: &Call, lent: &mut Lent) -> Reply {
@@ -186,8 +188,8 @@ fn skips_word_zero(call: &Call, lent: &mut Lent) -> Reply {
 fn walks_words_first_to_last(call: &Call, lent: &mut Lent) -> Reply {
     collect_on_changed_pool(call, lent, |lent| {
         for head in heads(lent) {
-            let end = head + object_blocks(&lent.table, head);
-            let object = &mut lent.pool[16 * head as usize..16 * end as usize];
+            let end = head + object_blocks(&lent[Table], head);
+            let object = &mut lent[Pool][16 * head as usize..16 * end as usize];
             object.reverse();
             object.chunks_exact_mut(4).for_each(<[u8]>::reverse);
         }
@@ -225,7 +227,7 @@ fn frees_tails_of_kept_objects(call: &Call, lent: &mut Lent) -> Reply {
 }
 
 fn clears_only_the_bytes_asked(call: &Call, lent: &mut Lent) -> Reply {
-    let before = lent.pool.clone();
+    let before = lent[Pool].clone();
     let reply = second(call, lent);
     let (Call::Allocate { bytes } | Call::Reallocate { bytes, .. }) = *call else {
         return reply;
@@ -233,7 +235,7 @@ fn clears_only_the_bytes_asked(call: &Call, lent: &mut Lent) -> Reply {
     if reply.parts["change"] > 0 {
         let start = 16 * reply.parts["block"] as usize;
         let stale = start + bytes as usize..start + bytes.next_multiple_of(16) as usize;
-        lent.pool[stale.clone()].copy_from_slice(&before[stale]);
+        lent[Pool][stale.clone()].copy_from_slice(&before[stale]);
     }
     reply
 }
@@ -259,10 +261,10 @@ fn moves_into_its_own_blocks(call: &Call, lent: &mut Lent) -> Reply {
 }
 
 fn counts_addresses_inside_blocks(call: &Call, lent: &mut Lent) -> Reply {
-    let roots = lent.roots.clone();
-    lent.roots.chunks_exact_mut(4).for_each(|root| root[0] &= 0xF0);
+    let roots = lent[Roots].clone();
+    lent[Roots].chunks_exact_mut(4).for_each(|root| root[0] &= 0xF0);
     let reply = second(call, lent);
-    lent.roots = roots;
+    lent[Roots] = roots;
     reply
 }
 
@@ -334,22 +336,22 @@ fn answers_after_a_refusal(call: &Call, lent: &mut Lent) -> Reply {
 fn writes_after_a_refusal(call: &Call, lent: &mut Lent) -> Reply {
     let reply = second(call, lent);
     if reply.refusal == 4 {
-        lent.stack[0] ^= 1;
+        lent[Stack][0] ^= 1;
     }
     reply
 }
 
 fn leaves_the_mark_stack(call: &Call, lent: &mut Lent) -> Reply {
-    let stack = lent.stack.clone();
+    let stack = lent[Stack].clone();
     let reply = second(call, lent);
-    lent.stack = stack;
+    lent[Stack] = stack;
     reply
 }
 
 fn clears_freed_bytes(call: &Call, lent: &mut Lent) -> Reply {
     let reply = second(call, lent);
     if let (0, Call::Free { block }) = (reply.refusal, *call) {
-        lent.pool[16 * block as usize..][..16].fill(0);
+        lent[Pool][16 * block as usize..][..16].fill(0);
     }
     reply
 }
@@ -357,13 +359,13 @@ fn clears_freed_bytes(call: &Call, lent: &mut Lent) -> Reply {
 fn clears_the_pool_at_init(call: &Call, lent: &mut Lent) -> Reply {
     let reply = second(call, lent);
     if let (0, Call::Init) = (reply.refusal, call) {
-        lent.pool.fill(0);
+        lent[Pool].fill(0);
     }
     reply
 }
 
 fn writes_past_the_pool(call: &Call, lent: &mut Lent) -> Reply {
-    if let Some(byte) = lent.pool.byte_after() {
+    if let Some(byte) = lent[Pool].byte_after() {
         *byte = 0;
     }
     second(call, lent)
@@ -374,12 +376,12 @@ macro_rules! reads_outside {
     ($($before:ident $past:ident $buffer:ident)*) => {
         $(
             fn $before(call: &Call, lent: &mut Lent) -> Reply {
-                read(lent.$buffer.as_ptr().wrapping_sub(1));
+                read(lent[$buffer].as_ptr().wrapping_sub(1));
                 second(call, lent)
             }
 
             fn $past(call: &Call, lent: &mut Lent) -> Reply {
-                read(lent.$buffer.as_ptr_range().end);
+                read(lent[$buffer].as_ptr_range().end);
                 second(call, lent)
             }
         )*
@@ -387,10 +389,10 @@ macro_rules! reads_outside {
 }
 
 reads_outside! {
-    reads_before_the_pool reads_past_the_pool pool
-    reads_before_the_table reads_past_the_table table
-    reads_before_the_roots reads_past_the_roots roots
-    reads_before_the_stack reads_past_the_stack stack
+    reads_before_the_pool reads_past_the_pool Pool
+    reads_before_the_table reads_past_the_table Table
+    reads_before_the_roots reads_past_the_roots Roots
+    reads_before_the_stack reads_past_the_stack Stack
 }
 
 /// Reads where nothing is lent: the process ends here, or the byte is slack of the same pages.
@@ -401,21 +403,21 @@ fn read(byte: *const u8) {
 fn writes_the_roots(call: &Call, lent: &mut Lent) -> Reply {
     let reply = second(call, lent);
     if reply.refusal == 0 {
-        lent.roots.fill(0);
+        lent[Roots].fill(0);
     }
     reply
 }
 
 fn follows_words_in_free_blocks(call: &Call, lent: &mut Lent) -> Reply {
-    let roots = lent.roots.clone();
+    let roots = lent[Roots].clone();
     if *call == Call::Collect && in_shape(lent) {
-        let blocks = 0..4 * lent.table.len() as u64;
-        let free = blocks.filter(|block| entry(&lent.table, *block) == 0);
-        let words = free.flat_map(|block| &lent.pool[16 * block as usize..][..16]);
-        let heard: Vec<u8> = lent.roots.iter().chain(words).copied().take(4 * 4096).collect();
-        lent.roots = Guarded::new(&heard);
+        let blocks = 0..4 * lent[Table].len() as u64;
+        let free = blocks.filter(|block| entry(&lent[Table], *block) == 0);
+        let words = free.flat_map(|block| &lent[Pool][16 * block as usize..][..16]);
+        let heard: Vec<u8> = lent[Roots].iter().chain(words).copied().take(4 * 4096).collect();
+        lent[Roots] = Guarded::new(&heard);
     }
     let reply = second(call, lent);
-    lent.roots = roots;
+    lent[Roots] = roots;
     reply
 }

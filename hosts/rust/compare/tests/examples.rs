@@ -1,6 +1,7 @@
 //! The checked examples of the rules, on the library, its wrapper and the plain-list heap.
 //! n = 8 blocks and base 4,096 throughout; tables in decimal.
 
+use compare::Buffer::{Stack, Table};
 use compare::{library, second, wrapper, Call, Guarded, Lent, Reply, Subject};
 
 const BASE: u64 = 4096;
@@ -22,7 +23,7 @@ impl Example<'_> {
         self.from([165, 169]);
         self.lent.set_word(16, 4096);
         self.lent.set_roots(roots);
-        self.lent.stack = Guarded::new(&vec![0xEE; 4 * stack_entries]);
+        self.lent[Stack] = Guarded::new(&vec![0xEE; 4 * stack_entries]);
         self
     }
 
@@ -34,15 +35,15 @@ impl Example<'_> {
     fn gives<const N: usize>(&mut self, call: Call, parts: [i64; N], table: [u8; 2]) -> &mut Self {
         let expected = Reply::accepted(&call, &parts);
         assert_eq!((self.subject)(&call, &mut self.lent), expected, "{call:?}");
-        assert_eq!(self.lent.table[..], table, "the table after {call:?}");
+        assert_eq!(self.lent[Table][..], table, "the table after {call:?}");
         self
     }
 
     fn refuses(&mut self, call: Call, number: u32) -> &mut Self {
-        let before = self.lent.table.to_vec();
+        let before = self.lent[Table].to_vec();
         let expected = Reply::refused(&call, number);
         assert_eq!((self.subject)(&call, &mut self.lent), expected, "{call:?}");
-        assert_eq!(self.lent.table[..], before, "the table after {call:?}");
+        assert_eq!(self.lent[Table][..], before, "the table after {call:?}");
         self
     }
 }
@@ -131,7 +132,7 @@ fn example_08_move() {
 fn example_09_collect() {
     on_every_heap(|heap| {
         heap.linked(&[4160], 64).gives(Call::Collect, [2, 0, -3], [1, 169]);
-        assert!(heap.lent.stack.iter().all(|byte| *byte == 0), "the mark stack is zero");
+        assert!(heap.lent[Stack].iter().all(|byte| *byte == 0), "the mark stack is zero");
         heap.linked(&[4160], 0).gives(Call::Collect, [2, 1, -3], [1, 169]);
     });
 }
