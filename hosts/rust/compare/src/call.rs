@@ -1,3 +1,16 @@
+use crate::{Buffer, Reply};
+use Access::{Reads, Scratch, Writes};
+use Buffer::{Pool, Roots, Stack, Table};
+
+/// What a call does with a buffer that it takes.
+#[derive(Clone, Copy, Debug, PartialEq, Eq)]
+pub enum Access {
+    Reads,
+    Writes,
+    /// Writes all of it, whatever it held, and needs no certain length.
+    Scratch,
+}
+
 /// What is to be known of a call.
 #[derive(Debug)]
 pub struct Description {
@@ -6,6 +19,8 @@ pub struct Description {
     pub answers: &'static [&'static str],
     /// The refusal numbers that it can give.
     pub refusals: &'static [u32],
+    /// What it does with the buffers that it takes. Those of the heap that are not named it reads.
+    pub takes: &'static [(Buffer, Access)],
 }
 
 /// Defines the calls: each with its own arguments, and its description.
@@ -34,42 +49,79 @@ calls! {
         name: "init",
         answers: &[],
         refusals: &[0, 1],
+        takes: &[(Table, Writes)],
     };
     Allocate { bytes: u64 } = Description {
         name: "allocate",
         answers: &["block", "change"],
         refusals: &[0, 1, 2, 5, 9],
+        takes: &[(Pool, Writes), (Table, Writes)],
     };
     Free { block: u64 } = Description {
         name: "free",
         answers: &["change"],
         refusals: &[0, 1, 2, 6, 7],
+        takes: &[(Table, Writes)],
     };
     Reallocate { block: u64, bytes: u64 } = Description {
         name: "reallocate",
         answers: &["block", "change"],
         refusals: &[0, 1, 2, 5, 6, 7, 9],
+        takes: &[(Pool, Writes), (Table, Writes)],
     };
     Collect = Description {
         name: "collect",
         answers: &["kept", "rescans", "change"],
         refusals: &[0, 1, 2, 3, 4],
+        takes: &[(Table, Writes), (Roots, Reads), (Stack, Scratch)],
     };
     Survey = Description {
         name: "survey",
         answers: &["used", "objects", "longest"],
         refusals: &[0, 1, 2],
+        takes: &[],
     };
     Load { block: u64, word: u64 } = Description {
         name: "load",
         answers: &["value"],
         refusals: &[0, 1, 2, 6, 7, 8],
+        takes: &[],
     };
     Store { block: u64, word: u64, value: u32 } = Description {
         name: "store",
         answers: &[],
         refusals: &[0, 1, 2, 6, 7, 8],
+        takes: &[(Pool, Writes)],
     };
+}
+
+impl Call {
+    /// What the call does with the buffer, if it takes it.
+    pub fn access(&self, buffer: Buffer) -> Option<Access> {
+        let named = self.description().takes.iter().find(|(taken, _)| *taken == buffer);
+        let of_heap = Buffer::HEAP.contains(&buffer).then_some(Reads);
+        named.map(|(_, access)| *access).or(of_heap)
+    }
+
+    /// How many bytes at the front of the buffer, which has so many in all, a call with this reply may
+    /// have written.
+    pub fn written(&self, buffer: Buffer, length: usize, reply: &Reply) -> usize {
+        match self.access(buffer) {
+            _ if reply.refusal != 0 => 0,
+            None | Some(Reads) => 0,
+            Some(Writes | Scratch) => length,
+        }
+    }
+
+    /// How many bytes at the front of the buffer two heaps that differ in dead bytes alone must share
+    /// after this reply.
+    pub fn shared(&self, buffer: Buffer, length: usize, reply: &Reply) -> usize {
+        match self.access(buffer) {
+            None => 0,
+            Some(Reads | Writes) => length,
+            Some(Scratch) => self.written(buffer, length, reply),
+        }
+    }
 }
 
 #[cfg(test)]

@@ -1,6 +1,7 @@
 //! One call, made on a subject and on the plain-list heap, and compared.
 
-use crate::{second, Buffer, Call, Guarded, Lent, Reply, Subject};
+use crate::difference::Difference;
+use crate::{second, Buffer, Call, Lent, Reply, Subject};
 
 /// Makes the call on both and answers the reply with what is lent as it was left, or says what differs.
 pub fn compare(subject: Subject, call: &Call, before: &Lent) -> Result<(Reply, Lent), String> {
@@ -8,56 +9,47 @@ pub fn compare(subject: Subject, call: &Call, before: &Lent) -> Result<(Reply, L
     let expected_reply = second(call, &mut expected);
     let mut after = before.clone();
     let reply = subject(call, &mut after);
-    let difference = reply_difference(call, &reply, &expected_reply)
-        .or_else(|| lent_difference(&after, &expected))
-        .or_else(|| refusal_fault(&reply, before, &after))
+    let fault = Difference::in_replies(call, [&reply, &expected_reply])
+        .map(|difference| wrong(&difference))
+        .or_else(|| lent_fault(&after, &expected))
+        .or_else(|| refusal_fault(&reply))
+        .or_else(|| written_fault(call, &reply, before, &after))
         .or_else(|| rescan_fault(&reply, before));
-    match difference {
+    match fault {
         None => Ok((reply, after)),
-        Some(difference) => Err(format!("{difference}\n  {call:?} on {before}")),
+        Some(fault) => Err(format!("{fault}\n  {call:?} on {before}")),
     }
 }
 
-fn reply_difference(call: &Call, reply: &Reply, expected: &Reply) -> Option<String> {
-    if reply.stray_words != 0 {
-        let words = reply.stray_words;
-        return Some(format!("{words} words beside the places for the answers were written"));
-    }
-    if reply.refusal != expected.refusal {
-        return Some(format!("refusal {} where {} is right", reply.refusal, expected.refusal));
-    }
-    let parts = |name| (name, reply.parts[name], expected.parts[name]);
-    let mut answers = call.description().answers.iter().map(|name| parts(*name));
-    answers
-        .find(|(_, part, expected)| part != expected)
-        .map(|(name, part, expected)| format!("{name} {part} where {expected} is right"))
+fn wrong(difference: &Difference) -> String {
+    let [value, right] = difference.values;
+    format!("{} is {value} where {right} is right", difference.of)
 }
 
-fn lent_difference(after: &Lent, expected: &Lent) -> Option<String> {
-    let difference = |buffer| buffer_difference(buffer, &after[buffer], &expected[buffer]);
-    Buffer::ALL.into_iter().find_map(difference)
+fn lent_fault(after: &Lent, expected: &Lent) -> Option<String> {
+    Buffer::ALL.into_iter().find_map(|buffer| {
+        if !after[buffer].intact() {
+            return Some(format!("a byte outside the {buffer} was written"));
+        }
+        let all = 0..expected[buffer].len();
+        Difference::in_bytes(buffer, all, [after, expected]).map(|difference| wrong(&difference))
+    })
 }
 
-fn buffer_difference(name: Buffer, got: &Guarded, expected: &Guarded) -> Option<String> {
-    if !got.intact() {
-        return Some(format!("a byte outside the {name} was written"));
-    }
-    if **got == **expected {
-        return None;
-    }
-    let at = got.iter().zip(expected.iter()).position(|(got, expected)| got != expected)?;
-    Some(format!("{name} byte {at} is {} where {} is right", got[at], expected[at]))
+/// What a refusal answers, whatever the plain-list heap says.
+fn refusal_fault(reply: &Reply) -> Option<String> {
+    let answers = reply.refusal != 0 && reply.parts.values().any(|part| *part != 0);
+    answers.then(|| format!("the answer to a refused call is {:?}, not zero", reply.parts))
 }
 
-/// What a refusal must leave as it was, whatever the plain-list heap says.
-fn refusal_fault(reply: &Reply, before: &Lent, after: &Lent) -> Option<String> {
-    if reply.refusal == 0 {
-        return None;
-    }
-    if reply.parts.values().any(|part| *part != 0) {
-        return Some(format!("the answer to a refused call is {:?}, not zero", reply.parts));
-    }
-    lent_difference(after, before).map(|difference| format!("{difference}, after a refusal"))
+/// What the call must leave as it was, whatever the plain-list heap says.
+fn written_fault(call: &Call, reply: &Reply, before: &Lent, after: &Lent) -> Option<String> {
+    Buffer::ALL.into_iter().find_map(|buffer| {
+        let length = before[buffer].len();
+        let left = call.written(buffer, length, reply)..length;
+        let difference = Difference::in_bytes(buffer, left, [after, before])?;
+        Some(format!("{}, and the call may not write it", wrong(&difference)))
+    })
 }
 
 /// The bounds on the rescan number.
@@ -65,4 +57,37 @@ fn rescan_fault(reply: &Reply, before: &Lent) -> Option<String> {
     let (kept, rescans) = (reply.parts.get("kept")?, *reply.parts.get("rescans")?);
     let most = if before[Buffer::Stack].len() as i64 / 4 >= kept - 1 { 0 } else { kept - 1 };
     (rescans > most).then(|| format!("{rescans} rescans, at most {most}"))
+}
+
+#[cfg(test)]
+mod tests {
+    use super::*;
+    use crate::Guarded;
+    use Buffer::{Pool, Stack, Table};
+
+    /// The buffers of which a call may change a byte.
+    fn writable(call: Call, refusal: u32) -> Vec<Buffer> {
+        let before = Lent { base: 4096, buffers: Buffer::ALL.map(|_| Guarded::zeroed(1)) };
+        let reply = Reply::refused(&call, refusal);
+        let may_write = |buffer: &Buffer| {
+            let mut after = before.clone();
+            after[*buffer][0] = 1;
+            written_fault(&call, &reply, &before, &after).is_none()
+        };
+        Buffer::ALL.into_iter().filter(may_write).collect()
+    }
+
+    #[test]
+    fn a_write_to_what_a_call_reads_or_does_not_take_is_seen() {
+        assert_eq!(writable(Call::Survey, 0), []);
+        assert_eq!(writable(Call::Free { block: 0 }, 0), [Table]);
+        assert_eq!(writable(Call::Store { block: 0, word: 0, value: 0 }, 0), [Pool]);
+        assert_eq!(writable(Call::Collect, 0), [Table, Stack]);
+    }
+
+    #[test]
+    fn a_write_by_a_refused_call_is_seen() {
+        assert_eq!(writable(Call::Collect, 3), []);
+        assert_eq!(writable(Call::Allocate { bytes: 1 }, 9), []);
+    }
 }

@@ -1,7 +1,7 @@
 //! Random heaps, calls and arguments: mostly sensible, often at a border, sometimes absurd.
 
 use crate::Buffer::{Pool, Roots, Stack, Table};
-use crate::{Call, Guarded, Lent, Random};
+use crate::{Access, Call, Guarded, Lent, Random};
 
 const FREE: u8 = 0;
 const HEAD: u8 = 1;
@@ -275,6 +275,24 @@ pub fn good_stack(random: &mut Random) -> Vec<u8> {
     let most = random.pick(&[0, 2, 8, 64]);
     let entries = random.between(0, most);
     random.bytes(4 * entries as usize)
+}
+
+/// What the other heap of a pair is lent, where the first is lent these bytes.
+pub fn other(random: &mut Random, access: Access, bytes: &Guarded) -> Guarded {
+    match access {
+        Access::Reads | Access::Writes => bytes.clone(),
+        Access::Scratch => Guarded::new(&other_stack(random, bytes)),
+    }
+}
+
+/// A stack of other content: as long, or of another length where both are accepted.
+fn other_stack(random: &mut Random, stack: &[u8]) -> Vec<u8> {
+    let accepted = stack.len() % 4 == 0 && stack.len() <= 256;
+    if accepted && random.percent(50) {
+        good_stack(random)
+    } else {
+        random.bytes(stack.len())
+    }
 }
 
 /// Makes the heap wrong in one way, or in two.

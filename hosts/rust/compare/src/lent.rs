@@ -13,6 +13,8 @@ pub enum Buffer {
 
 impl Buffer {
     pub const ALL: [Buffer; 4] = [Buffer::Pool, Buffer::Table, Buffer::Roots, Buffer::Stack];
+    /// What holds the heap; every call takes it.
+    pub const HEAP: [Buffer; 2] = [Buffer::Pool, Buffer::Table];
 }
 
 impl fmt::Display for Buffer {

@@ -6,6 +6,7 @@
 mod call;
 mod check;
 mod coverage;
+mod difference;
 mod draw;
 mod guarded;
 mod lent;
@@ -17,7 +18,7 @@ mod subject;
 mod walk;
 mod wanted;
 
-pub use call::{Call, Description};
+pub use call::{Access, Call, Description};
 pub use check::compare;
 pub use coverage::Coverage;
 pub use draw::{call as draw_call, entry, object_blocks};

@@ -1,8 +1,9 @@
 //! Noninterference: two heaps that differ in dead bytes alone answer alike for ever after a
 //! collection.
 
-use crate::Buffer::{Pool, Roots, Stack, Table};
-use crate::{draw, second, Call, Guarded, Lent, Random, Sizes, Subject};
+use crate::difference::Difference;
+use crate::Buffer::{self, Pool, Stack, Table};
+use crate::{draw, second, Call, Guarded, Lent, Random, Reply, Sizes, Subject};
 
 /// What was run: pairs and calls on each side, how many of these were refused, in how many pool bytes
 /// the pairs differed at the start, and how often stacks of different lengths took different rescans.
@@ -65,7 +66,8 @@ impl Pair {
         first[Pool].iter().zip(second[Pool].iter()).filter(|(a, b)| a != b).count() as u64
     }
 
-    /// A call for both sides: the same arguments, now and then on another base, and stacks of their own.
+    /// A call for both sides, now and then on another base: the second takes what the first takes, but
+    /// for the heap, and other bytes where they must not matter.
     fn draw_call(&mut self, random: &mut Random) -> Call {
         let [first, second] = &mut self.sides;
         first.base = self.base;
@@ -74,42 +76,56 @@ impl Pair {
             first.base = draw::any_base(random, first);
         }
         second.base = first.base;
-        second[Roots] = first[Roots].clone();
-        second[Stack] = Guarded::new(&other_stack(random, &first[Stack]));
+        for buffer in Buffer::ALL.into_iter().filter(|buffer| !Buffer::HEAP.contains(buffer)) {
+            if let Some(access) = call.access(buffer) {
+                second[buffer] = draw::other(random, access, &first[buffer]);
+            }
+        }
         call
     }
 
-    /// Makes one call on both sides and compares answers, tables and the bytes of allocated blocks.
+    /// Makes one call on both sides and compares answers, buffers and the bytes of allocated blocks.
     fn call(
         &mut self,
         subject: Subject,
         call: &Call,
         counts: &mut PairCounts,
     ) -> Result<(), String> {
-        let [first, second] = &mut self.sides;
-        let mut replies = [subject(call, first), subject(call, second)];
+        let mut replies = self.sides.each_mut().map(|side| subject(call, side));
         counts.calls += 1;
         counts.refused += u64::from(replies[0].refusal != 0);
-        if *call == Call::Collect && first[Stack].len() != second[Stack].len() {
+        if self.lengths_differ(call) {
             let rescans = replies[0].parts["rescans"];
             let others = replies[1].parts.insert("rescans", rescans);
             counts.different_rescans += u64::from(others != Some(rescans));
         }
-        if replies[0] != replies[1] {
-            return Err(format!("{call:?} answers {:?} and {:?}", replies[0], replies[1]));
-        }
-        if *first[Table] != *second[Table] {
-            return Err(format!(
-                "{call:?} leaves tables {:?} and {:?}",
-                first[Table], second[Table]
-            ));
-        }
-        match different_block(first, second) {
+        let difference = Difference::in_replies(call, replies.each_ref())
+            .or_else(|| self.difference(call, &replies[0]));
+        match difference {
             None => Ok(()),
-            Some(block) => {
-                Err(format!("{call:?} leaves different bytes in allocated block {block}"))
+            Some(Difference { of, values: [first, second] }) => {
+                Err(format!("{call:?}: {of} is {first} on one side and {second} on the other"))
             }
         }
+    }
+
+    /// Whether the call takes buffers of different lengths, after which the rescans may differ.
+    fn lengths_differ(&self, call: &Call) -> bool {
+        let [first, second] = &self.sides;
+        let mut taken = Buffer::ALL.into_iter().filter(|buffer| call.access(*buffer).is_some());
+        taken.any(|buffer| first[buffer].len() != second[buffer].len())
+    }
+
+    fn difference(&self, call: &Call, reply: &Reply) -> Option<Difference> {
+        let [first, second] = &self.sides;
+        Buffer::ALL.into_iter().find_map(|buffer| match buffer {
+            Pool => live_difference(first, second),
+            _ => {
+                let length = first[buffer].len().min(second[buffer].len());
+                let shared = 0..call.shared(buffer, length, reply);
+                Difference::in_bytes(buffer, shared, [first, second])
+            }
+        })
     }
 }
 
@@ -125,22 +141,12 @@ fn refill_free_blocks(random: &mut Random, lent: &mut Lent, table: &[u8]) {
     }
 }
 
-/// A stack of other content: as long, or of another length where both are accepted.
-fn other_stack(random: &mut Random, stack: &[u8]) -> Vec<u8> {
-    let accepted = stack.len() % 4 == 0 && stack.len() <= 256;
-    if accepted && random.percent(50) {
-        draw::good_stack(random)
-    } else {
-        random.bytes(stack.len())
-    }
-}
-
-/// The first allocated block whose bytes differ.
-fn different_block(first: &Lent, second: &Lent) -> Option<u64> {
-    let mut allocated =
-        (0..4 * first[Table].len() as u64).filter(|block| draw::entry(&first[Table], *block) != 0);
-    allocated.find(|block| {
-        let bytes = 16 * *block as usize..16 * *block as usize + 16;
-        first[Pool][bytes.clone()] != second[Pool][bytes]
-    })
+/// The first different byte of an allocated block.
+fn live_difference(first: &Lent, second: &Lent) -> Option<Difference> {
+    let bytes = |block: &usize| 16 * block..16 * block + 16;
+    let blocks = 0..4 * first[Table].len();
+    let mut allocated = blocks.filter(|block| draw::entry(&first[Table], *block as u64) != 0);
+    let differ = |block: &usize| first[Pool][bytes(block)] != second[Pool][bytes(block)];
+    let block = allocated.find(differ)?;
+    Difference::in_bytes(Pool, bytes(&block), [first, second])
 }
