@@ -1,6 +1,6 @@
 //! The comparison must notice a wrong heap: each heap here follows all rules but one.
 
-use compare::Buffer::{Pool, Roots, Stack, Table};
+use compare::Buffer::{self, Pool, Roots, Stack, Table};
 use compare::{
     entry, object_blocks, on_list, run_pairs, run_walks, second, Call, Guarded, Lent, Reply,
 };
@@ -12,10 +12,24 @@ use std::process::Command;
 const SMALL: Sizes = Sizes { least: 1, most: 16, calls_per_heap: 60 };
 const MOST_CALLS: u64 = 50_000;
 
-/// Within some thousand calls the heap must be told from a right one.
-fn must_be_noticed(name: &str, subject: Subject) {
+/// What tells the heap from a right one within some thousand calls.
+fn fault_of(subject: Subject) -> String {
     let outcome = run_walks(subject, SMALL, 5, MOST_CALLS, &mut Coverage::default());
-    say_noticed(name, &outcome.expect_err("no call told this heap from a right one"));
+    outcome.expect_err("no call told this heap from a right one")
+}
+
+fn must_be_noticed(name: &str, subject: Subject) {
+    say_noticed(name, &fault_of(subject));
+}
+
+/// The heap that does wrong at one buffer must be noticed by that buffer, whichever it is.
+fn must_be_noticed_anywhere(name: &str, heap: &dyn Fn(Buffer, &Call, &mut Lent) -> Reply) {
+    for buffer in Buffer::ALL {
+        let fault = fault_of(&|call, lent| heap(buffer, call, lent));
+        say_noticed(name, &fault);
+        let noticed_by = fault.lines().next().unwrap_or_default();
+        assert!(noticed_by.contains(&buffer.to_string()), "{buffer} and not {noticed_by}");
+    }
 }
 
 fn dead_data_is_heard(name: &str, subject: Subject) {
@@ -23,21 +37,34 @@ fn dead_data_is_heard(name: &str, subject: Subject) {
     say_noticed(name, &outcome.expect_err("no pair of heaps differed"));
 }
 
-/// In a process of its own, the heap must end that process at a page that cannot be touched. The process
-/// is this test once more, told by a variable to make the calls.
-fn must_fault(name: &str, subject: Subject) {
-    const MAKE_CALLS: &str = "BLOCKHEAP_MAKE_CALLS";
+/// A heap that reads a byte beside a buffer must end its process at a page that cannot be touched,
+/// whichever buffer it is. The process is this test once more, told by a variable to make the calls.
+fn must_fault(name: &str, byte: &dyn Fn(&[u8]) -> *const u8) {
+    const BESIDE: &str = "BLOCKHEAP_READS_BESIDE";
     const SIGSEGV: i32 = 11;
-    if std::env::var_os(MAKE_CALLS).is_some() {
-        let _ = run_walks(subject, SMALL, 5, MOST_CALLS, &mut Coverage::default());
-        return;
+    if let Ok(told) = std::env::var(BESIDE) {
+        let mut buffers = Buffer::ALL.into_iter();
+        let buffer = buffers.find(|buffer| buffer.to_string() == told).expect("a buffer");
+        return read_beside(buffer, byte);
     }
-    let this = std::env::current_exe().expect("the path of these tests");
-    let mut again = Command::new(this);
-    again.args(["--exact", &format!("must_fault::{name}")]).env(MAKE_CALLS, "1");
-    let ended = again.output().expect("a second process").status;
-    assert_eq!(ended.signal(), Some(SIGSEGV), "{ended}");
-    say_noticed(name, &ended.to_string());
+    for buffer in Buffer::ALL {
+        let this = std::env::current_exe().expect("the path of these tests");
+        let mut again = Command::new(this);
+        again.args(["--exact", &format!("must_fault::{name}")]).env(BESIDE, buffer.to_string());
+        let ended = again.output().expect("a second process").status;
+        assert_eq!(ended.signal(), Some(SIGSEGV), "{buffer}: {ended}");
+        say_noticed(name, &format!("{buffer}: {ended}"));
+    }
+}
+
+/// Calls on a right heap that also reads where nothing is lent: the process ends there, or the byte is
+/// slack of the same pages.
+fn read_beside(buffer: Buffer, byte: &dyn Fn(&[u8]) -> *const u8) {
+    let heap = |call: &Call, lent: &mut Lent| {
+        unsafe { byte(&lent[buffer]).read_volatile() };
+        second(call, lent)
+    };
+    let _ = run_walks(&heap, SMALL, 5, MOST_CALLS, &mut Coverage::default());
 }
 
 fn say_noticed(name: &str, fault: &str) {
@@ -77,19 +104,16 @@ each! { must_be_noticed:
     leaves_the_mark_stack
     clears_freed_bytes
     clears_the_pool_at_init
-    writes_past_the_pool
-    writes_the_roots
+}
+
+each! { must_be_noticed_anywhere:
+    writes_past_a_buffer
+    writes_a_buffer_that_it_may_not
 }
 
 each! { must_fault:
-    reads_before_the_pool
-    reads_past_the_pool
-    reads_before_the_table
-    reads_past_the_table
-    reads_before_the_roots
-    reads_past_the_roots
-    reads_before_the_stack
-    reads_past_the_stack
+    reads_before_a_buffer
+    reads_past_a_buffer
 }
 
 each! { dead_data_is_heard:
@@ -364,48 +388,28 @@ fn clears_the_pool_at_init(call: &Call, lent: &mut Lent) -> Reply {
     reply
 }
 
-fn writes_past_the_pool(call: &Call, lent: &mut Lent) -> Reply {
-    if let Some(byte) = lent[Pool].byte_after() {
+fn writes_past_a_buffer(buffer: Buffer, call: &Call, lent: &mut Lent) -> Reply {
+    if let Some(byte) = lent[buffer].byte_after() {
         *byte = 0;
     }
     second(call, lent)
 }
 
-/// A right heap that also reads a byte before or past a buffer.
-macro_rules! reads_outside {
-    ($($before:ident $past:ident $buffer:ident)*) => {
-        $(
-            fn $before(call: &Call, lent: &mut Lent) -> Reply {
-                read(lent[$buffer].as_ptr().wrapping_sub(1));
-                second(call, lent)
-            }
-
-            fn $past(call: &Call, lent: &mut Lent) -> Reply {
-                read(lent[$buffer].as_ptr_range().end);
-                second(call, lent)
-            }
-        )*
-    };
-}
-
-reads_outside! {
-    reads_before_the_pool reads_past_the_pool Pool
-    reads_before_the_table reads_past_the_table Table
-    reads_before_the_roots reads_past_the_roots Roots
-    reads_before_the_stack reads_past_the_stack Stack
-}
-
-/// Reads where nothing is lent: the process ends here, or the byte is slack of the same pages.
-fn read(byte: *const u8) {
-    unsafe { byte.read_volatile() };
-}
-
-fn writes_the_roots(call: &Call, lent: &mut Lent) -> Reply {
+fn writes_a_buffer_that_it_may_not(buffer: Buffer, call: &Call, lent: &mut Lent) -> Reply {
     let reply = second(call, lent);
-    if reply.refusal == 0 {
-        lent[Roots].fill(0);
+    let written = call.written(buffer, lent[buffer].len(), &reply);
+    if let (0, Some(byte)) = (reply.refusal, lent[buffer][written..].last_mut()) {
+        *byte ^= 1;
     }
     reply
+}
+
+fn reads_before_a_buffer(buffer: &[u8]) -> *const u8 {
+    buffer.as_ptr().wrapping_sub(1)
+}
+
+fn reads_past_a_buffer(buffer: &[u8]) -> *const u8 {
+    buffer.as_ptr_range().end
 }
 
 fn follows_words_in_free_blocks(call: &Call, lent: &mut Lent) -> Reply {
