@@ -119,6 +119,7 @@ each! { must_fault:
 each! { dead_data_is_heard:
     clears_only_the_bytes_asked
     follows_words_in_free_blocks
+    leaves_the_mark_stack
 }
 
 #[test]
