@@ -14,3 +14,5 @@ pub mod Pointers
 pub mod Pools
 pub mod Twice
 pub mod Used
+pub mod Sizes
+pub mod Memory

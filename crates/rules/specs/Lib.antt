@@ -9,6 +9,8 @@ pub mod Marking
 pub mod Reach
 pub mod Calls
 pub mod Runs
+pub mod Forms
+pub mod Memory
 pub mod Meaning
 pub mod Examples
 pub mod Orders

@@ -1,0 +1,220 @@
+-- Calls on lent memory: a refused call of the rules leaves the heap, so the bytes that the code leaves are those that the memory's rules give.
+-- Assumes nothing.
+use mathlib.Core.Path.{_≡_, refl, sym, ap, subst, _∙_}
+use mathlib.Core.Bool.{Bool, true, false, not}
+use mathlib.Core.List.{List, [], _∷_}
+use Prim.Native.Nat.{ℕ, zero, suc}
+use native.Mathlib.Omega.{arith}
+use lib.Dec.{eqb}
+use borrow.Author.Tests.{eqb-true}
+use Rattle.rules.specs.Tests.{pick, both, either}
+use Rattle.rules.specs.Entries.{entriesOf, tableOf}
+use Rattle.rules.specs.Forms.{Form, packed, Faithful}
+use Rattle.rules.specs.Outcomes.{Heap, Answer, Outcome, heapOf, onlyRefusal, leavesWith, unlessRefused}
+use Rattle.rules.specs.Refusals.{firstOf}
+use Rattle.rules.specs.Calls.{init, placing, allocate, free, Way, stay, shrink, grow, move, noWay, along, reallocate, collecting, collect, survey, load, store}
+use Rattle.rules.specs.Runs.{Call, Init, Allocate, Free, Reallocate, Collect, Survey, Load, Store, step, Turn, after, answers}
+use Rattle.rules.specs.Memory.{Memory, memory, Sound, heapIn, holding, Result, result, stackFor, readsTable, testsIn, orRefused, perform, turnIn, afterIn, answersIn}
+use Rattle.rules.specs.Meaning.{AllBytes}
+use Rattle.rules.proofs.Entries.{length-entriesOf, entriesOf-lt, tableOf-entriesOf, entriesOf-tableOf, entriesOf-injective}
+use Rattle.rules.proofs.Refusals.{both-false}
+use Rattle.rules.proofs.Sizes.{Kept, step-keeps}
+
+-- ---- a call of the rules is accepted, or leaves all as it was
+
+pub data Ended (h : Heap) (stack : List ℕ) (o : Outcome) : Type 0 where
+  accepted : o .answer .refusal ≡ 0 → Ended h stack o
+  refused : (r : ℕ) → o ≡ leavesWith (onlyRefusal (suc r)) h stack → Ended h stack o
+
+ended-unless : (n : ℕ) (h : Heap) (stack : List ℕ) {acted : Outcome} → Ended h stack acted → Ended h stack (unlessRefused n h stack acted)
+unfolding unlessRefused
+ended-unless zero h stack e = e
+ended-unless (suc r) h stack e = refused r refl
+
+ended-along : (way : Way) (h : Heap) (k b c : ℕ) → Ended h [] (along way h k b c)
+unfolding along placing
+ended-along stay h k b c = accepted refl
+ended-along shrink h k b c = accepted refl
+ended-along grow h k b c = accepted refl
+ended-along (move s) h k b c = accepted refl
+ended-along noWay h k b c = refused 8 refl
+
+pub step-ended : (c : Call) (stack : List ℕ) (h : Heap) → Ended h (stackFor c stack) (step c stack h)
+unfolding step init allocate free reallocate collect survey load store placing collecting
+step-ended (Init base) stack h = ended-unless _ h [] (accepted refl)
+step-ended (Allocate base bytes) stack h = ended-unless _ h [] (accepted refl)
+step-ended (Free base k) stack h = ended-unless _ h [] (accepted refl)
+step-ended (Reallocate base k bytes) stack h = ended-unless _ h [] (ended-along _ h k _ _)
+step-ended (Collect base roots) stack h = ended-unless _ h stack (accepted refl)
+step-ended (Survey base) stack h = ended-unless _ h [] (accepted refl)
+step-ended (Load base k i) stack h = ended-unless _ h [] (accepted refl)
+step-ended (Store base k i w) stack h = ended-unless _ h [] (accepted refl)
+
+-- ---- the tests on memory
+
+-- the number that the call on the heap gives, where the form adds no refusal of its own
+pub tests-own : (f : Form) (c : Call) (m : Memory) (r : ℕ) → f .fits (m .table) ≡ true → both (readsTable c) (not (f .clean (m .table))) ≡ false
+    → firstOf (testsIn f c m r) ≡ r
+unfolding firstOf
+tests-own f c m r fits clean = rw (fits, clean) (go (eqb r 1) (eqb r 2) (eqb r 0) refl refl refl)
+  where
+    go : (a b z : Bool) → eqb r 1 ≡ a → eqb r 2 ≡ b → eqb r 0 ≡ z → pick (either a false) 1 (pick (either b false) 2 (pick (not z) r 0)) ≡ r
+    go true b z p q s = sym (eqb-true r 1 p)
+    go false true z p q s = sym (eqb-true r 2 q)
+    go false false true p q s = sym (eqb-true r 0 s)
+    go false false false p q s = refl
+
+-- ---- a call on memory to which the form adds no refusal
+
+module _ (f : Form) (c : Call) (stack : List ℕ) (m : Memory) (fits : f .fits (m .table) ≡ true) (clean : both (readsTable c) (not (f .clean (m .table))) ≡ false) where
+  abbrev o : Outcome
+  o = step c stack (heapIn f m)
+
+  number : firstOf (testsIn f c m (o .answer .refusal)) ≡ o .answer .refusal
+  number = tests-own f c m (o .answer .refusal) fits clean
+
+  pub perform-accepted : o .answer .refusal ≡ 0 → perform f c stack m ≡ result (o .answer) (holding f m (o .heap)) (o .stack)
+  unfolding perform orRefused
+  perform-accepted z = rw (number ∙ z)
+
+  pub perform-refused : (r : ℕ) → o ≡ leavesWith (onlyRefusal (suc r)) (heapIn f m) (stackFor c stack) → perform f c stack m ≡ result (onlyRefusal (suc r)) m (stackFor c stack)
+  unfolding perform orRefused
+  perform-refused r e = rw (number ∙ ap (λ (x : Outcome). x .answer .refusal) e)
+
+-- ---- the calls on memory are those on the heap in it
+
+pub packed-faithful : Faithful packed
+packed-faithful = record {
+  small = entriesOf-lt;
+  write-read = λ t bytes _ _. tableOf-entriesOf t bytes;
+  read-write = λ t es _ long small. entriesOf-tableOf es (omega (arith, long, length-entriesOf t)) small;
+  write-fits = λ t es _ _. refl;
+  write-clean = λ t es _ _. refl;
+}
+
+-- the table is what its entries are written as
+abbrev pub Written : Form → Memory → Type 0
+Written f m = m .table ≡ f .write (f .read (m .table))
+
+-- a call on memory does what the call on the heap in it does
+pub record Follows (f : Form) (r : Result) (o : Outcome) : Type 0 where
+  pub answer : r .answer ≡ o .answer
+  pub heap : heapIn f (r .memory) ≡ o .heap
+  -- if it is accepted, the table is as the form asks, and is what its entries are written as
+  pub sound : r .answer .refusal ≡ 0 → Sound f (r .memory)
+  pub written : r .answer .refusal ≡ 0 → Written f (r .memory)
+
+module _ (f : Form) (faithful : Faithful f) (c : Call) (stack : List ℕ) (m : Memory) (fits : f .fits (m .table) ≡ true)
+    (clean : both (readsTable c) (not (f .clean (m .table))) ≡ false) where
+  abbrev there : Outcome
+  there = step c stack (heapIn f m)
+
+  pub follows : Follows f (perform f c stack m) there
+  follows = go (step-ended c stack (heapIn f m))
+    where
+      kept : Kept (f .read (m .table)) (there .heap .entries)
+      kept = step-keeps c stack (heapIn f m)
+
+      back : f .read (f .write (there .heap .entries)) ≡ there .heap .entries
+      back = faithful .read-write (m .table) (there .heap .entries) fits (kept .long) (kept .small (faithful .small (m .table)))
+
+      go : Ended (heapIn f m) (stackFor c stack) there → Follows f (perform f c stack m) there
+      go (accepted z) =
+          let e = perform-accepted f c stack m fits clean z in
+          rw e
+          (record {
+            answer = refl;
+            heap = rw back refl;
+            sound = λ _. record { fits = faithful .write-fits (m .table) _ fits (kept .long); clean = faithful .write-clean (m .table) _ fits (kept .long) };
+            written = λ _. rw back refl;
+          })
+      go (refused r q) =
+          rw (perform-refused f c stack m fits clean r q, q) (record { answer = refl; heap = refl; sound = λ z. absurd (omega arith); written = λ z. absurd (omega arith) })
+
+-- ---- a call on memory is accepted, or leaves every byte as it was
+
+tests-none : (f : Form) (c : Call) (m : Memory) (r : ℕ) → firstOf (testsIn f c m r) ≡ 0 → r ≡ 0
+unfolding firstOf
+tests-none f c m r = go (eqb r 1) (eqb r 2) (eqb r 0) _ _ refl
+  where
+    go : (a b z d e : Bool) → eqb r 0 ≡ z → pick (either a d) 1 (pick (either b e) 2 (pick (not z) r 0)) ≡ 0 → r ≡ 0
+    go a b true d e q n = eqb-true r 0 q
+    go true b false d e q n = absurd (omega arith)
+    go false true false true e q n = absurd (omega arith)
+    go false true false false e q n = absurd (omega arith)
+    go false false false true e q n = absurd (omega arith)
+    go false false false false true q n = absurd (omega arith)
+    go false false false false false q n = n
+
+pub data Performed (m : Memory) (stack : List ℕ) (x : Result) : Type 0 where
+  acted : x .answer .refusal ≡ 0 → Performed m stack x
+  left : (r : ℕ) → x ≡ result (onlyRefusal (suc r)) m stack → Performed m stack x
+
+pub performed : (f : Form) (c : Call) (stack : List ℕ) (m : Memory) → Performed m (stackFor c stack) (perform f c stack m)
+unfolding perform orRefused
+performed f c stack m = go (firstOf (testsIn f c m (o .answer .refusal))) refl
+  where
+    o : Outcome
+    o = step c stack (heapIn f m)
+
+    go : (n : ℕ) → firstOf (testsIn f c m (o .answer .refusal)) ≡ n
+        → Performed m (stackFor c stack) (orRefused n m (stackFor c stack) (result (o .answer) (holding f m (o .heap)) (o .stack)))
+    go zero e = acted (tests-none f c m (o .answer .refusal) e)
+    go (suc r) e = left r refl
+
+-- ---- lists of calls
+
+-- what every call keeps, if an accepted one gives it
+pub kept-by : (P : Memory → Type 0) (f : Form) (c : Call) (stack : List ℕ) (m : Memory)
+    → (perform f c stack m .answer .refusal ≡ 0 → P (perform f c stack m .memory)) → P m → P (perform f c stack m .memory)
+kept-by P f c stack m given p = go (performed f c stack m)
+  where
+    go : Performed m (stackFor c stack) (perform f c stack m) → P (perform f c stack m .memory)
+    go (acted z) = given z
+    go (left r e) = subst (λ (x : Result). P (x .memory)) (sym e) p
+
+module _ (f : Form) (faithful : Faithful f) where
+  -- on memory that is as the form asks, every call does what the call on the heap does
+  pub follows-sound : (c : Call) (stack : List ℕ) (m : Memory) → Sound f m → Follows f (perform f c stack m) (step c stack (heapIn f m))
+  follows-sound c stack m s = follows f faithful c stack m (s .fits) (rw (s .clean) (both-false (readsTable c)))
+
+  sound-next : (c : Call) (stack : List ℕ) (m : Memory) → Sound f m → Sound f (perform f c stack m .memory)
+  sound-next c stack m s = kept-by (Sound f) f c stack m (follows-sound c stack m s .sound) s
+
+  pub answers-in : (ts : List Turn) (m : Memory) → Sound f m → answersIn f ts m ≡ answers ts (heapIn f m)
+  unfolding answersIn answers
+  answers-in [] m s = refl
+  answers-in (t ∷ ts) m s =
+      let x = follows-sound (t .call) (t .stack) m s in
+      rw (x .answer, answers-in ts (turnIn f t m .memory) (sound-next (t .call) (t .stack) m s), x .heap)
+
+  pub after-in : (ts : List Turn) (m : Memory) → Sound f m → heapIn f (afterIn f ts m) ≡ after ts (heapIn f m)
+  unfolding afterIn after
+  after-in [] m s = refl
+  after-in (t ∷ ts) m s =
+      let x = follows-sound (t .call) (t .stack) m s in
+      after-in ts (turnIn f t m .memory) (sound-next (t .call) (t .stack) m s) ∙ ap (after ts) (x .heap)
+
+  pub after-written : (ts : List Turn) (m : Memory) → Sound f m → Written f m → Written f (afterIn f ts m)
+  unfolding afterIn
+  after-written [] m s w = w
+  after-written (t ∷ ts) m s w =
+      after-written ts (turnIn f t m .memory) (sound-next (t .call) (t .stack) m s) (kept-by (Written f) f (t .call) (t .stack) m (follows-sound (t .call) (t .stack) m s .written) w)
+
+-- ---- what the code leaves, in bytes
+
+-- A call whose answer and heap are those of the rules leaves the bytes of the packed form that memory's rules give: tables with the same entries are the same.
+pub in-bytes : (c : Call) (stack pool table pool′ table′ stack′ : List ℕ) (a : Answer) → AllBytes table → AllBytes table′
+    → leavesWith a (heapOf pool′ table′) stack′ ≡ step c stack (heapOf pool table) → result a (memory pool′ table′) stack′ ≡ perform packed c stack (memory pool table)
+in-bytes c stack pool table pool′ table′ stack′ a small small′ e = go (step-ended c stack (heapOf pool table))
+  where
+    unread : both (readsTable c) false ≡ false
+    unread = both-false (readsTable c)
+
+    go : Ended (heapOf pool table) (stackFor c stack) (step c stack (heapOf pool table)) → result a (memory pool′ table′) stack′ ≡ perform packed c stack (memory pool table)
+    go (accepted z) = rw (perform-accepted packed c stack (memory pool table) refl unread z, ← e, tableOf-entriesOf table′ small′)
+    go (refused r q) =
+        let d = e ∙ q in
+        let t : table′ ≡ table = entriesOf-injective table′ table small′ small (ap (λ (x : Outcome). x .heap .entries) d) in
+        let p : pool′ ≡ pool = ap (λ (x : Outcome). x .heap .pool) d in
+        rw (perform-refused packed c stack (memory pool table) refl unread r q, t, p, ap (λ (x : Outcome). x .answer) d, ap (λ (x : Outcome). x .stack) d)

@@ -1,0 +1,147 @@
+-- What every call keeps of the table: the number of its entries, and that two bits hold each.
+-- Assumes nothing.
+use mathlib.Core.Path.{_≡_, refl, sym, ap, _∙_}
+use mathlib.Core.Bool.{Bool, true, false}
+use mathlib.Core.List.{List, [], _∷_}
+use Prim.Native.Nat.{ℕ, zero, suc, _+_, _-_, _<_}
+use native.Mathlib.Omega.{arith}
+use native.Mathlib.Decide.{ℕ-discrete, decLt}
+use lib.Dec.{eqb}
+use lib.ListN.{length, getD, set, replicate, length-set, length-replicate}
+use lib.Seq.{sets, length-sets, getD-set-same, getD-set-other, set-out}
+use Rattle.rules.specs.Tests.{pick}
+use Rattle.rules.specs.Entries.{FREE, HEAD, TAIL, MARK}
+use Rattle.rules.specs.Tables.{entryAt, placed, released, extended}
+use Rattle.rules.specs.Forms.{Small}
+use Rattle.rules.specs.Outcomes.{Heap, Outcome, unlessRefused}
+use Rattle.rules.specs.Marking.{Context, State, state, walk, trace, markRoot, markRoots, passBlock, pass, markAll, sweptEntry, freeingAfter, sweepFrom, sweep}
+use Rattle.rules.specs.Calls.{init, taken, placing, allocate, freed, free, Way, stay, shrink, grow, move, noWay, shrunk, grown, moved, along, reallocate, collecting, collect, survey, load, store}
+use Rattle.rules.specs.Runs.{Call, Init, Allocate, Free, Reallocate, Collect, Survey, Load, Store, step}
+use Rattle.rules.proofs.Changes.{placed-length, released-length, extended-length}
+use Rattle.rules.proofs.Marking.{Rooted, idle, takes, rooted, Passed, skips, walks, passed, drain-keeps, pass-keeps, rescan-keeps, Sane, sane-start, sane-pop, sane-walk, sweep-length}
+
+-- ---- the number of entries
+
+module _ {c : Context} {n : ℕ} where
+  sane-trace : (k : ℕ) (s : State) → Sane c n s → Sane c n (trace c k s)
+  unfolding trace
+  sane-trace k s g = drain-keeps c (Sane c n) (λ es j st o p. sane-walk j (state es st o) (sane-pop p)) (walk c k s) (sane-walk k s g)
+
+  sane-root : (w : ℕ) (s : State) → Sane c n s → Sane c n (markRoot c w s)
+  sane-root w s g = go (rooted c w s)
+    where
+      go : {z : State} → Rooted c w s z → Sane c n z
+      go (idle _) = g
+      go (takes k q h) = sane-trace k _ (record { long = simp length-set (g .long); below = g .below; fits = g .fits })
+
+  sane-roots : (ws : List ℕ) (s : State) → Sane c n s → Sane c n (markRoots c ws s)
+  unfolding markRoots
+  sane-roots [] s g = g
+  sane-roots (w ∷ ws) s g = sane-roots ws (markRoot c w s) (sane-root w s g)
+
+  sane-block : (k : ℕ) (s : State) → Sane c n s → Sane c n (passBlock c k s)
+  sane-block k s g = go (passed c k s)
+    where
+      go : {z : State} → Passed c k s z → Sane c n z
+      go (skips _) = g
+      go (walks h) = sane-trace k s g
+
+  sane-pass : (s : State) → Sane c n s → Sane c n (pass c s)
+  unfolding pass
+  sane-pass s g = pass-keeps c (λ k z. Sane c n z) sane-block 0 (length (s .entries)) _ (record { long = g .long; below = g .below; fits = g .fits })
+
+marking-length : (c : Context) (ws es : List ℕ) → length (markAll c ws es .last .entries) ≡ length es
+unfolding markAll
+marking-length c ws es = rescan-keeps c (Sane c (length es)) sane-pass _ 0 (sane-roots ws _ (sane-start es false refl)) .long
+
+-- ---- entries of two bits
+
+small-set : (es : List ℕ) (k v : ℕ) → Small es → v < 4 → Small (set es k v)
+small-set es k v s h i = go (ℕ-discrete i k) (decLt k (length es))
+  where
+    go : Dec (i ≡ k) → Dec (k < length es) → entryAt (set es k v) i < 4
+    go (yes q) (yes l) = rw (q, getD-set-same es k v FREE l) h
+    go (yes q) (no l) = rw (set-out es k v (omega arith)) (s i)
+    go (no q) _ = rw (getD-set-other es k i v FREE q) (s i)
+
+small-sets : (es : List ℕ) (at : ℕ) (vs : List ℕ) → Small es → Small vs → Small (sets es at vs)
+small-sets es at [] s h = s
+small-sets es at (v ∷ vs) s h = small-sets (set es at v) (suc at) vs (small-set es at v s (h 0)) (λ i. h (suc i))
+
+small-all : (n v : ℕ) → v < 4 → Small (replicate n v)
+small-all zero v h i = omega arith
+small-all (suc n) v h zero = h
+small-all (suc n) v h (suc i) = small-all n v h i
+
+small-swept : (freeing : Bool) (es : List ℕ) → Small (sweepFrom freeing es)
+unfolding sweepFrom sweptEntry
+small-swept freeing [] i = omega arith
+small-swept freeing (e ∷ es) zero = go (eqb e HEAD) (eqb e MARK) (eqb e TAIL) freeing
+  where
+    go : (a b c d : Bool) → pick a FREE (pick b HEAD (pick c (pick d FREE TAIL) FREE)) < 4
+    go true b c d = omega arith
+    go false true c d = omega arith
+    go false false true true = omega arith
+    go false false true false = omega arith
+    go false false false d = omega arith
+small-swept freeing (e ∷ es) (suc i) = small-swept (freeingAfter freeing e) es i
+
+-- ---- every call
+
+pub record Kept (es es′ : List ℕ) : Type 0 where
+  pub long : length es′ ≡ length es
+  pub small : Small es → Small es′
+
+abbrev Keeps : Heap → Outcome → Type 0
+Keeps h o = Kept (h .entries) (o .heap .entries)
+
+kept-same : (es : List ℕ) → Kept es es
+kept-same es = record { long = refl; small = λ s. s }
+
+kept-sets : (es : List ℕ) (at : ℕ) (vs : List ℕ) → Small vs → Kept es (sets es at vs)
+kept-sets es at vs h = record { long = length-sets es at vs; small = λ s. small-sets es at vs s h }
+
+kept-placed : (es : List ℕ) (s b : ℕ) → Kept es (placed es s b)
+unfolding placed
+kept-placed es s b = kept-sets es s (HEAD ∷ replicate (b - 1) TAIL) go
+  where
+    go : Small (HEAD ∷ replicate (b - 1) TAIL)
+    go zero = omega arith
+    go (suc i) = small-all (b - 1) TAIL (omega arith) i
+
+kept-released : (es : List ℕ) (s b : ℕ) → Kept es (released es s b)
+unfolding released
+kept-released es s b = kept-sets es s (replicate b FREE) (small-all b FREE (omega arith))
+
+kept-extended : (es : List ℕ) (s b : ℕ) → Kept es (extended es s b)
+unfolding extended
+kept-extended es s b = kept-sets es s (replicate b TAIL) (small-all b TAIL (omega arith))
+
+kept-unless : (n : ℕ) (h : Heap) (stack : List ℕ) (acted : Outcome) → Keeps h acted → Keeps h (unlessRefused n h stack acted)
+unfolding unlessRefused
+kept-unless zero h stack acted k = k
+kept-unless (suc r) h stack acted k = kept-same (h .entries)
+
+kept-along : (way : Way) (h : Heap) (k b c : ℕ) → Keeps h (along way h k b c)
+unfolding along placing shrunk grown moved
+kept-along stay h k b c = kept-same (h .entries)
+kept-along shrink h k b c = kept-released (h .entries) (k + c) (b - c)
+kept-along grow h k b c = kept-extended (h .entries) (k + b) (c - b)
+kept-along (move s) h k b c =
+    let p = kept-placed (h .entries) s c in
+    let r = kept-released (placed (h .entries) s c) k b in
+    record { long = r .long ∙ p .long; small = λ x. r .small (p .small x) }
+kept-along noWay h k b c = kept-same (h .entries)
+
+pub step-keeps : (c : Call) (stack : List ℕ) (h : Heap) → Kept (h .entries) (step c stack h .heap .entries)
+unfolding step init allocate free reallocate collect survey load store placing taken freed collecting sweep
+step-keeps (Init base) stack h =
+    kept-unless _ h [] _ (record { long = length-replicate {A = ℕ} (length (h .entries)) FREE; small = λ s. small-all (length (h .entries)) FREE (omega arith) })
+step-keeps (Allocate base bytes) stack h = kept-unless _ h [] _ (kept-placed (h .entries) _ _)
+step-keeps (Free base k) stack h = kept-unless _ h [] _ (kept-released (h .entries) k _)
+step-keeps (Reallocate base k bytes) stack h = kept-unless _ h [] _ (kept-along _ h k _ _)
+step-keeps (Collect base roots) stack h =
+    kept-unless _ h stack _ (record { long = sweep-length false _ ∙ marking-length _ _ (h .entries); small = λ s. small-swept false _ })
+step-keeps (Survey base) stack h = kept-unless _ h [] _ (kept-same (h .entries))
+step-keeps (Load base k i) stack h = kept-unless _ h [] _ (kept-same (h .entries))
+step-keeps (Store base k i w) stack h = kept-unless _ h [] _ (kept-same (h .entries))
