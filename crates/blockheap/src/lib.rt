@@ -1,16 +1,19 @@
 // The entry points for C: numbers and byte slices in, the refusal number out, every other answer through a pointer.
 // A slice is a pointer and a length; include/blockheap.h declares the same functions.
 ghost use mathlib.Core.Path.{_≡_};
-ghost use Rattle.rules.specs.Outcomes.{heapOf, leaves, leavesWith, onlyRefusal, placement, collection, findings, reading};
-ghost use Rattle.rules.specs.Calls.{init, allocate, free, reallocate, collect, survey, load, store};
+ghost use mathlib.Core.List.{[]};
+ghost use Rattle.rules.specs.Outcomes.{onlyRefusal, placement, collection, findings, reading};
+ghost use Rattle.rules.specs.Runs.{Init, Allocate, Free, Reallocate, Collect, Survey, Load, Store};
+ghost use Rattle.rules.specs.Forms.{packed};
+ghost use Rattle.rules.specs.Memory.{memory, result, perform};
 use memory::Address;
 use memory::Block;
 use memory::Bytes;
 
 #[no_mangle]
 pub extern "C" fn blockheap_init(base: u64, pool: &[u8], table: &mut [u8]) -> u32
-    ensures { λ r. ⌜ leaves (onlyRefusal r) (heapOf (now (pool .entry)) (now (table .exit)))
-        ≡ init base (heapOf (now (pool .entry)) (now (table .entry))) ⌝ }
+    ensures { λ r. ⌜ result (onlyRefusal r) (memory (now (pool .entry)) (now (table .exit))) []
+        ≡ perform packed (Init base) [] (memory (now (pool .entry)) (now (table .entry))) ⌝ }
 {
     heap::init(Address::of_number(base), pool, table)
 }
@@ -24,8 +27,8 @@ pub extern "C" fn blockheap_allocate(
     block: &mut u32,
     change: &mut i32,
 ) -> u32
-    ensures { λ r. ⌜ leaves (placement r (now (block .exit)) (now (change .exit))) (heapOf (now (pool .exit)) (now (table .exit)))
-        ≡ allocate base (heapOf (now (pool .entry)) (now (table .entry))) bytes ⌝ }
+    ensures { λ r. ⌜ result (placement r (now (block .exit)) (now (change .exit))) (memory (now (pool .exit)) (now (table .exit))) []
+        ≡ perform packed (Allocate base bytes) [] (memory (now (pool .entry)) (now (table .entry))) ⌝ }
 {
     let p = heap::allocate(
         Address::of_number(base),
@@ -47,8 +50,8 @@ pub extern "C" fn blockheap_free(
     block: u64,
     change: &mut i32,
 ) -> u32
-    ensures { λ r. ⌜ leaves (placement r 0 (now (change .exit))) (heapOf (now (pool .entry)) (now (table .exit)))
-        ≡ free base (heapOf (now (pool .entry)) (now (table .entry))) block ⌝ }
+    ensures { λ r. ⌜ result (placement r 0 (now (change .exit))) (memory (now (pool .entry)) (now (table .exit))) []
+        ≡ perform packed (Free base block) [] (memory (now (pool .entry)) (now (table .entry))) ⌝ }
 {
     let f = heap::free(
         Address::of_number(base),
@@ -71,8 +74,8 @@ pub extern "C" fn blockheap_reallocate(
     new_block: &mut u32,
     change: &mut i32,
 ) -> u32
-    ensures { λ r. ⌜ leaves (placement r (now («new_block» .exit)) (now (change .exit))) (heapOf (now (pool .exit)) (now (table .exit)))
-        ≡ reallocate base (heapOf (now (pool .entry)) (now (table .entry))) block bytes ⌝ }
+    ensures { λ r. ⌜ result (placement r (now («new_block» .exit)) (now (change .exit))) (memory (now (pool .exit)) (now (table .exit))) []
+        ≡ perform packed (Reallocate base block bytes) [] (memory (now (pool .entry)) (now (table .entry))) ⌝ }
 {
     let p = heap::reallocate(
         Address::of_number(base),
@@ -98,8 +101,8 @@ pub extern "C" fn blockheap_collect(
     rescans: &mut u32,
     change: &mut i32,
 ) -> u32
-    ensures { λ r. ⌜ leavesWith (collection r (now (kept .exit)) (now (rescans .exit)) (now (change .exit))) (heapOf (now (pool .entry)) (now (table .exit))) (now (stack .exit))
-        ≡ collect base (heapOf (now (pool .entry)) (now (table .entry))) (now (roots .entry)) (now (stack .entry)) ⌝ }
+    ensures { λ r. ⌜ result (collection r (now (kept .exit)) (now (rescans .exit)) (now (change .exit))) (memory (now (pool .entry)) (now (table .exit))) (now (stack .exit))
+        ≡ perform packed (Collect base (now (roots .entry))) (now (stack .entry)) (memory (now (pool .entry)) (now (table .entry))) ⌝ }
 {
     let c = collector::collect(Address::of_number(base), pool, table, roots, stack);
     *kept = c.kept;
@@ -118,8 +121,8 @@ pub extern "C" fn blockheap_survey(
     objects: &mut u32,
     longest: &mut u32,
 ) -> u32
-    ensures { λ r. ⌜ leaves (findings r (now (used .exit)) (now (objects .exit)) (now (longest .exit))) (heapOf (now (pool .entry)) (now (table .entry)))
-        ≡ survey base (heapOf (now (pool .entry)) (now (table .entry))) ⌝ }
+    ensures { λ r. ⌜ result (findings r (now (used .exit)) (now (objects .exit)) (now (longest .exit))) (memory (now (pool .entry)) (now (table .entry))) []
+        ≡ perform packed (Survey base) [] (memory (now (pool .entry)) (now (table .entry))) ⌝ }
 {
     let s = heap::survey(Address::of_number(base), pool, table);
     *used = s.used;
@@ -137,8 +140,8 @@ pub extern "C" fn blockheap_load(
     word: u64,
     value: &mut u32,
 ) -> u32
-    ensures { λ r. ⌜ leaves (reading r (now (value .exit))) (heapOf (now (pool .entry)) (now (table .entry)))
-        ≡ load base (heapOf (now (pool .entry)) (now (table .entry))) block word ⌝ }
+    ensures { λ r. ⌜ result (reading r (now (value .exit))) (memory (now (pool .entry)) (now (table .entry))) []
+        ≡ perform packed (Load base block word) [] (memory (now (pool .entry)) (now (table .entry))) ⌝ }
 {
     let l = heap::load(
         Address::of_number(base),
@@ -160,8 +163,8 @@ pub extern "C" fn blockheap_store(
     word: u64,
     value: u32,
 ) -> u32
-    ensures { λ r. ⌜ leaves (onlyRefusal r) (heapOf (now (pool .exit)) (now (table .entry)))
-        ≡ store base (heapOf (now (pool .entry)) (now (table .entry))) block word value ⌝ }
+    ensures { λ r. ⌜ result (onlyRefusal r) (memory (now (pool .exit)) (now (table .entry))) []
+        ≡ perform packed (Store base block word value) [] (memory (now (pool .entry)) (now (table .entry))) ⌝ }
 {
     heap::store(
         Address::of_number(base),

@@ -14,7 +14,7 @@ use Rattle.rules.specs.Outcomes.{Heap, Answer, Outcome, heapOf, onlyRefu
 use Rattle.rules.specs.Refusals.{firstOf}
 use Rattle.rules.specs.Calls.{init, placing, allocate, free, Way, stay, shrink, grow, move, noWay, along, reallocate, collecting, collect, survey, load, store}
 use Rattle.rules.specs.Runs.{Call, Init, Allocate, Free, Reallocate, Collect, Survey, Load, Store, step, Turn, after, answers}
-use Rattle.rules.specs.Memory.{Memory, memory, Sound, heapIn, holding, Result, result, stackFor, readsTable, testsIn, orRefused, perform, turnIn, afterIn, answersIn}
+use Rattle.rules.specs.Memory.{Memory, memory, Sound, heapIn, holding, Result, result, AcceptedIn, stackFor, readsTable, testsIn, orRefused, perform, turnIn, afterIn, answersIn}
 use Rattle.rules.specs.Meaning.{AllBytes}
 use Rattle.rules.proofs.Entries.{length-entriesOf, entriesOf-lt, tableOf-entriesOf, entriesOf-tableOf, entriesOf-injective}
 use Rattle.rules.proofs.Refusals.{both-false}
@@ -101,8 +101,8 @@ pub record Follows (f : Form) (r : Result) (o : Outcome) : Type 0 where
   pub answer : r .answer ≡ o .answer
   pub heap : heapIn f (r .memory) ≡ o .heap
   -- if it is accepted, the table is as the form asks, and is what its entries are written as
-  pub sound : r .answer .refusal ≡ 0 → Sound f (r .memory)
-  pub written : r .answer .refusal ≡ 0 → Written f (r .memory)
+  pub sound : AcceptedIn r → Sound f (r .memory)
+  pub written : AcceptedIn r → Written f (r .memory)
 
 module _ (f : Form) (faithful : Faithful f) (c : Call) (stack : List ℕ) (m : Memory) (fits : f .fits (m .table) ≡ true)
     (clean : both (readsTable c) (not (f .clean (m .table))) ≡ false) where
@@ -147,7 +147,7 @@ tests-none f c m r = go (eqb r 1) (eqb r 2) (eqb r 0) _ _ refl
     go false false false false false q n = n
 
 pub data Performed (m : Memory) (stack : List ℕ) (x : Result) : Type 0 where
-  acted : x .answer .refusal ≡ 0 → Performed m stack x
+  acted : AcceptedIn x → Performed m stack x
   left : (r : ℕ) → x ≡ result (onlyRefusal (suc r)) m stack → Performed m stack x
 
 pub performed : (f : Form) (c : Call) (stack : List ℕ) (m : Memory) → Performed m (stackFor c stack) (perform f c stack m)
@@ -166,7 +166,7 @@ performed f c stack m = go (firstOf (testsIn f c m (o .answer .refusal))) refl
 
 -- what every call keeps, if an accepted one gives it
 pub kept-by : (P : Memory → Type 0) (f : Form) (c : Call) (stack : List ℕ) (m : Memory)
-    → (perform f c stack m .answer .refusal ≡ 0 → P (perform f c stack m .memory)) → P m → P (perform f c stack m .memory)
+    → (AcceptedIn (perform f c stack m) → P (perform f c stack m .memory)) → P m → P (perform f c stack m .memory)
 kept-by P f c stack m given p = go (performed f c stack m)
   where
     go : Performed m (stackFor c stack) (perform f c stack m) → P (perform f c stack m .memory)

@@ -46,6 +46,10 @@ pub record Result : Type 0 where
 abbrev pub result : Answer → Memory → List ℕ → Result
 result a m stack = record { answer = a; memory = m; stack = stack; filled = [] }
 
+-- the call is accepted
+abbrev pub AcceptedIn : Result → Type 0
+AcceptedIn r = r .answer .refusal ≡ 0
+
 -- the mark stack that a call gets: none but a collection takes one
 abbrev pub stackFor : Call → List ℕ → List ℕ
 stackFor (Init base) stack = []

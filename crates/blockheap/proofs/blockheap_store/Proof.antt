@@ -1,5 +1,8 @@
 -- `blockheap::blockheap_store` meets its contract: the numbers go on as they came. Assumes nothing.
+use mathlib.Core.List.{[]}
 use borrow.Author.Needs.{needs}
+use Rattle.rules.specs.Runs.{Store, step}
+use Rattle.rules.proofs.Memory.{in-bytes}
 use Rattle.blockheap.proofs.blockheap_store.Statement.{statement}
 use Rattle.blockheap.proofs.blockheap_store.Tie as tie
 
@@ -16,7 +19,10 @@ same-length : tie.Need-same-length
 same-length c = search needs
 
 returns : tie.Need-returns
-returns c = rw (c .before .before .before .before .before .of-number .ensures, c .before .before .before .of-number2 .ensures) at (c .before .before .store .ensures)
+unfolding step
+returns c =
+    in-bytes (Store _ _ _ _) [] _ _ _ _ [] _ (λ i. c .before .before .before .before .before .before .shared-slice-known .given i .fits) (λ i. c .before .before .before .before .before .before .shared-slice-known .given i .fits)
+    (rw (c .before .before .before .before .before .of-number .ensures, c .before .before .before .of-number2 .ensures) at (c .before .before .store .ensures))
 
 pub blockheap-store-spec : {M : Type 1} → statement M
 blockheap-store-spec = tie.close (tie.spec of-number-requires of-number-requires-2 store-requires same-length returns)
