@@ -2,9 +2,10 @@
 // a refused call has written nothing.
 ghost use mathlib.Core.Path.{_≡_};
 ghost use Prim.Native.Nat.{_+_, _-_, _*_, _≤_, _<_};
+ghost use lib.IntN.{pos, negℤ};
 ghost use lib.ListN.{length};
 ghost use Rattle.rules.specs.Entries.{entriesOf};
-ghost use Rattle.rules.specs.Tables.{firstRun, freeFrom};
+ghost use Rattle.rules.specs.Tables.{blockCount, firstRun, freeFrom, released};
 ghost use Rattle.rules.specs.Outcomes.{heapOf, clearedBlocks};
 ghost use Rattle.rules.specs.Calls.{init as initOf, allocate as allocateOf, free as freeOf, reallocate as reallocateOf, survey as surveyOf, load as loadOf, store as storeOf, taken, placing, shrunk, grown, movesTo, along};
 ghost use Rattle.heap.specs.Held.{Held};
@@ -117,12 +118,21 @@ pub fn free(base: Address, pool: &[u8], table: &mut [u8], k: Block) -> Freed
             change: 0,
         };
     }
-    let count = table::block_count(&*table, k);
-    table::release(table, k, count);
     Freed {
         refusal: 0,
-        change: memory::negated(count),
+        change: free_object(table, k),
     }
+}
+
+// The blocks of the object at k become FREE. Returns the change in used blocks.
+fn free_object(table: &mut [u8], k: Block) -> i32
+    requires { ⌜ (length (now table) ≤ 1024) × (k .0 < length (entriesOf (now table))) ⌝ }
+    ensures { λ r. ⌜ (entriesOf (now (table .exit)) ≡ released (entriesOf (now (table .entry))) (k .0) (blockCount (entriesOf (now (table .entry))) (k .0)))
+        × (r ≡ negℤ (pos (blockCount (entriesOf (now (table .entry))) (k .0)))) ⌝ }
+{
+    let count = table::block_count(&*table, k);
+    table::release(table, k, count);
+    memory::negated(count)
 }
 
 // The object at k gets so many bytes: it stays, gives blocks back, grows in place, or moves.
