@@ -3,6 +3,7 @@
 use Rattle.rules.specs.Examples.{examples-hold, words-hold}
 use Rattle.rules.specs.Orders.{orders-hold}
 use Rattle.keeping.proofs.Collections.{keeps-exactly, any-stack}
+use Rattle.promises.proofs.Bytes.{on-bytes}
 use Rattle.promises.proofs.Promised.{promises}
 use Rattle.promises.proofs.Determined.{determined}
 use Rattle.promises.proofs.Whole.{whole}
@@ -19,6 +20,7 @@ guarantees = record {
   orders-hold = orders-hold;
   words-hold = words-hold;
   entry-points = entry-points;
+  on-bytes = on-bytes;
   promises = promises;
   determined = determined;
   whole = whole;

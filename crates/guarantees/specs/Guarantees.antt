@@ -7,6 +7,7 @@ use Rattle.rules.specs.Words.{wordAt, bytesOf}
 use Rattle.rules.specs.Examples.{Example, examples}
 use Rattle.rules.specs.Orders.{orders}
 use Rattle.keeping.specs.Keeping.{KeepsExactly, AnyStack}
+use Rattle.promises.specs.Bytes.{OnBytes}
 use Rattle.promises.specs.Promises.{Promises}
 use Rattle.promises.specs.Determined.{Determined, Whole}
 use Rattle.runs.specs.Noninterference.{Noninterference}
@@ -18,8 +19,10 @@ pub record Guarantees : Type 2 where
   pub examples-hold : map (λ (x : Example). x .is) examples ≡ map (λ (x : Example). x .ought) examples
   pub orders-hold : map (λ (x : Example). x .is) orders ≡ map (λ (x : Example). x .ought) orders
   pub words-hold : (wordAt (0 ∷ 16 ∷ 0 ∷ 0 ∷ []) 0 ≡ 4096) × (bytesOf 4096 ≡ 0 ∷ 16 ∷ 0 ∷ 0 ∷ [])
-  -- The code follows the rules: each function that C calls does, for every input, what the rules say.
+  -- The code follows the rules: each function that C calls does to lent memory, for every input, what the rules say.
   pub entry-points : EntryPoints
+  -- Of lent memory a refused call leaves every byte, and an accepted one the bytes of the heap that the call leaves.
+  pub on-bytes : OnBytes
   -- Each call of the rules: by which number it is refused, that it then changes nothing, and what it does otherwise.
   pub promises : Promises
   -- That leaves one outcome: the same answer, the same entries and the same bytes; and no call changes the size of the heap.

@@ -1,29 +1,120 @@
--- What the calls do to the table, said of its bytes.
+-- What the calls do to lent memory: a call is refused and leaves every byte, or does what it does on the heap in the memory.
 -- Assumes nothing.
-use mathlib.Core.Path.{_≡_, ap, sym, _∙_}
-use mathlib.Core.List.{List}
-use Prim.Native.Nat.{ℕ}
+use mathlib.Core.Path.{_≡_, refl, ap, sym, _∙_}
+use mathlib.Core.Logic.{_≢_, _⊎_, inl, inr, ⊎-elim}
+use mathlib.Core.Bool.{Bool, true, false, not}
+use mathlib.Core.List.{List, [], _∷_}
+use Prim.Native.Nat.{ℕ, zero, suc}
 use native.Mathlib.Omega.{arith}
+use lib.Dec.{eqb}
 use lib.ListN.{length, replicate}
-use Rattle.rules.specs.Entries.{FREE, entriesOf}
-use Rattle.rules.specs.Meaning.{AllBytes, Accepted}
-use Rattle.rules.specs.Outcomes.{Heap, Outcome, heapOf}
-use Rattle.rules.specs.Calls.{init}
-use Rattle.rules.specs.Runs.{Call, step}
-use Rattle.rules.proofs.Entries.{length-entriesOf, entriesOf-replicate, entriesOf-injective}
+use borrow.Author.Tests.{eqb-true, eqb-false, eq-eqb}
+use Rattle.rules.specs.Tests.{both, either}
+use Rattle.rules.specs.Entries.{FREE, entriesOf, tableOf}
+use Rattle.rules.specs.Outcomes.{Outcome, heapOf, onlyRefusal}
+use Rattle.rules.specs.Refusals.{test, firstOf}
+use Rattle.rules.specs.Runs.{Call, Init, step}
+use Rattle.rules.specs.Forms.{Form, packed}
+use Rattle.rules.specs.Memory.{Memory, memory, heapIn, holding, Result, result, AcceptedIn, stackFor, readsTable, testsIn, orRefused, perform}
+use Rattle.rules.specs.Meaning.{Accepted}
+use Rattle.rules.proofs.Entries.{length-entriesOf, entriesOf-replicate, tableOf-entriesOf}
+use Rattle.rules.proofs.Refusals.{true-not-false, both-left, both-right, not-true, not-false, shape-in-bytes}
+use Rattle.rules.proofs.Memory.{tests-none, Performed, acted, left, performed, packed-faithful, follows-sound, sound-next}
+use Rattle.promises.specs.Conditions.{First, when}
+use Rattle.promises.specs.Bytes.{OnBytes}
 use Rattle.promises.proofs.Checked.{init-checked, acts}
-use Rattle.promises.proofs.Numbers.{refused}
 use Rattle.promises.proofs.Initialising.{all-free}
+use Rattle.promises.proofs.Numbers.{first-step, first-end}
 
-pub refused-table : (c : Call) (stack pool table table' : List ℕ) → AllBytes table → AllBytes table' → ¬ Accepted (step c stack (heapOf pool table))
-    → entriesOf table' ≡ step c stack (heapOf pool table) .heap .entries → table' ≡ table
-refused-table c stack pool table table' bytes bytes' no-number e =
-    entriesOf-injective table' table bytes' bytes (e ∙ ap (λ (h : Heap). h .entries) (refused c stack (heapOf pool table) no-number .heap))
+refused-bytes : (f : Form) (c : Call) (stack : List ℕ) (m : Memory) → ¬ AcceptedIn (perform f c stack m)
+    → perform f c stack m ≡ result (onlyRefusal (perform f c stack m .answer .refusal)) m (stackFor c stack)
+refused-bytes f c stack m fails = go (performed f c stack m)
+  where
+    go : Performed m (stackFor c stack) (perform f c stack m) → perform f c stack m ≡ result (onlyRefusal (perform f c stack m .answer .refusal)) m (stackFor c stack)
+    go (acted z) = absurd (fails z)
+    go (left r e) = e ∙ ap (λ (x : Result). result (onlyRefusal (x .answer .refusal)) m (stackFor c stack)) (sym e)
 
-pub init-zero : (base : ℕ) (pool table table' : List ℕ) → AllBytes table' → Accepted (init base (heapOf pool table))
-    → entriesOf table' ≡ init base (heapOf pool table) .heap .entries → table' ≡ replicate (length table) 0
-init-zero base pool table table' bytes' accepted e =
-    let left : init base (heapOf pool table) .heap .entries ≡ replicate (length (entriesOf table)) FREE =
-    ap (λ (r : Outcome). r .heap .entries) (acts (init-checked base (heapOf pool table)) accepted) in
-    entriesOf-injective table' (replicate (length table) 0) bytes' (λ i. omega (arith, all-free (length table) i))
-    (e ∙ left ∙ ap (λ (n : ℕ). replicate n FREE) (length-entriesOf table) ∙ sym (entriesOf-replicate (length table)))
+-- a test that is one of two
+one-of : (a b : Bool) → either a b ≡ true → (a ≡ true) ⊎ (b ≡ true)
+one-of true b e = inl refl
+one-of false b e = inr e
+
+neither : (a b : Bool) → either a b ≡ false → (a ≡ false) × (b ≡ false)
+neither true b e = absurd (true-not-false refl e)
+neither false b e = (refl, e)
+
+-- the number that a call on memory answers
+answered : (n : ℕ) (m : Memory) (stack : List ℕ) (done : Result) → (n ≡ 0 → done .answer .refusal ≡ 0) → orRefused n m stack done .answer .refusal ≡ n
+unfolding orRefused
+answered zero m stack done z = z refl
+answered (suc n) m stack done z = refl
+
+number : (f : Form) (c : Call) (stack : List ℕ) (m : Memory)
+    → let r : ℕ = step c stack (heapIn f m) .answer .refusal in
+    First
+    (when 1 ((r ≡ 1) ⊎ (f .fits (m .table) ≡ false)) ∷ when 2 ((r ≡ 2) ⊎ ((readsTable c ≡ true) × (f .clean (m .table) ≡ false))) ∷ when r (r ≢ 0) ∷ [])
+    (perform f c stack m .answer .refusal)
+unfolding perform
+number f c stack m =
+    rw (answered (firstOf (testsIn f c m r)) m (stackFor c stack) (result (o .answer) (holding f m (o .heap)) (o .stack)) (tests-none f c m r))
+    (first-step (test 1 (either (eqb r 1) long)) _ _ _ refl
+    (λ e. ⊎-elim (λ p. inl (eqb-true r 1 p)) (λ p. inr (not-true (f .fits (m .table)) p)) (one-of (eqb r 1) long e))
+    (λ e. let q = neither (eqb r 1) long e in ⊎-elim (eqb-false r 1 (q .0)) (λ p. true-not-false (not-false (f .fits (m .table)) (q .1)) p))
+    (λ _. first-step (test 2 (either (eqb r 2) dirty)) _ _ _ refl
+    (λ e. ⊎-elim (λ p. inl (eqb-true r 2 p)) (λ p. inr (both-left (readsTable c) (not (f .clean (m .table))) p, not-true (f .clean (m .table)) (both-right (readsTable c) _ p))) (one-of (eqb r 2) dirty e))
+    (λ e. let q = neither (eqb r 2) dirty e in ⊎-elim (eqb-false r 2 (q .0)) (λ p. true-not-false {b = dirty} (rw (p .0, p .1)) (q .1)))
+    (λ _. first-step (test r (not (eqb r 0))) _ _ _ refl (λ e p. true-not-false (eq-eqb r 0 p) (not-true (eqb r 0) e)) (λ e p. p (eqb-true r 0 (not-false (eqb r 0) e))) (λ _. first-end))))
+  where
+    o : Outcome
+    o = step c stack (heapIn f m)
+
+    r : ℕ
+    r = o .answer .refusal
+
+    long : Bool
+    long = not (f .fits (m .table))
+
+    dirty : Bool
+    dirty = both (readsTable c) (not (f .clean (m .table)))
+
+accepted-bytes : (f : Form) (c : Call) (stack : List ℕ) (m : Memory) → AcceptedIn (perform f c stack m)
+    → let o : Outcome = step c stack (heapIn f m) in
+    Accepted o × (perform f c stack m ≡ result (o .answer) (holding f m (o .heap)) (o .stack))
+unfolding perform orRefused
+accepted-bytes f c stack m z = go (firstOf (testsIn f c m (o .answer .refusal))) refl z
+  where
+    o : Outcome
+    o = step c stack (heapIn f m)
+
+    done : Result
+    done = result (o .answer) (holding f m (o .heap)) (o .stack)
+
+    go : (n : ℕ) → firstOf (testsIn f c m (o .answer .refusal)) ≡ n → AcceptedIn (orRefused n m (stackFor c stack) done)
+        → Accepted o × (orRefused n m (stackFor c stack) done ≡ done)
+    go zero e a = (tests-none f c m (o .answer .refusal) e, refl)
+    go (suc n) e a = absurd (omega arith)
+
+init-zero : (base : ℕ) (pool table : List ℕ) → AcceptedIn (perform packed (Init base) [] (memory pool table))
+    → perform packed (Init base) [] (memory pool table) .memory ≡ memory pool (replicate (length table) 0)
+unfolding step
+init-zero base pool table z =
+    let a = accepted-bytes packed (Init base) [] (memory pool table) z in
+    let e = acts (init-checked base (heapOf pool table)) (a .0) in
+    let t : tableOf (replicate (length (entriesOf table)) FREE) ≡ replicate (length table) 0 =
+    ap (λ (n : ℕ). tableOf (replicate n FREE)) (length-entriesOf table) ∙ ap tableOf (sym (entriesOf-replicate (length table)))
+    ∙ tableOf-entriesOf (replicate (length table) 0) (λ i. omega (arith, all-free (length table) i)) in
+    rw (a .1, e, t)
+
+pub on-bytes : OnBytes
+on-bytes = record {
+  refused-bytes = refused-bytes;
+  accepted-bytes = accepted-bytes;
+  number = number;
+  as-on-heap = λ f faithful c stack m s.
+      let x = follows-sound f faithful c stack m s in
+      record { answer = x .answer; heap = x .heap; sound = sound-next f faithful c stack m s };
+  packed-faithful = packed-faithful;
+  packed-sound = λ m. record { fits = refl; clean = refl };
+  init-zero = init-zero;
+  shape-in-bytes = shape-in-bytes;
+}

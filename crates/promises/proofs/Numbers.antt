@@ -27,7 +27,7 @@ use Rattle.promises.proofs.Checked.{number, refuses, init-checked, allo
 -- ---- the first test that holds
 
 -- a test that says what a condition says, before further tests
-first-step : (t : Test) (ts : List Test) (c : Condition) (cs : List Condition) → t .number ≡ c .number
+pub first-step : (t : Test) (ts : List Test) (c : Condition) (cs : List Condition) → t .number ≡ c .number
     → (t .holds ≡ true → c .holds) → (t .holds ≡ false → ¬ (c .holds)) → (t .holds ≡ false → First cs (firstOf ts)) → First (c ∷ cs) (firstOf (t ∷ ts))
 unfolding First
 first-step t ts c cs same says fails rest = go (t .holds) refl
@@ -36,7 +36,7 @@ first-step t ts c cs same says fails rest = go (t .holds) refl
     go true e = inl (says e, first-yes t ts e ∙ same)
     go false e = inr (fails e, rw (first-no t ts e) (rest e))
 
-first-end : First [] (firstOf [])
+pub first-end : First [] (firstOf [])
 unfolding First firstOf
 first-end = refl
 

@@ -14,7 +14,7 @@ use Rattle.rules.specs.Words.{number, wordAt, wordsOf}
 use Rattle.rules.specs.Entries.{entriesOf}
 use Rattle.rules.specs.Tables.{used, objects}
 use Rattle.rules.specs.Pointers.{targetOf, leadsTo}
-use Rattle.rules.specs.Meaning.{AllBytes, Points, Leads, Longest, ShapeInBytes, Passed, Accepted}
+use Rattle.rules.specs.Meaning.{Points, Leads, Longest, ShapeInBytes, Passed, Accepted}
 use Rattle.rules.specs.Outcomes.{Heap, Answer, Outcome, heapOf, placement, collection, findings, onlyRefusal, placedAt, collectedTo, surveyed, loaded}
 use Rattle.rules.specs.Reach.{Reachable}
 use Rattle.rules.specs.Calls.{blocksFor, init, allocate, free, reallocate, collect, survey, load, store}
@@ -23,10 +23,13 @@ use Rattle.rules.proofs.Words.{wordAt-same}
 use Rattle.rules.proofs.Tables.{entry-inside, well-says, run-shorter}
 use Rattle.rules.proofs.Pointers.{points-one, leads-one}
 use Rattle.keeping.proofs.Owners.{reachable-head}
+use Rattle.rules.specs.Forms.{Form}
+use Rattle.rules.specs.Memory.{Memory, heapIn, Result, AcceptedIn, perform}
 use Rattle.promises.specs.Conditions.{when, First, RoomAfter, NoRun, ofInit, ofAllocate, ofFree, ofReallocate, ofCollect, ofSurvey, ofWord}
 use Rattle.promises.specs.Promises.{Object, blocksOf, Same, Counts, Surveyed}
 use Rattle.promises.specs.Determined.{partsOf}
 use Rattle.promises.proofs.Promised.{promises}
+use Rattle.promises.proofs.Bytes.{on-bytes}
 use Rattle.promises.proofs.Determined.{first-one, refused-one}
 use Rattle.promises.proofs.Whole.{whole}
 
@@ -68,16 +71,16 @@ refusals-alike c c' stack stack' h no-number e =
 -- a pool and a table are accepted by init exactly if their shape is good
 pub init-shape : (base : ℕ) (pool table : List ℕ) → ShapeInBytes base pool table → Accepted (init base (heapOf pool table))
 unfolding First ofInit
-init-shape base pool table s = init-number base (heapOf pool table) 0 (inr (λ bad. bad (promises .shape-in-bytes base pool table .1 s), refl))
+init-shape base pool table s = init-number base (heapOf pool table) 0 (inr (λ bad. bad (on-bytes .shape-in-bytes base pool table .1 s), refl))
 
 pub init-bad-shape : (base : ℕ) (pool table : List ℕ) → ¬ ShapeInBytes base pool table → init base (heapOf pool table) .answer .refusal ≡ 1
 unfolding First ofInit
-init-bad-shape base pool table bad = init-number base (heapOf pool table) 1 (inl (λ s. bad (promises .shape-in-bytes base pool table .0 s), refl))
+init-bad-shape base pool table bad = init-number base (heapOf pool table) 1 (inl (λ s. bad (on-bytes .shape-in-bytes base pool table .0 s), refl))
 
--- what a call leaves is one table
-pub table-one : (c : Call) (stack : List ℕ) (h : Heap) (table table' : List ℕ) → AllBytes table → AllBytes table' → entriesOf table ≡ step c stack h .heap .entries
-    → entriesOf table' ≡ step c stack h .heap .entries → table ≡ table'
-table-one c stack h table table' bytes bytes' e e' = promises .table-bytes table table' bytes bytes' (e ∙ sym e')
+-- an accepted call leaves the bytes that its entries are written as
+pub table-written : (f : Form) (c : Call) (stack : List ℕ) (m : Memory) → AcceptedIn (perform f c stack m)
+    → perform f c stack m .memory .table ≡ f .write (step c stack (heapIn f m) .heap .entries)
+table-written f c stack m accepted = ap (λ (r : Result). r .memory .table) (on-bytes .accepted-bytes f c stack m accepted .1)
 
 -- a word has one target
 pub target-one : (base n w : ℕ) (x : Option ℕ) → Points base n w x → targetOf base n w ≡ x

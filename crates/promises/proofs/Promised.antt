@@ -1,8 +1,6 @@
 -- The promises, all together.
 -- Assumes nothing.
-use Rattle.rules.proofs.Entries.{entriesOf-injective}
 use Rattle.rules.proofs.Pointers.{target-points, leads-says}
-use Rattle.rules.proofs.Refusals.{shape-in-bytes}
 use Rattle.promises.specs.Promises.{Promises}
 use Rattle.promises.proofs.Numbers.{init-refusal, allocate-refusal, free-refusal, reallocate-refusal, collect-refusal, survey-refusal, load-refusal, store-refusal, rounded-up, allocate-no-room, reallocate-no-room, allocate-larger, reallocate-larger, refused, refused-stack}
 use Rattle.promises.proofs.Initialising.{initialised}
@@ -11,14 +9,9 @@ use Rattle.promises.proofs.Freeing.{freed}
 use Rattle.promises.proofs.Reallocating.{reallocated}
 use Rattle.promises.proofs.Storing.{read, stored, surveyed, survey-leaves, load-leaves}
 use Rattle.promises.proofs.Collecting.{reclaimed}
-use Rattle.promises.proofs.Bytes.{refused-table, init-zero}
 
 pub promises : Promises
 promises = record {
-  table-bytes = entriesOf-injective;
-  refused-table = refused-table;
-  init-zero = init-zero;
-  shape-in-bytes = shape-in-bytes;
   target-points = target-points;
   leads-says = leads-says;
   init-refusal = init-refusal;

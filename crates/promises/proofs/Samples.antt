@@ -16,18 +16,21 @@ use Rattle.rules.specs.Entries.{HEAD, entryOf, entriesOf}
 use Rattle.rules.specs.Tables.{entryAt, mayFollow, wellAfter, wellFormed, blockCount, freeFrom, fits, firstFrom, firstRun, placed, released, extended, used, objects, longest}
 use Rattle.rules.specs.Pointers.{addressOf, goodBase, targetOf, headsObject, headAt, leadsTo}
 use Rattle.rules.specs.Meaning.{AllBytes, Heads, Lowest, Longest, Points, Leads, ShapeInBytes, Passed, Accepted}
-use Rattle.rules.specs.Outcomes.{Heap, Outcome, heapOf, onlyRefusal, loaded, surveyed, leaves, changeFrom, unlessRefused, clearedBlocks}
+use Rattle.rules.specs.Outcomes.{Heap, Answer, Outcome, heapOf, onlyRefusal, loaded, surveyed, leaves, changeFrom, unlessRefused, clearedBlocks}
 use Rattle.rules.specs.Refusals.{firstOf, goodShape, wholeWords}
 use Rattle.rules.specs.Reach.{Reachable, root, edge}
 use Rattle.rules.specs.Marking.{pushed, visitTo, visit, walkWords, walk, drainFor, drain, trace, rootTo, markRoot, markRoots, passBlock, passFrom, pass, rescanFor, rescan, markAll, sweptEntry, freeingAfter, sweepFrom, sweep}
 use Rattle.rules.specs.Calls.{blocksFor, taken, placing, init, allocate, freed, free, shrunk, grown, moved, movesTo, wayToGrow, wayTo, along, reallocate, collecting, collect, survey, load, store}
-use Rattle.rules.specs.Runs.{Call, Allocate, Reallocate, Collect, step}
+use Rattle.rules.specs.Runs.{Call, Init, Allocate, Reallocate, Collect, step}
+use Rattle.rules.specs.Forms.{packed}
+use Rattle.rules.specs.Memory.{memory, result, perform}
 use Rattle.rules.proofs.Entries.{length-entriesOf}
 use Rattle.rules.proofs.Tables.{first-lowest, longest-says, le-run, well-says}
 use Rattle.promises.specs.Conditions.{First, RoomAfter, ofAllocate, ofFree, ofReallocate, ofCollect, ofWord}
 use Rattle.promises.specs.Promises.{Object, blocksOf, Surveyed}
-use Rattle.promises.specs.Samples.{sampleBase, sampleTable, samplePool, sampleHeap, sampleRoots, sampleStack}
+use Rattle.promises.specs.Samples.{sampleBase, sampleTable, samplePool, sampleHeap, sampleMemory, sampleRoots, sampleStack}
 use Rattle.promises.proofs.Promised.{promises}
+use Rattle.promises.proofs.Bytes.{on-bytes}
 use Rattle.promises.proofs.Determined.{start-one, surveyed-one}
 use Rattle.promises.proofs.Observed.{Sums, allocate-number, free-number, reallocate-number, collect-number, store-number, refusals-alike, init-shape, init-bad-shape, target-one, lead-one, allocate-loads, free-loads, reallocate-loads, store-loads, collect-loads, new-zero, new-beyond, again-kept, again-zero, again-beyond, allocate-sums, free-sums, reallocate-sums, collect-sums, init-none-used, collect-less, free-again, allocate-survey, reallocate-survey, equal-then}
 
@@ -94,7 +97,11 @@ computed = record {
 }
 
 good : Passed base h
-good = record { shape = promises .shape-in-bytes base samplePool sampleTable .1 (computed .shape); well = computed .well }
+good = record { shape = on-bytes .shape-in-bytes base samplePool sampleTable .1 (computed .shape); well = computed .well }
+
+-- on the sample's bytes a call is refused as on its heap
+number-on : (c : Call) (stack : List ℕ) → perform packed c stack sampleMemory .answer .refusal ≡ step c stack h .answer .refusal
+number-on c stack = ap (λ (a : Answer). a .refusal) (on-bytes .as-on-heap packed (on-bytes .packed-faithful) c stack sampleMemory (on-bytes .packed-sound sampleMemory) .answer)
 
 -- the lowest start, where the search is computed
 lowest : (b s : ℕ) → 0 < b → firstRun (h .entries) b ≡ some s → Lowest (h .entries) b (some s)
@@ -116,8 +123,9 @@ init-accepted : Accepted (init base h)
 init-accepted = init-shape base samplePool sampleTable (computed .shape)
 
 -- else it leaves three zero bytes, no used block and the pool
-pub init-table : (table : List ℕ) → AllBytes table → entriesOf table ≡ init base h .heap .entries → table ≡ 0 ∷ 0 ∷ 0 ∷ []
-init-table table bytes = promises .init-zero base samplePool sampleTable table bytes init-accepted
+pub init-memory : perform packed (Init base) [] sampleMemory .memory ≡ memory samplePool (0 ∷ 0 ∷ 0 ∷ [])
+unfolding step
+init-memory = on-bytes .init-zero base samplePool sampleTable (number-on (Init base) [] ∙ init-accepted)
 
 pub init-unused : survey base (init base h .heap) .answer .used ≡ 0
 init-unused = init-none-used base h init-accepted
@@ -335,10 +343,12 @@ unfolding step
 refused-alike k =
     refusals-alike (Allocate base 0) (Reallocate base k 0) [] [] h (λ zero. omega (arith, no-bytes)) (no-bytes ∙ sym (no-bytes-again k)) .0
 
-pub refused-bytes : (table : List ℕ) → AllBytes table → entriesOf table ≡ allocate base h 0 .heap .entries → table ≡ 153 ∷ 66 ∷ 64 ∷ []
+-- it leaves every byte as it is
+pub refused-memory : perform packed (Allocate base 0) [] sampleMemory ≡ result (onlyRefusal 5) sampleMemory []
 unfolding step
-refused-bytes table bytes =
-    promises .refused-table (Allocate base 0) [] samplePool sampleTable table (all-bytes 153 66 64 (omega arith) (omega arith) (omega arith)) bytes (λ zero. omega (arith, no-bytes))
+refused-memory =
+    let n = number-on (Allocate base 0) [] ∙ no-bytes in
+    on-bytes .refused-bytes packed (Allocate base 0) [] sampleMemory (λ z. omega (arith, n)) ∙ ap (λ (r : ℕ). result (onlyRefusal r) sampleMemory []) n
 
 -- block 12 is outside
 pub free-outside : free base h 12 .answer .refusal ≡ 6

@@ -1,4 +1,5 @@
 pub mod Conditions
 pub mod Promises
+pub mod Bytes
 pub mod Determined
 pub mod Samples

@@ -6,12 +6,12 @@ use mathlib.Core.List.{List}
 use mathlib.Core.Option.{some}
 use Prim.Native.Nat.{ℕ, _+_, _*_, _-_, _^_, _≤_, _<_}
 use lib.IntN.{pos, negℤ, subℕ, _+ℤ_, natAbs}
-use lib.ListN.{length, getD, replicate}
+use lib.ListN.{length, getD}
 use Rattle.rules.specs.Words.{number, bytesOf, wordsOf}
-use Rattle.rules.specs.Entries.{FREE, HEAD, TAIL, entriesOf}
+use Rattle.rules.specs.Entries.{FREE, HEAD, TAIL}
 use Rattle.rules.specs.Tables.{entryAt, blockCount, used, objects}
 use Rattle.rules.specs.Pointers.{targetOf, leadsTo}
-use Rattle.rules.specs.Meaning.{AllBytes, TableIsEntries, Points, Leads, Lowest, Longest, Shape, ShapeInBytes, Passed, Accepted}
+use Rattle.rules.specs.Meaning.{Points, Leads, Lowest, Longest, Passed, Accepted}
 use Rattle.rules.specs.Outcomes.{Heap, Outcome, heapOf, onlyRefusal, loaded}
 use Rattle.rules.specs.Reach.{Reachable}
 use Rattle.rules.specs.Calls.{blocksFor, init, allocate, free, reallocate, collect, survey, load, store}
@@ -184,16 +184,6 @@ pub record Reclaimed (base : ℕ) (before : Heap) (roots : List ℕ) (r : Outcom
 -- ---- the promises, for every heap and every argument
 
 pub record Promises : Type 0 where
-  -- what is said below of entries is said of the bytes of the table: equal entries are equal tables
-  pub table-bytes : TableIsEntries
-  -- so a refused call leaves the table as it was, byte by byte
-  pub refused-table : (c : Call) (stack pool table table' : List ℕ) → AllBytes table → AllBytes table' → ¬ Accepted (step c stack (heapOf pool table))
-      → entriesOf table' ≡ step c stack (heapOf pool table) .heap .entries → table' ≡ table
-  -- and an accepted init leaves a table of zero bytes
-  pub init-zero : (base : ℕ) (pool table table' : List ℕ) → AllBytes table' → Accepted (init base (heapOf pool table))
-      → entriesOf table' ≡ init base (heapOf pool table) .heap .entries → table' ≡ replicate (length table) 0
-  -- the shape of a heap in a pool and a table, in bytes
-  pub shape-in-bytes : (base : ℕ) (pool table : List ℕ) → Shape base (heapOf pool table) ↔ ShapeInBytes base pool table
   -- the target of a word is the block whose address it is
   pub target-points : (base n w : ℕ) → Points base n w (targetOf base n w)
   -- a word leads to the object whose head has it as its address, and to none if it is no head's address

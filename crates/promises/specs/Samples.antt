@@ -6,6 +6,7 @@ use Prim.Native.Nat.{ℕ}
 use lib.ListN.{replicate}
 use Rattle.rules.specs.Words.{bytesOf, withWord}
 use Rattle.rules.specs.Outcomes.{Heap, heapOf}
+use Rattle.rules.specs.Memory.{Memory, memory}
 
 abbrev pub sampleBase : ℕ
 sampleBase = 536870912
@@ -18,6 +19,10 @@ samplePool = withWord (withWord (withWord (withWord (replicate 192 0) 7 53687102
 
 abbrev pub sampleHeap : Heap
 sampleHeap = heapOf samplePool sampleTable
+
+-- the same in bytes
+abbrev pub sampleMemory : Memory
+sampleMemory = memory samplePool sampleTable
 
 -- the only root is the address of the first object, so the first and the third are reachable
 abbrev pub sampleRoots : List ℕ

@@ -133,7 +133,7 @@ module _ (f : Form) (faithful : Faithful f) (c : Call) (stack : List ℕ) (m : M
 
 -- ---- a call on memory is accepted, or leaves every byte as it was
 
-tests-none : (f : Form) (c : Call) (m : Memory) (r : ℕ) → firstOf (testsIn f c m r) ≡ 0 → r ≡ 0
+pub tests-none : (f : Form) (c : Call) (m : Memory) (r : ℕ) → firstOf (testsIn f c m r) ≡ 0 → r ≡ 0
 unfolding firstOf
 tests-none f c m r = go (eqb r 1) (eqb r 2) (eqb r 0) _ _ refl
   where
@@ -178,7 +178,7 @@ module _ (f : Form) (faithful : Faithful f) where
   pub follows-sound : (c : Call) (stack : List ℕ) (m : Memory) → Sound f m → Follows f (perform f c stack m) (step c stack (heapIn f m))
   follows-sound c stack m s = follows f faithful c stack m (s .fits) (rw (s .clean) (both-false (readsTable c)))
 
-  sound-next : (c : Call) (stack : List ℕ) (m : Memory) → Sound f m → Sound f (perform f c stack m .memory)
+  pub sound-next : (c : Call) (stack : List ℕ) (m : Memory) → Sound f m → Sound f (perform f c stack m .memory)
   sound-next c stack m s = kept-by (Sound f) f c stack m (follows-sound c stack m s .sound) s
 
   pub answers-in : (ts : List Turn) (m : Memory) → Sound f m → answersIn f ts m ≡ answers ts (heapIn f m)
