@@ -113,7 +113,7 @@ module _ (f : Form) (faithful : Faithful f) (c : Call) (stack : List ℕ) (m : M
   follows = go (step-ended c stack (heapIn f m))
     where
       kept : Kept (f .read (m .table)) (there .heap .entries)
-      kept = step-keeps c stack (heapIn f m)
+      kept = step-keeps c stack (heapIn f m) .entries
 
       back : f .read (f .write (there .heap .entries)) ≡ there .heap .entries
       back = faithful .read-write (m .table) (there .heap .entries) fits (kept .long) (kept .small (faithful .small (m .table)))

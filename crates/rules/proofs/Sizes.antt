@@ -1,23 +1,24 @@
--- What every call keeps of the table: the number of its entries, and that two bits hold each.
+-- What every call keeps: the number of entries and of bytes, and that two bits hold each entry.
 -- Assumes nothing.
-use mathlib.Core.Path.{_≡_, refl, sym, ap, _∙_}
+use mathlib.Core.Path.{_≡_, refl, _∙_}
 use mathlib.Core.Bool.{Bool, true, false}
 use mathlib.Core.List.{List, [], _∷_}
-use Prim.Native.Nat.{ℕ, zero, suc, _+_, _-_, _<_}
+use Prim.Native.Nat.{ℕ, zero, suc, _+_, _*_, _-_, _<_}
 use native.Mathlib.Omega.{arith}
 use native.Mathlib.Decide.{ℕ-discrete, decLt}
 use lib.Dec.{eqb}
-use lib.ListN.{length, getD, set, replicate, length-set, length-replicate}
+use lib.ListN.{length, set, replicate, length-set, length-replicate}
 use lib.Seq.{sets, length-sets, getD-set-same, getD-set-other, set-out}
 use Rattle.rules.specs.Tests.{pick}
 use Rattle.rules.specs.Entries.{FREE, HEAD, TAIL, MARK}
 use Rattle.rules.specs.Tables.{entryAt, placed, released, extended}
 use Rattle.rules.specs.Forms.{Small}
-use Rattle.rules.specs.Outcomes.{Heap, Outcome, unlessRefused}
+use Rattle.rules.specs.Outcomes.{Heap, Answer, Outcome, onlyRefusal, leavesWith, unlessRefused}
 use Rattle.rules.specs.Marking.{Context, State, state, walk, trace, markRoot, markRoots, passBlock, pass, markAll, sweptEntry, freeingAfter, sweepFrom, sweep}
 use Rattle.rules.specs.Calls.{init, taken, placing, allocate, freed, free, Way, stay, shrink, grow, move, noWay, shrunk, grown, moved, along, reallocate, collecting, collect, survey, load, store}
 use Rattle.rules.specs.Runs.{Call, Init, Allocate, Free, Reallocate, Collect, Survey, Load, Store, step}
-use Rattle.rules.proofs.Changes.{placed-length, released-length, extended-length}
+use Rattle.rules.proofs.Words.{length-withWord}
+use Rattle.rules.proofs.Pools.{cleared-length, moved-length}
 use Rattle.rules.proofs.Marking.{Rooted, idle, takes, rooted, Passed, skips, walks, passed, drain-keeps, pass-keeps, rescan-keeps, Sane, sane-start, sane-pop, sane-walk, sweep-length}
 
 -- ---- the number of entries
@@ -92,9 +93,6 @@ pub record Kept (es es′ : List ℕ) : Type 0 where
   pub long : length es′ ≡ length es
   pub small : Small es → Small es′
 
-abbrev Keeps : Heap → Outcome → Type 0
-Keeps h o = Kept (h .entries) (o .heap .entries)
-
 kept-same : (es : List ℕ) → Kept es es
 kept-same es = record { long = refl; small = λ s. s }
 
@@ -117,31 +115,40 @@ kept-extended : (es : List ℕ) (s b : ℕ) → Kept es (extended es s b)
 unfolding extended
 kept-extended es s b = kept-sets es s (replicate b TAIL) (small-all b TAIL (omega arith))
 
-kept-unless : (n : ℕ) (h : Heap) (stack : List ℕ) (acted : Outcome) → Keeps h acted → Keeps h (unlessRefused n h stack acted)
-unfolding unlessRefused
-kept-unless zero h stack acted k = k
-kept-unless (suc r) h stack acted k = kept-same (h .entries)
+pub record Keeps (h : Heap) (o : Outcome) : Type 0 where
+  pub entries : Kept (h .entries) (o .heap .entries)
+  pub bytes : length (o .heap .pool) ≡ length (h .pool)
 
-kept-along : (way : Way) (h : Heap) (k b c : ℕ) → Keeps h (along way h k b c)
+keeps-all : (h : Heap) (a : Answer) (stack : List ℕ) → Keeps h (leavesWith a h stack)
+keeps-all h a stack = record { entries = kept-same (h .entries); bytes = refl }
+
+keeps-unless : (n : ℕ) (h : Heap) (stack : List ℕ) {acted : Outcome} → Keeps h acted → Keeps h (unlessRefused n h stack acted)
+unfolding unlessRefused
+keeps-unless zero h stack k = k
+keeps-unless (suc r) h stack k = keeps-all h (onlyRefusal (suc r)) stack
+
+keeps-along : (way : Way) (h : Heap) (k b c : ℕ) → Keeps h (along way h k b c)
 unfolding along placing shrunk grown moved
-kept-along stay h k b c = kept-same (h .entries)
-kept-along shrink h k b c = kept-released (h .entries) (k + c) (b - c)
-kept-along grow h k b c = kept-extended (h .entries) (k + b) (c - b)
-kept-along (move s) h k b c =
+keeps-along stay h k b c = keeps-all h _ []
+keeps-along shrink h k b c = record { entries = kept-released (h .entries) (k + c) (b - c); bytes = refl }
+keeps-along grow h k b c = record { entries = kept-extended (h .entries) (k + b) (c - b); bytes = cleared-length (h .pool) (k + b) (c - b) }
+keeps-along (move s) h k b c =
     let p = kept-placed (h .entries) s c in
     let r = kept-released (placed (h .entries) s c) k b in
-    record { long = r .long ∙ p .long; small = λ x. r .small (p .small x) }
-kept-along noWay h k b c = kept-same (h .entries)
+    record { entries = record { long = r .long ∙ p .long; small = λ x. r .small (p .small x) }; bytes = moved-length h k b c s }
+keeps-along noWay h k b c = keeps-all h _ []
 
-pub step-keeps : (c : Call) (stack : List ℕ) (h : Heap) → Kept (h .entries) (step c stack h .heap .entries)
+pub step-keeps : (c : Call) (stack : List ℕ) (h : Heap) → Keeps h (step c stack h)
 unfolding step init allocate free reallocate collect survey load store placing taken freed collecting sweep
 step-keeps (Init base) stack h =
-    kept-unless _ h [] _ (record { long = length-replicate {A = ℕ} (length (h .entries)) FREE; small = λ s. small-all (length (h .entries)) FREE (omega arith) })
-step-keeps (Allocate base bytes) stack h = kept-unless _ h [] _ (kept-placed (h .entries) _ _)
-step-keeps (Free base k) stack h = kept-unless _ h [] _ (kept-released (h .entries) k _)
-step-keeps (Reallocate base k bytes) stack h = kept-unless _ h [] _ (kept-along _ h k _ _)
+    keeps-unless _ h []
+    (record { entries = record { long = length-replicate {A = ℕ} (length (h .entries)) FREE; small = λ s. small-all (length (h .entries)) FREE (omega arith) }; bytes = refl })
+step-keeps (Allocate base bytes) stack h = keeps-unless _ h [] (record { entries = kept-placed (h .entries) _ _; bytes = cleared-length (h .pool) _ _ })
+step-keeps (Free base k) stack h = keeps-unless _ h [] (record { entries = kept-released (h .entries) k _; bytes = refl })
+step-keeps (Reallocate base k bytes) stack h = keeps-unless _ h [] (keeps-along _ h k _ _)
 step-keeps (Collect base roots) stack h =
-    kept-unless _ h stack _ (record { long = sweep-length false _ ∙ marking-length _ _ (h .entries); small = λ s. small-swept false _ })
-step-keeps (Survey base) stack h = kept-unless _ h [] _ (kept-same (h .entries))
-step-keeps (Load base k i) stack h = kept-unless _ h [] _ (kept-same (h .entries))
-step-keeps (Store base k i w) stack h = kept-unless _ h [] _ (kept-same (h .entries))
+    keeps-unless _ h stack
+    (record { entries = record { long = sweep-length false _ ∙ marking-length _ _ (h .entries); small = λ s. small-swept false _ }; bytes = refl })
+step-keeps (Survey base) stack h = keeps-unless _ h [] (keeps-all h _ [])
+step-keeps (Load base k i) stack h = keeps-unless _ h [] (keeps-all h _ [])
+step-keeps (Store base k i w) stack h = keeps-unless _ h [] (record { entries = kept-same (h .entries); bytes = length-withWord (h .pool) (4 * k + i) w })
