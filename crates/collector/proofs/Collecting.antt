@@ -1,8 +1,8 @@
 -- The act of a collection, put together from the marking, the sweep and the clearing of the stack; and the call around it.
 -- Assumes nothing.
 use mathlib.Core.Path.{_≡_, sym, ap, _∙_}
-use mathlib.Core.Bool.{false, not}
-use mathlib.Core.List.{List, [], _∷_}
+use mathlib.Core.Bool.{false}
+use mathlib.Core.List.{List}
 use Prim.Native.Nat.{ℕ, _+_}
 use native.Mathlib.Omega.{arith}
 use lib.IntN.{ℤ, pos, negℤ}
@@ -11,11 +11,11 @@ use Rattle.rules.specs.Words.{wordsOf}
 use Rattle.rules.specs.Entries.{entriesOf}
 use Rattle.rules.specs.Tables.{used}
 use Rattle.rules.specs.Tests.{both}
-use Rattle.rules.specs.Outcomes.{Outcome, heapOf, changeFrom}
-use Rattle.rules.specs.Refusals.{firstOf, goodShape, wholeWords, badLists, illFormed, manyRoots, longStack}
+use Rattle.rules.specs.Outcomes.{heapOf, changeFrom}
+use Rattle.rules.specs.Refusals.{firstOf, goodShape, wholeWords, goodLists, collectionTests}
 use Rattle.rules.specs.Marking.{Context, Marked, markedIn, markAll}
 use Rattle.rules.specs.Calls.{collecting, collect}
-use Rattle.rules.proofs.Refusals.{both-left, not-false, first-none, refuses, accepts, shape-true, few-bytes}
+use Rattle.rules.proofs.Refusals.{both-left, refuses, accepts, shape-true, few-bytes, first-passed}
 use Rattle.rules.proofs.Calls.{sub-less}
 use Rattle.rules.proofs.Used.{marking-used}
 use Rattle.sweeper.specs.declared.Swept.{Swept}
@@ -45,7 +45,7 @@ module _ (c : Context) (pool table table₁ table₂ stack stack₂ roots : List
 
 -- the call: refused by the first test that holds, or else the act on a heap of good shape
 module _ (base : ℕ) (pool table roots stack : List ℕ) (r : ℕ)
-    (first : r ≡ firstOf (badLists base (heapOf pool table) roots stack ∷ illFormed (heapOf pool table) ∷ manyRoots roots ∷ longStack stack ∷ [])) where
+    (first : r ≡ firstOf (collectionTests base (heapOf pool table) roots stack)) where
   pub collect-refused : (r ≡ 0 → ⊥) → outcomeOf (record { refusal = r; kept = 0; rescans = 0; change = pos 0 }) pool table stack ≡ collect base (heapOf pool table) roots stack
   unfolding collect
   collect-refused ne = sym (refuses r (heapOf pool table) stack _ (sym first) (omega arith))
@@ -58,7 +58,7 @@ module _ (base : ℕ) (pool table roots stack : List ℕ) (r : ℕ)
 
   pub collect-shape : r ≡ 0 → Shape pool table
   collect-shape e =
-      let t : not (both (goodShape base (heapOf pool table)) (both (wholeWords roots) (wholeWords stack))) ≡ false =
-      first-none (badLists base (heapOf pool table) roots stack) (illFormed (heapOf pool table) ∷ manyRoots roots ∷ longStack stack ∷ []) (omega arith) (sym first ∙ e) .0 in
-      let s = shape-true base (heapOf pool table) (both-left (goodShape base (heapOf pool table)) (both (wholeWords roots) (wholeWords stack)) (not-false _ t)) in
+      let h = heapOf pool table in
+      let t = first-passed (goodLists base h roots stack) h _ (sym first ∙ e) .0 in
+      let s = shape-true base h (both-left (goodShape base h) (both (wholeWords roots) (wholeWords stack)) t) in
       record { small = few-bytes base pool table s; whole = s .pool }

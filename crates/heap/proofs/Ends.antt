@@ -47,7 +47,7 @@ module _ (base : ℕ) (pool table : List ℕ) where
   pub init-done : {g : Bool} (after : List ℕ) → g ≡ goodShape base (heapOf pool table) → not g ≡ false
       → entriesOf after ≡ replicate (length (entriesOf table)) 0 → status 0 pool after ≡ init base (heapOf pool table)
   unfolding init
-  init-done after e t done = rw done (sym (accepts _ _ _ (first-last (badShape base (heapOf pool table)) (ap not (sym e) ∙ t))))
+  init-done after e t done = rw done (sym (accepts _ _ _ (first-last (badShape (goodShape base (heapOf pool table))) (ap not (sym e) ∙ t))))
 
   -- ---- allocate
 

@@ -3,7 +3,7 @@
 use mathlib.Core.Path.{_≡_, refl, ap, _∙_}
 use mathlib.Core.Logic.{_≢_}
 use mathlib.Core.Bool.{true}
-use mathlib.Core.List.{List, [], _∷_}
+use mathlib.Core.List.{List}
 use Prim.Native.Nat.{ℕ, _+_, _*_, _/_, _%_, _≤_, _<_}
 use native.Mathlib.Omega.{arith}
 use lib.ListN.{length, getD}
@@ -11,11 +11,11 @@ use Rattle.rules.specs.Words.{wordsOf}
 use Rattle.rules.specs.Entries.{FREE}
 use Rattle.rules.specs.Tables.{entryAt, wellFormed, blockCount, used}
 use Rattle.rules.specs.Outcomes.{Heap, Outcome, heapOf, unlessRefused}
-use Rattle.rules.specs.Refusals.{firstOf, badLists, illFormed, manyRoots, longStack, collectionTests}
+use Rattle.rules.specs.Refusals.{firstOf, goodLists, collectionTests}
 use Rattle.rules.specs.Calls.{collecting, collect}
 use Rattle.rules.specs.Meaning.{Accepted}
 use Rattle.rules.proofs.Entries.{entriesOf-lt}
-use Rattle.rules.proofs.Refusals.{first-none, not-false, accepts, accepted-none}
+use Rattle.rules.proofs.Refusals.{first-passed, accepts, accepted-none}
 use Rattle.rules.proofs.Tables.{extent-of, extent-used}
 use Rattle.rules.proofs.Marking.{head-inside}
 use Rattle.keeping.specs.Keeping.{marking, collected, Collected, KeepsExactly, AnyStack, Agree}
@@ -35,8 +35,7 @@ collect-from base h roots stack = refl
 
 tests-well : (base : ℕ) (h : Heap) (roots stack : List ℕ) → firstOf (collectionTests base h roots stack) ≡ 0 → wellFormed (h .entries) ≡ true
 tests-well base h roots stack e =
-    let ts = first-none (badLists base h roots stack) (illFormed h ∷ manyRoots roots ∷ longStack stack ∷ []) (omega arith) e .1 in
-    not-false (wellFormed (h .entries)) (first-none (illFormed h) (manyRoots roots ∷ longStack stack ∷ []) (omega arith) ts .0)
+    first-passed (goodLists base h roots stack) h _ e .1
 
 -- ---- one collection
 

@@ -13,9 +13,9 @@ use Rattle.rules.specs.Tests.{isNone, orElse}
 use Rattle.rules.specs.Tables.{blockCount, firstRun}
 use Rattle.rules.specs.Meaning.{Run, Lowest, Extent, Passed, Accepted}
 use Rattle.rules.specs.Outcomes.{Heap}
-use Rattle.rules.specs.Refusals.{badShape, illFormed, noBytes, noRoom}
+use Rattle.rules.specs.Refusals.{noBytes, noRoom}
 use Rattle.rules.specs.Calls.{taken, placing, blocksFor, allocate}
-use Rattle.rules.proofs.Refusals.{passed, passes, asks, true-not-false, first-none, first-last}
+use Rattle.rules.proofs.Refusals.{passed, passes, asks, true-not-false, first-none, first-last, own-tests}
 use Rattle.rules.proofs.Tables.{entry-inside, extent-of, run-apart, first-lowest}
 use Rattle.rules.proofs.Changes.{placed-length, placed-head, placed-tail, placed-out, placed-well, placed-count, placed-apart, placed-other}
 use Rattle.rules.proofs.Pools.{cleared-length, cleared-in, cleared-out}
@@ -81,9 +81,7 @@ module _ (base : ℕ) (h : Heap) (bytes : ℕ) where
   pub allocated : Accepted (allocate base h bytes) → Allocated base h (blocksFor bytes) (allocate base h bytes)
   allocated accepted =
       let e = no-refusal (allocate-checked base h bytes) accepted in
-      let a = first-none (badShape base h) _ (omega arith) e in
-      let b = first-none (illFormed h) _ (omega arith) (a .1) in
-      let c = first-none (noBytes bytes) _ (omega arith) (b .1) in
+      let c = first-none (noBytes bytes) _ (omega arith) (own-tests base h _ e) in
       let d = first-none (noRoom (isNone (firstRun (h .entries) (blocksFor bytes)))) [] (omega arith) (c .1) in
       let some-block : 0 < blocksFor bytes = blocks-some bytes (omega (arith, eqb-false bytes 0 (c .0))) in
       rw (acts (allocate-checked base h bytes) accepted)

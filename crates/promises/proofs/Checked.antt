@@ -11,11 +11,11 @@ use Rattle.rules.specs.Words.{wordAt, withWord, wordsOf}
 use Rattle.rules.specs.Entries.{FREE}
 use Rattle.rules.specs.Tables.{blockCount, firstRun, used, objects, longest}
 use Rattle.rules.specs.Outcomes.{Heap, Outcome, onlyRefusal, surveyed, loaded, leaves, unlessRefused}
-use Rattle.rules.specs.Refusals.{Test, firstOf, badShape, illFormed, noBytes, outside, noHead, noRoom, initTests, heapTests, objectTests, wordTests, collectionTests}
+use Rattle.rules.specs.Refusals.{Test, firstOf, noBytes, outside, noHead, noRoom, initTests, heapTests, objectTests, wordTests, collectionTests}
 use Rattle.rules.specs.Marking.{markAll}
 use Rattle.rules.specs.Calls.{Way, stay, shrink, grow, move, noWay, isNoWay, wayOf, allocateTests, reallocateTests, along, placing, taken, freed, blocksFor, init, allocate, free, reallocate, collecting, collect, survey, load, store}
 use Rattle.rules.specs.Meaning.{Accepted}
-use Rattle.rules.proofs.Refusals.{true-not-false, first-none, first-rest, accepts}
+use Rattle.rules.proofs.Refusals.{true-not-false, first-none, first-rest, accepts, own-tests}
 use Rattle.promises.specs.Promises.{Refused}
 
 -- the outcome r is refused by the first of the tests that holds, and else is what the act leaves
@@ -83,9 +83,7 @@ module _ (base : ℕ) (h : Heap) where
   reallocate-checked k bytes = record {
     is = refl;
     fine = λ e.
-        let e1 = first-rest (badShape base h) _ (omega arith) e in
-        let e2 = first-rest (illFormed h) _ (omega arith) e1 in
-        let e3 = first-rest (noBytes bytes) _ (omega arith) e2 in
+        let e3 = first-rest (noBytes bytes) _ (omega arith) (own-tests base h _ e) in
         let e4 = first-rest (outside h k) _ (omega arith) e3 in
         let e5 = first-rest (noHead h k) _ (omega arith) e4 in
         along-fine (wayOf h k bytes) k (blockCount (h .entries) k) (blocksFor bytes) (first-none (noRoom (isNoWay (wayOf h k bytes))) [] (omega arith) e5 .0);

@@ -6,7 +6,7 @@ use Prim.Native.Nat.{ℕ, _+_, _*_}
 use native.Mathlib.Omega.{arith}
 use lib.ListN.{length, getD}
 use Rattle.rules.specs.Outcomes.{Heap, Outcome, heapOf}
-use Rattle.rules.specs.Refusals.{badLists}
+use Rattle.rules.specs.Refusals.{badShape, goodLists}
 use Rattle.rules.specs.Calls.{collect}
 use Rattle.rules.specs.Meaning.{Shape, Accepted}
 use Rattle.rules.proofs.Refusals.{not-false, first-none}
@@ -27,7 +27,7 @@ module _ (base : ℕ) (pool table roots stack : List ℕ) (accepted : Accepted (
 
   shape : Shape base h
   shape =
-      let a = first-none (badLists base h roots stack) _ (omega arith) (no-refusal (collect-checked base h roots stack) accepted) in
+      let a = first-none (badShape (goodLists base h roots stack)) _ (omega arith) (no-refusal (collect-checked base h roots stack) accepted) in
       lists-say base h roots stack (not-false _ (a .0)) .0
 
   pub reclaimed : Reclaimed base h roots r

@@ -8,9 +8,8 @@ use native.Mathlib.Omega.{arith}
 use Rattle.rules.specs.Tables.{blockCount}
 use Rattle.rules.specs.Meaning.{Run, Extent, Passed, Named, Accepted}
 use Rattle.rules.specs.Outcomes.{Heap}
-use Rattle.rules.specs.Refusals.{badShape, illFormed}
 use Rattle.rules.specs.Calls.{freed as freedHeap, placing, blocksFor, free}
-use Rattle.rules.proofs.Refusals.{passed, named, first-rest}
+use Rattle.rules.proofs.Refusals.{passed, named-object}
 use Rattle.rules.proofs.Tables.{extent-of, run-shorter}
 use Rattle.rules.proofs.Changes.{released-length, released-in, released-out, freed-well, freed-apart, freed-other}
 use Rattle.rules.proofs.Calls.{free-change}
@@ -68,5 +67,4 @@ module _ (base : ℕ) (h : Heap) (k : ℕ) (good : Passed base h) (object : Name
 pub freed : (base : ℕ) (h : Heap) (k : ℕ) → Accepted (free base h k) → Freed base h k (free base h k)
 freed base h k accepted =
     let e = no-refusal (free-checked base h k) accepted in
-    let f = first-rest (illFormed h) _ (omega arith) (first-rest (badShape base h) _ (omega arith) e) in
-    rw (acts (free-checked base h k) accepted) (freed-freed base h k (passed base h _ e) (named h k [] f))
+    rw (acts (free-checked base h k) accepted) (freed-freed base h k (passed base h _ e) (named-object base h k [] e))

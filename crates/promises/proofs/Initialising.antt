@@ -46,7 +46,7 @@ module _ (base : ℕ) (h : Heap) where
   pub initialised : Accepted (init base h) → Initialised base h (init base h)
   unfolding used
   initialised accepted =
-      let a = first-none (badShape base h) [] (omega arith) (no-refusal (init-checked base h) accepted) in
+      let a = first-none (badShape (goodShape base h)) [] (omega arith) (no-refusal (init-checked base h) accepted) in
       rw (acts (init-checked base h) accepted)
       (record {
         free = all-free (length (h .entries));

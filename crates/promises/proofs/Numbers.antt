@@ -14,7 +14,7 @@ use Rattle.rules.specs.Entries.{HEAD}
 use Rattle.rules.specs.Tables.{entryAt, isHead, wellFormed, blockCount, firstRun}
 use Rattle.rules.specs.Meaning.{Well, Lowest, Shape, Passed, Accepted}
 use Rattle.rules.specs.Outcomes.{Heap}
-use Rattle.rules.specs.Refusals.{Test, firstOf, goodShape, wholeWords, badShape, badLists, illFormed, manyRoots, longStack, noBytes, outside, noHead, noWord, noRoom, wordTests}
+use Rattle.rules.specs.Refusals.{Test, firstOf, goodShape, wholeWords, badShape, goodLists, illFormed, manyRoots, longStack, noBytes, outside, noHead, noWord, noRoom, wordTests}
 use Rattle.rules.specs.Calls.{Way, stay, shrink, grow, move, noWay, isNoWay, wayTo, blocksFor, init, allocate, free, reallocate, collect, survey, load, store, wayOf}
 use Rattle.rules.specs.Runs.{Call, Init, Allocate, Free, Reallocate, Collect, Survey, Load, Store, step}
 use Rattle.rules.proofs.Refusals.{true-not-false, both-left, both-right, not-true, not-false, first-yes, first-no, passes, asks, names, shape-true, shape-of}
@@ -66,9 +66,9 @@ rounded-up bytes n = (λ fit. omega (arith, blocks-enough bytes), λ hold. block
 module _ (base : ℕ) (h : Heap) where
   -- ---- the tests that every call has
 
-  shape-step : (ts : List Test) (cs : List Condition) → (Shape base h → First cs (firstOf ts)) → First (when 1 (¬ Shape base h) ∷ cs) (firstOf (badShape base h ∷ ts))
+  shape-step : (ts : List Test) (cs : List Condition) → (Shape base h → First cs (firstOf ts)) → First (when 1 (¬ Shape base h) ∷ cs) (firstOf (badShape (goodShape base h) ∷ ts))
   shape-step ts cs rest =
-      first-step (badShape base h) ts (when 1 (¬ Shape base h)) cs refl
+      first-step (badShape (goodShape base h)) ts (when 1 (¬ Shape base h)) cs refl
       (λ e s. true-not-false (shape-of base h s) (not-true (goodShape base h) e))
       (λ e f. f (shape-true base h (not-false (goodShape base h) e)))
       (λ e. rest (shape-true base h (not-false (goodShape base h) e)))
@@ -190,7 +190,7 @@ module _ (base : ℕ) (h : Heap) where
   unfolding ofCollect
   collect-refusal roots stack =
       rw (number (collect-checked base h roots stack))
-      (first-step (badLists base h roots stack) _ (when 1 (¬ (Shape base h × (length roots % 4 ≡ 0) × (length stack % 4 ≡ 0)))) _ refl
+      (first-step (badShape (goodLists base h roots stack)) _ (when 1 (¬ (Shape base h × (length roots % 4 ≡ 0) × (length stack % 4 ≡ 0)))) _ refl
       (λ e f. true-not-false (lists-of roots stack f) (not-true _ e))
       (λ e f. f (lists-say roots stack (not-false _ e)))
       (λ _. well-step _ _
@@ -230,7 +230,7 @@ module _ (base : ℕ) (h : Heap) where
 
       only : allocate base h bytes .answer .refusal ≡ 9 → Passed base h × (0 < bytes) × NoRun h (blocksFor bytes)
       only e =
-          let a = first-later (badShape base h) _ 9 (λ q. omega arith) (rw (number (allocate-checked base h bytes)) at e) in
+          let a = first-later (badShape (goodShape base h)) _ 9 (λ q. omega arith) (rw (number (allocate-checked base h bytes)) at e) in
           let b = first-later (illFormed h) _ 9 (λ q. omega arith) (a .1) in
           let c = first-later (noBytes bytes) _ 9 (λ q. omega arith) (b .1) in
           let more : 0 < bytes = omega (arith, eqb-false bytes 0 (c .0)) in (
@@ -253,7 +253,7 @@ module _ (base : ℕ) (h : Heap) where
     where
       only : reallocate base h k bytes .answer .refusal ≡ 9 → Passed base h × (0 < bytes) × Object h k × NoWay h k (blocksFor bytes)
       only e =
-          let a = first-later (badShape base h) _ 9 (λ q. omega arith) (rw (number (reallocate-checked base h k bytes)) at e) in
+          let a = first-later (badShape (goodShape base h)) _ 9 (λ q. omega arith) (rw (number (reallocate-checked base h k bytes)) at e) in
           let b = first-later (illFormed h) _ 9 (λ q. omega arith) (a .1) in
           let c = first-later (noBytes bytes) _ 9 (λ q. omega arith) (b .1) in
           let d = first-later (outside h k) _ 9 (λ q. omega arith) (c .1) in

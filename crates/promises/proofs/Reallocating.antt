@@ -12,9 +12,9 @@ use borrow.Author.Tests.{eqb-false}
 use Rattle.rules.specs.Tables.{blockCount, used, placed, released}
 use Rattle.rules.specs.Meaning.{Run, Lowest, Extent, Passed, Named, Accepted}
 use Rattle.rules.specs.Outcomes.{Heap, changeFrom}
-use Rattle.rules.specs.Refusals.{badShape, illFormed, noBytes, outside, noHead, noRoom}
+use Rattle.rules.specs.Refusals.{noBytes, outside, noHead, noRoom}
 use Rattle.rules.specs.Calls.{Way, stay, shrink, grow, move, noWay, isNoWay, along, shrunk, grown, moved, placing, blocksFor, reallocate, wayOf}
-use Rattle.rules.proofs.Refusals.{passed, named, true-not-false, first-none, first-rest}
+use Rattle.rules.proofs.Refusals.{passed, named, true-not-false, first-none, first-rest, own-tests}
 use Rattle.rules.proofs.Tables.{entry-inside, extent-of, run-apart}
 use Rattle.rules.proofs.Changes.{placed-length, placed-out, placed-apart, released-length, released-in, released-out, extended-length, extended-out, freed-apart, shrunk-well, shrunk-count, shrunk-other, grown-well, grown-count, grown-apart, grown-other, moved-well, moved-head, moved-count, moved-other}
 use Rattle.rules.proofs.Pools.{cleared-length, cleared-in, cleared-out, moved-length, moved-out, moved-kept, moved-zero}
@@ -195,8 +195,7 @@ module _ (base : ℕ) (h : Heap) (k c : ℕ) (good : Passed base h) (object : Na
 pub reallocated : (base : ℕ) (h : Heap) (k bytes : ℕ) → Accepted (reallocate base h k bytes) → Reallocated base h k (blocksFor bytes) (reallocate base h k bytes)
 reallocated base h k bytes accepted =
     let e = no-refusal (reallocate-checked base h k bytes) accepted in
-    let e2 = first-rest (illFormed h) _ (omega arith) (first-rest (badShape base h) _ (omega arith) e) in
-    let a = first-none (noBytes bytes) _ (omega arith) e2 in
+    let a = first-none (noBytes bytes) _ (omega arith) (own-tests base h _ e) in
     let e3 = first-rest (noHead h k) _ (omega arith) (first-rest (outside h k) _ (omega arith) (a .1)) in
     let c = first-none (noRoom (isNoWay (wayOf h k bytes))) [] (omega arith) e3 in
     let object = named h k _ (a .1) in

@@ -12,10 +12,10 @@ use Rattle.rules.specs.Words.{wordAt, withWord}
 use Rattle.rules.specs.Tables.{blockCount}
 use Rattle.rules.specs.Meaning.{Extent, Passed, Named, Accepted}
 use Rattle.rules.specs.Outcomes.{Heap, Answer, Outcome, leaves, loaded, onlyRefusal, unlessRefused}
-use Rattle.rules.specs.Refusals.{firstOf, goodShape, badShape, illFormed, outside, noHead, noWord, wordTests}
+use Rattle.rules.specs.Refusals.{firstOf, goodShape, outside, noHead, noWord, wordTests}
 use Rattle.rules.specs.Calls.{survey, load, store}
 use Rattle.rules.proofs.Words.{length-withWord, withWord-in, withWord-out, wordAt-withWord, wordAt-other}
-use Rattle.rules.proofs.Refusals.{passed, passes, named, names, first-none, first-last, first-rest}
+use Rattle.rules.proofs.Refusals.{passed, passes, named, names, first-none, first-last, first-rest, own-tests}
 use Rattle.rules.proofs.Tables.{entry-inside, extent-of, objects-apart, longest-says}
 use Rattle.promises.specs.Promises.{Object, Same, Loaded, Stored, Surveyed}
 use Rattle.promises.proofs.Checked.{load-checked, store-checked, survey-checked, number, no-refusal, acts}
@@ -29,7 +29,7 @@ record Word (base : ℕ) (h : Heap) (k i : ℕ) : Type 0 where
 
 word-of : (base : ℕ) (h : Heap) (k i : ℕ) → firstOf (wordTests base h k i) ≡ 0 → Word base h k i
 word-of base h k i e =
-    let e2 = first-rest (illFormed h) _ (omega arith) (first-rest (badShape base h) _ (omega arith) e) in
+    let e2 = own-tests base h _ e in
     let e3 = first-rest (noHead h k) _ (omega arith) (first-rest (outside h k) _ (omega arith) e2) in
     record {
       good = passed base h _ e;

@@ -1,7 +1,7 @@
 -- The answered block is a block of the table, so that it is below 4,096 whatever the call was given.
 -- Assumes nothing.
 use mathlib.Core.Path.{_≡_, refl}
-use mathlib.Core.List.{List, [], _∷_}
+use mathlib.Core.List.{List, [], _∷_, _++_}
 use mathlib.Core.Option.{Option, some, none}
 use Prim.Native.Nat.{ℕ, zero, suc, _≤_, _<_}
 use native.Mathlib.Omega.{arith}
@@ -10,7 +10,7 @@ use Rattle.rules.specs.Tests.{isNone, orElse}
 use Rattle.rules.specs.Tables.{blockCount, firstRun}
 use Rattle.rules.specs.Meaning.{Lowest}
 use Rattle.rules.specs.Outcomes.{Heap, Outcome, unlessRefused}
-use Rattle.rules.specs.Refusals.{Test, firstOf, badShape, illFormed, noBytes, outside, noHead, noRoom}
+use Rattle.rules.specs.Refusals.{Test, firstOf, heapTests, noBytes, outside, noHead, noRoom}
 use Rattle.rules.specs.Calls.{Way, stay, shrink, grow, move, noWay, wayTo, isNoWay, blocksFor, placing, along, allocate, reallocate}
 use Rattle.rules.proofs.Tables.{extent-of, first-run}
 use Rattle.rules.proofs.Refusals.{passed, asked, named-resize}
@@ -29,7 +29,7 @@ allocate-block base h bytes = unless-small _ _ _ _ (λ ok. go ok (firstRun (h .e
     room : Test
     room = noRoom (isNone (firstRun (h .entries) (blocksFor bytes)))
 
-    go : firstOf (badShape base h ∷ illFormed h ∷ noBytes bytes ∷ room ∷ []) ≡ 0 → (o : Option ℕ) → firstRun (h .entries) (blocksFor bytes) ≡ o → orElse o 0 < 4096
+    go : firstOf (heapTests base h ++ noBytes bytes ∷ room ∷ []) ≡ 0 → (o : Option ℕ) → firstRun (h .entries) (blocksFor bytes) ≡ o → orElse o 0 < 4096
     go ok none e = omega arith
     go ok (some s) e =
         let more = blocks-some bytes (asked base h bytes (room ∷ []) ok) in
@@ -56,7 +56,7 @@ reallocate-block base h k bytes = unless-small _ _ _ _ (λ ok. go ok)
     by-way small few more (move s) (moves l full low) = omega (arith, low .0 .room)
     by-way small few more noWay ways = omega arith
 
-    go : firstOf (badShape base h ∷ illFormed h ∷ noBytes bytes ∷ outside h k ∷ noHead h k ∷ room ∷ []) ≡ 0 → along (wayTo (h .entries) k b c) h k b c .answer .block < 4096
+    go : firstOf (heapTests base h ++ noBytes bytes ∷ outside h k ∷ noHead h k ∷ room ∷ []) ≡ 0 → along (wayTo (h .entries) k b c) h k b c .answer .block < 4096
     go ok =
         let few = passed base h (noBytes bytes ∷ outside h k ∷ noHead h k ∷ room ∷ []) ok .shape .few in
         let name = named-resize base h k bytes (room ∷ []) ok in

@@ -3,7 +3,7 @@
 use mathlib.Core.Path.{_≡_, refl, sym, ap, _∙_}
 use mathlib.Core.Logic.{_⊎_, inl, inr, ⊎-elim}
 use mathlib.Core.Bool.{Bool, true, false}
-use mathlib.Core.List.{List, [], _∷_}
+use mathlib.Core.List.{List, [], _∷_, _++_}
 use mathlib.Core.Option.{Option, some, none}
 use Prim.Native.Nat.{ℕ, zero, suc, _+_, _-_, _*_, _≤_, _<_}
 use native.Mathlib.Decide.{ℕ-discrete, decLt}
@@ -17,7 +17,7 @@ use Rattle.rules.specs.Entries.{HEAD}
 use Rattle.rules.specs.Tables.{entryAt, blockCount, freeFrom, firstRun, placed, released, extended, used}
 use Rattle.rules.specs.Outcomes.{Heap, onlyRefusal, changeFrom, leaves, unlessRefused}
 use Rattle.rules.specs.Meaning.{Run, Lowest}
-use Rattle.rules.specs.Refusals.{Test, firstOf, badShape, illFormed, noBytes, outside, noHead, noRoom}
+use Rattle.rules.specs.Refusals.{Test, firstOf, heapTests, noBytes, outside, noHead, noRoom}
 use Rattle.rules.specs.Calls.{Way, stay, shrink, grow, move, noWay, movesTo, wayToGrow, wayTo, blocksFor, placing, shrunk, grown, isNoWay, along, reallocate}
 use Rattle.rules.proofs.Tables.{entry-inside, extent-of, run-apart, run-le, le-run, first-lowest, first-is, none-first}
 use Rattle.rules.proofs.Refusals.{first-yes, first-last, first-more, refused-first, refuses, accepts}
@@ -193,7 +193,7 @@ run-beside es c s k h run head =
 
 -- the tests of a reallocation that come before the room
 abbrev resizes : ℕ → Heap → ℕ → ℕ → List Test
-resizes base h k bytes = badShape base h ∷ illFormed h ∷ noBytes bytes ∷ outside h k ∷ noHead h k ∷ []
+resizes base h k bytes = heapTests base h ++ noBytes bytes ∷ outside h k ∷ noHead h k ∷ []
 
 module _ (base : ℕ) (h : Heap) (k bytes : ℕ) where
   -- one of them holds

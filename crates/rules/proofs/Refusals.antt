@@ -12,9 +12,9 @@ use borrow.Author.Tests.{eqb-true, eqb-false, leb-true, leb-false, ltb-true, eq-
 use Rattle.rules.specs.Tests.{pick, both}
 use Rattle.rules.specs.Pointers.{addressOf, goodBase}
 use Rattle.rules.specs.Entries.{HEAD, entriesOf}
-use Rattle.rules.specs.Tables.{entryAt}
+use Rattle.rules.specs.Tables.{entryAt, wellFormed}
 use Rattle.rules.specs.Outcomes.{Heap, Outcome, heapOf, onlyRefusal, unlessRefused}
-use Rattle.rules.specs.Refusals.{Test, firstOf, goodShape, badShape, illFormed, noBytes, outside, noHead}
+use Rattle.rules.specs.Refusals.{Test, firstOf, goodShape, badShape, illFormed, firstTests, heapTests, nameTests, noBytes, outside, noHead}
 use Rattle.rules.specs.Meaning.{Shape, ShapeInBytes, Passed, Named, Accepted}
 use Rattle.rules.proofs.Entries.{length-entriesOf}
 
@@ -179,45 +179,43 @@ few-bytes base pool table s = shape-in-bytes base pool table .0 s .few
 
 -- ---- what a call knows once it is not refused
 
-pub passed : (base : ℕ) (h : Heap) (ts : List Test) → firstOf (badShape base h ∷ illFormed h ∷ ts) ≡ 0 → Passed base h
-passed base h ts e =
-    let a = first-none (badShape base h) (illFormed h ∷ ts) (omega arith) e in
+-- the tests that come first do not hold, nor do the others
+pub first-passed : (good : Bool) (h : Heap) (ts : List Test) → firstOf (firstTests good h ++ ts) ≡ 0
+    → (good ≡ true) × (wellFormed (h .entries) ≡ true) × (firstOf ts ≡ 0)
+first-passed good h ts e =
+    let a = first-none (badShape good) (illFormed h ∷ ts) (omega arith) e in
     let b = first-none (illFormed h) ts (omega arith) (a .1) in
-    record { shape = shape-true base h (not-false _ (a .0)); well = not-false _ (b .0) }
+    (not-false _ (a .0), not-false _ (b .0), b .1)
 
-pub named : (h : Heap) (k : ℕ) (ts : List Test) → firstOf (outside h k ∷ noHead h k ∷ ts) ≡ 0 → Named h k
+pub passed : (base : ℕ) (h : Heap) (ts : List Test) → firstOf (heapTests base h ++ ts) ≡ 0 → Passed base h
+passed base h ts e = let p = first-passed (goodShape base h) h ts e in record { shape = shape-true base h (p .0); well = p .1 }
+
+-- the call's own tests
+pub own-tests : (base : ℕ) (h : Heap) (ts : List Test) → firstOf (heapTests base h ++ ts) ≡ 0 → firstOf ts ≡ 0
+own-tests base h ts e = first-passed (goodShape base h) h ts e .2
+
+pub named : (h : Heap) (k : ℕ) (ts : List Test) → firstOf (nameTests h k ++ ts) ≡ 0 → Named h k
 named h k ts e =
     let a = first-none (outside h k) (noHead h k ∷ ts) (omega arith) e in
     let b = first-none (noHead h k) ts (omega arith) (a .1) in
     record { inside = leb-false _ _ (a .0); head = eqb-true _ _ (not-false _ (b .0)) }
 
 -- the same of the call's whole list of tests
-pub named-object : (base : ℕ) (h : Heap) (k : ℕ) (ts : List Test) → firstOf (badShape base h ∷ illFormed h ∷ outside h k ∷ noHead h k ∷ ts) ≡ 0 → Named h k
-named-object base h k ts e =
-    named h k ts
-    (first-none (illFormed h) (outside h k ∷ noHead h k ∷ ts) (omega arith)
-    (first-none (badShape base h) (illFormed h ∷ outside h k ∷ noHead h k ∷ ts) (omega arith) e .1) .1)
+pub named-object : (base : ℕ) (h : Heap) (k : ℕ) (ts : List Test) → firstOf (heapTests base h ++ outside h k ∷ noHead h k ∷ ts) ≡ 0 → Named h k
+named-object base h k ts e = named h k ts (own-tests base h _ e)
 
-pub after-names : (base : ℕ) (h : Heap) (k : ℕ) (ts : List Test) → firstOf (badShape base h ∷ illFormed h ∷ outside h k ∷ noHead h k ∷ ts) ≡ 0 → firstOf ts ≡ 0
+pub after-names : (base : ℕ) (h : Heap) (k : ℕ) (ts : List Test) → firstOf (heapTests base h ++ outside h k ∷ noHead h k ∷ ts) ≡ 0 → firstOf ts ≡ 0
 after-names base h k ts e =
-    let a = first-none (badShape base h) (illFormed h ∷ outside h k ∷ noHead h k ∷ ts) (omega arith) e in
-    let b = first-none (illFormed h) (outside h k ∷ noHead h k ∷ ts) (omega arith) (a .1) in
-    first-none (noHead h k) ts (omega arith) (first-none (outside h k) (noHead h k ∷ ts) (omega arith) (b .1) .1) .1
+    first-none (noHead h k) ts (omega arith) (first-none (outside h k) (noHead h k ∷ ts) (omega arith) (own-tests base h _ e) .1) .1
 
 -- a request that is not refused asks for some bytes
-pub asked : (base : ℕ) (h : Heap) (bytes : ℕ) (ts : List Test) → firstOf (badShape base h ∷ illFormed h ∷ noBytes bytes ∷ ts) ≡ 0 → 0 < bytes
-asked base h bytes ts e =
-    let a = first-none (badShape base h) (illFormed h ∷ noBytes bytes ∷ ts) (omega arith) e in
-    let b = first-none (illFormed h) (noBytes bytes ∷ ts) (omega arith) (a .1) in
-    let ne = eqb-false bytes 0 (first-none (noBytes bytes) ts (omega arith) (b .1) .0) in
-    omega arith
+pub asked : (base : ℕ) (h : Heap) (bytes : ℕ) (ts : List Test) → firstOf (heapTests base h ++ noBytes bytes ∷ ts) ≡ 0 → 0 < bytes
+asked base h bytes ts e = omega (arith, eqb-false bytes 0 (first-none (noBytes bytes) ts (omega arith) (own-tests base h _ e) .0))
 
-pub named-resize : (base : ℕ) (h : Heap) (k bytes : ℕ) (ts : List Test)
-    → firstOf (badShape base h ∷ illFormed h ∷ noBytes bytes ∷ outside h k ∷ noHead h k ∷ ts) ≡ 0 → (0 < bytes) × Named h k
+pub named-resize : (base : ℕ) (h : Heap) (k bytes : ℕ) (ts : List Test) → firstOf (heapTests base h ++ noBytes bytes ∷ outside h k ∷ noHead h k ∷ ts) ≡ 0
+    → (0 < bytes) × Named h k
 named-resize base h k bytes ts e =
-    let a = first-none (badShape base h) (illFormed h ∷ noBytes bytes ∷ outside h k ∷ noHead h k ∷ ts) (omega arith) e in
-    let b = first-none (illFormed h) (noBytes bytes ∷ outside h k ∷ noHead h k ∷ ts) (omega arith) (a .1) in
-    let d = first-none (noBytes bytes) (outside h k ∷ noHead h k ∷ ts) (omega arith) (b .1) in
+    let d = first-none (noBytes bytes) (outside h k ∷ noHead h k ∷ ts) (omega arith) (own-tests base h _ e) in
     let ne = eqb-false bytes 0 (d .0) in
     (omega arith, named h k ts (d .1))
 
@@ -227,9 +225,9 @@ first-rest t ts p e = first-none t ts p e .1
 
 -- ---- what does not hold is not refused
 
-pub passes : (base : ℕ) (h : Heap) (ts : List Test) → Passed base h → firstOf (badShape base h ∷ illFormed h ∷ ts) ≡ firstOf ts
+pub passes : (base : ℕ) (h : Heap) (ts : List Test) → Passed base h → firstOf (heapTests base h ++ ts) ≡ firstOf ts
 passes base h ts p =
-    first-no (badShape base h) (illFormed h ∷ ts) (ap not (shape-of base h (p .shape)))
+    first-no (badShape (goodShape base h)) (illFormed h ∷ ts) (ap not (shape-of base h (p .shape)))
     ∙ first-no (illFormed h) ts (ap not (p .well))
 
 pub asks : (bytes : ℕ) (ts : List Test) → 0 < bytes → firstOf (noBytes bytes ∷ ts) ≡ firstOf ts

@@ -13,12 +13,12 @@ use Rattle.rules.specs.Words.{bytesOf, wordAt, withWord}
 use Rattle.rules.specs.Entries.{FREE}
 use Rattle.rules.specs.Tables.{entryAt, blockCount, placed, released}
 use Rattle.rules.specs.Outcomes.{Heap, Outcome, onlyRefusal, loaded, unlessRefused, clearedBlocks}
-use Rattle.rules.specs.Refusals.{Test, firstOf, goodShape, badShape, illFormed, noBytes, outside, noHead, noWord}
+use Rattle.rules.specs.Refusals.{firstOf, goodShape, noWord, wordTests}
 use Rattle.rules.specs.Calls.{blocksFor, init, taken, placing, allocate, freed, free, Way, stay, shrink, grow, move, noWay, shrunk, grown, moved, wayTo, along, reallocate, survey, load, store}
 use Rattle.rules.proofs.Tables.{extent-of, extent-used}
 use Rattle.rules.proofs.Changes.{placed-out, extended-out}
 use Rattle.rules.specs.Meaning.{Passed, Named}
-use Rattle.rules.proofs.Refusals.{first-none, passed, named-object, named-resize}
+use Rattle.rules.proofs.Refusals.{first-none, passed, asked, named-object, named-resize, after-names}
 use Rattle.rules.proofs.Calls.{blocks-some}
 use Rattle.rules.proofs.Matching.{SameByte, Matching, match-run, match-cleared, match-fewer, match-same}
 
@@ -66,20 +66,8 @@ all-free (suc n) (suc k) = all-free n k
 
 -- ---- what a call that is not refused knows of its arguments
 
-rest : (t : Test) (ts : List Test) → 0 < t .number → firstOf (t ∷ ts) ≡ 0 → firstOf ts ≡ 0
-rest t ts p e = first-none t ts p e .1
-
-wants-bytes : (base : ℕ) (h : Heap) (bytes : ℕ) (ts : List Test) → firstOf (badShape base h ∷ illFormed h ∷ noBytes bytes ∷ ts) ≡ 0 → 0 < bytes
-wants-bytes base h bytes ts e =
-    let d = first-none (noBytes bytes) ts (omega arith) (rest (illFormed h) _ (omega arith) (rest (badShape base h) _ (omega arith) e)) in
-    let n = eqb-false bytes 0 (d .0) in
-    omega arith
-
-word-inside : (base : ℕ) (h : Heap) (k i : ℕ) → firstOf (badShape base h ∷ illFormed h ∷ outside h k ∷ noHead h k ∷ noWord h k i ∷ []) ≡ 0
-    → i < 4 * blockCount (h .entries) k
-word-inside base h k i e =
-    let d = rest (outside h k) _ (omega arith) (rest (illFormed h) _ (omega arith) (rest (badShape base h) _ (omega arith) e)) in
-    leb-false _ _ (first-none (noWord h k i) [] (omega arith) (rest (noHead h k) _ (omega arith) d) .0)
+word-inside : (base : ℕ) (h : Heap) (k i : ℕ) → firstOf (wordTests base h k i) ≡ 0 → i < 4 * blockCount (h .entries) k
+word-inside base h k i e = leb-false _ _ (first-none (noWord h k i) [] (omega arith) (after-names base h k (noWord h k i ∷ []) e) .0)
 
 module _ (base : ℕ) (es p q : List ℕ) (a : Matching es p q) where
   abbrev h : Heap
@@ -110,7 +98,7 @@ module _ (base : ℕ) (es p q : List ℕ) (a : Matching es p q) where
   pub twin-allocate : (bytes : ℕ) → Twin (allocate base h bytes) (allocate base h′ bytes)
   unfolding allocate
   twin-allocate bytes =
-      rw shape (unless-both Twin _ refused (λ z. twin-taken _ (blocksFor bytes) (blocks-some bytes (wants-bytes base h′ bytes _ z))))
+      rw shape (unless-both Twin _ refused (λ z. twin-taken _ (blocksFor bytes) (blocks-some bytes (asked base h′ bytes _ z))))
 
   pub twin-free : (k : ℕ) → Twin (free base h k) (free base h′ k)
   unfolding free placing freed

@@ -2,7 +2,7 @@
 -- Calls that can run out of room test 9 after these.
 -- Assumes nothing.
 use mathlib.Core.Bool.{Bool, not}
-use mathlib.Core.List.{List, [], _∷_}
+use mathlib.Core.List.{List, [], _∷_, _++_}
 use Prim.Native.Nat.{ℕ, _*_, _/_, _%_}
 use lib.Dec.{eqb, leb, ltb}
 use lib.ListN.{length}
@@ -30,15 +30,16 @@ goodShape base h =
     both (both (leb 1 (length (h .entries))) (leb (length (h .entries)) 4096))
     (both (eqb (length (h .pool)) (16 * length (h .entries))) (goodBase base (length (h .entries))))
 
-abbrev pub badShape : ℕ → Heap → Test
-badShape base h = test 1 (not (goodShape base h))
-
--- 1, of a collection: the shape is not good, or roots or mark stack are not whole words
+-- 1, of a collection: also that roots and mark stack are whole words
 unfoldable pub wholeWords : List ℕ → Bool
 wholeWords bs = eqb (length bs % 4) 0
 
-abbrev pub badLists : ℕ → Heap → List ℕ → List ℕ → Test
-badLists base h roots stack = test 1 (not (both (goodShape base h) (both (wholeWords roots) (wholeWords stack))))
+abbrev pub goodLists : ℕ → Heap → List ℕ → List ℕ → Bool
+goodLists base h roots stack = both (goodShape base h) (both (wholeWords roots) (wholeWords stack))
+
+-- 1: what is lent, or the base, breaks the rules
+abbrev pub badShape : Bool → Test
+badShape good = test 1 (not good)
 
 -- 2: the table is not well-formed
 abbrev pub illFormed : Heap → Test
@@ -76,15 +77,19 @@ noRoom b = test 9 b
 
 -- of init: 1
 abbrev pub initTests : ℕ → Heap → List Test
-initTests base h = badShape base h ∷ []
+initTests base h = badShape (goodShape base h) ∷ []
+
+-- those that come first in every other call: 1 2
+abbrev pub firstTests : Bool → Heap → List Test
+firstTests good h = badShape good ∷ illFormed h ∷ []
 
 -- of a heap: 1 2
 abbrev pub heapTests : ℕ → Heap → List Test
-heapTests base h = badShape base h ∷ illFormed h ∷ []
+heapTests base h = firstTests (goodShape base h) h
 
 -- of a request for room: 1 2 5
 abbrev pub requestTests : ℕ → Heap → ℕ → List Test
-requestTests base h bytes = badShape base h ∷ illFormed h ∷ noBytes bytes ∷ []
+requestTests base h bytes = heapTests base h ++ noBytes bytes ∷ []
 
 -- of a block that is to name an object: 6 7
 abbrev pub nameTests : Heap → ℕ → List Test
@@ -92,16 +97,16 @@ nameTests h k = outside h k ∷ noHead h k ∷ []
 
 -- of an object: 1 2 6 7
 abbrev pub objectTests : ℕ → Heap → ℕ → List Test
-objectTests base h k = badShape base h ∷ illFormed h ∷ outside h k ∷ noHead h k ∷ []
+objectTests base h k = heapTests base h ++ nameTests h k
 
 -- of a request for an object: 1 2 5 6 7
 abbrev pub resizeTests : ℕ → Heap → ℕ → ℕ → List Test
-resizeTests base h k bytes = badShape base h ∷ illFormed h ∷ noBytes bytes ∷ outside h k ∷ noHead h k ∷ []
+resizeTests base h k bytes = heapTests base h ++ noBytes bytes ∷ nameTests h k
 
 -- of a word of an object: 1 2 6 7 8
 abbrev pub wordTests : ℕ → Heap → ℕ → ℕ → List Test
-wordTests base h k i = badShape base h ∷ illFormed h ∷ outside h k ∷ noHead h k ∷ noWord h k i ∷ []
+wordTests base h k i = heapTests base h ++ outside h k ∷ noHead h k ∷ noWord h k i ∷ []
 
 -- of a collection: 1 2 3 4
 abbrev pub collectionTests : ℕ → Heap → List ℕ → List ℕ → List Test
-collectionTests base h roots stack = badLists base h roots stack ∷ illFormed h ∷ manyRoots roots ∷ longStack stack ∷ []
+collectionTests base h roots stack = firstTests (goodLists base h roots stack) h ++ manyRoots roots ∷ longStack stack ∷ []

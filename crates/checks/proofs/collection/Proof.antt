@@ -8,7 +8,7 @@ use lib.ListN.{length}
 use Rattle.rules.specs.Tests.{both}
 use Rattle.rules.specs.Tables.{wellFormed}
 use Rattle.rules.specs.Outcomes.{heapOf}
-use Rattle.rules.specs.Refusals.{firstOf, goodShape, wholeWords, badLists, collectionTests}
+use Rattle.rules.specs.Refusals.{firstOf, goodShape, wholeWords, badShape, goodLists, collectionTests}
 use Rattle.rules.proofs.Refusals.{first-yes, first-no, first-last, both-false, true-not-false}
 use Rattle.checks.proofs.collection.Statement.{statement}
 use Rattle.checks.proofs.collection.Tie as tie
@@ -32,7 +32,7 @@ module _ (base : ℕ) (pool table roots stack : List ℕ) where
 
   -- the lists and the shape are good
   module _ {r : Bool} (e : r ≡ goodShape base (heapOf pool table)) (good : not r ≡ false) (wr : length roots % 4 ≡ 0) (ws : length stack % 4 ≡ 0) where
-    lists : badLists base (heapOf pool table) roots stack .holds ≡ false
+    lists : badShape (goodLists base (heapOf pool table) roots stack) .holds ≡ false
     unfolding wholeWords
     lists = rw (eq-eqb _ _ wr, eq-eqb _ _ ws) (go (goodShape base (heapOf pool table)) (ap not (sym e) ∙ good))
       where

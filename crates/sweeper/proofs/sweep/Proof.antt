@@ -1,6 +1,5 @@
 -- What was used and is no longer is freed: the difference of the two counts.
 -- Assumes nothing.
-use mathlib.Core.Path.{_≡_}
 use Prim.Native.Nat.{_≤_}
 use native.Mathlib.Omega.{arith}
 use borrow.Author.Needs.{needs}
