@@ -12,9 +12,10 @@ use lib.Dec.{eqb, ltb}
 use lib.ListN.{length}
 use borrow.Author.Tests.{le-ltb}
 use Rattle.rules.specs.Words.{wordsOf}
-use Rattle.rules.specs.Entries.{FREE, entriesOf}
+use Rattle.rules.specs.Entries.{FREE}
 use Rattle.rules.specs.Tables.{entryAt, wellFormed}
-use Rattle.rules.specs.Outcomes.{Heap, heapOf}
+use Rattle.rules.specs.Forms.{Small}
+use Rattle.rules.specs.Outcomes.{Heap}
 use Rattle.rules.specs.Refusals.{firstOf, wholeWords, badLists, illFormed, collectionTests}
 use Rattle.rules.specs.Calls.{collecting, collect}
 use Rattle.rules.specs.Runs.{Collect}
@@ -23,7 +24,6 @@ use Rattle.rules.proofs.Refusals.{first-none, both-left, not-false, shape-true,
 use Rattle.rules.proofs.Matching.{SameByte, Matching, match-sets}
 use Rattle.rules.proofs.Twice.{heap, unless-both, shape-same}
 use Rattle.keeping.specs.Keeping.{collected, Agree}
-use Rattle.keeping.proofs.Owners.{table-proper}
 use Rattle.keeping.proofs.Kept.{collected-used}
 use Rattle.keeping.proofs.Alike.{agree-words, marking-alike, collected-alike, collected-bytes}
 use Rattle.keeping.proofs.Collections.{acted, collect-from, collect-is, used-agree}
@@ -95,20 +95,20 @@ same-collect base roots es p q stack stack′ match s =
 
 -- ---- the first collection
 
-pub same-first : (base : ℕ) (roots table p q stack stack′ : List ℕ) → Agree base (wordsOf roots) (heapOf p table) (heapOf q table)
-    → Accepted (collect base (heapOf p table) roots stack) → Accepted (collect base (heapOf q table) roots stack′)
-    → Same (Collect base roots) stack stack′ (collect base (heapOf p table) roots stack) (collect base (heapOf q table) roots stack′)
-same-first base roots table p q stack stack′ a x x′ =
-    let h = heapOf p table in
-    let h′ = heapOf q table in
+pub same-first : (base : ℕ) (roots es p q stack stack′ : List ℕ) → Small es → Agree base (wordsOf roots) (heap p es) (heap q es)
+    → Accepted (collect base (heap p es) roots stack) → Accepted (collect base (heap q es) roots stack′)
+    → Same (Collect base roots) stack stack′ (collect base (heap p es) roots stack) (collect base (heap q es) roots stack′)
+same-first base roots es p q stack stack′ small a x x′ =
+    let h = heap p es in
+    let h′ = heap q es in
     let z = accepted-none _ h stack _ (rw collect-from at x) in
     let z′ = accepted-none _ h′ stack′ _ (rw collect-from at x′) in
     let s = suits base h roots stack z in
     let s′ = suits base h′ roots stack′ z′ in
     rw (collect-is base h roots stack x, collect-is base h′ roots stack′ x′)
-    (same-acted base roots (entriesOf table) p q stack stack′ (s .1) a
+    (same-acted base roots es p q stack stack′ (s .1) a
     (record {
       long = s .0 ∙ sym (s′ .0);
       bytes = λ i u. let e : 16 * (i / 16) + i % 16 ≡ i = omega arith in
-          rw e at (collected-bytes base h h′ (wordsOf roots) (length stack / 4) (table-proper table (s .1)) a (i / 16) u (i % 16) (omega arith));
+          rw e at (collected-bytes base h h′ (wordsOf roots) (length stack / 4) (record { well = s .1; small = small }) a (i / 16) u (i % 16) (omega arith));
     }))

@@ -1,5 +1,5 @@
--- What two heaps that are not told apart have in common, said without the words of the statement: the answers as lists, the tables in bytes,
--- and the words of allocated blocks.
+-- What two memories that are not told apart have in common, said without the words of the statement: the answers as lists, buffers and tables in
+-- bytes, and the words of allocated blocks.
 -- Assumes nothing.
 use mathlib.Core.Path.{_≡_, refl, sym, ap}
 use mathlib.Core.Logic.{_≢_}
@@ -9,10 +9,12 @@ use Prim.Native.Nat.{ℕ, _+_, _*_, _<_}
 use native.Mathlib.Omega.{arith}
 use lib.ListN.{length}
 use Rattle.rules.specs.Words.{wordAt}
-use Rattle.rules.specs.Entries.{FREE, tableOf}
+use Rattle.rules.specs.Entries.{FREE}
 use Rattle.rules.specs.Tables.{entryAt}
-use Rattle.rules.specs.Outcomes.{Heap, Answer}
-use Rattle.rules.specs.Runs.{Call, Turn, after, answers}
+use Rattle.rules.specs.Forms.{Form}
+use Rattle.rules.specs.Outcomes.{Answer}
+use Rattle.rules.specs.Runs.{Call, Turn}
+use Rattle.rules.specs.Memory.{Memory, afterIn, answersIn, filledIn}
 use Rattle.rules.proofs.Words.{wordAt-same}
 use Rattle.keeping.specs.Keeping.{withRescans, butRescans}
 use Rattle.runs.specs.Noninterference.{SameAnswer, equal, but-rescans, SameAnswers, done, next, Indistinct}
@@ -66,23 +68,28 @@ pub answers-later : {t u : Turn} {ts us : List Turn} {a : Answer} {xs ys : List 
 answers-later (next {a = a} {b = b} x rest) l =
     (b .rescans, sym (cons-same (ap (withRescans (b .rescans)) (answer-but-rescans x)) (answers-long rest l)))
 
--- ---- the heaps
+-- ---- the memories
 
-module _ {ts us : List Turn} {h h′ : Heap} (same : Indistinct ts us h h′) where
+module _ {f : Form} {ts us : List Turn} {m m′ : Memory} (same : Indistinct f ts us m m′) where
   -- the answers but for the rescans
-  pub same-but-rescans : map butRescans (answers ts h) ≡ map butRescans (answers us h′)
+  pub same-but-rescans : map butRescans (answersIn f ts m) ≡ map butRescans (answersIn f us m′)
   same-but-rescans = answers-but-rescans (same .same-answers)
 
   -- the answers, where each two mark stacks are equally long
-  pub same-lists : stackLengths ts ≡ stackLengths us → answers ts h ≡ answers us h′
+  pub same-lists : stackLengths ts ≡ stackLengths us → answersIn f ts m ≡ answersIn f us m′
   same-lists l = answers-long (same .same-answers) l
 
+  -- what the calls wrote into buffers
+  pub same-buffers : filledIn f ts m ≡ filledIn f us m′
+  same-buffers = same .same-filled
+
   -- the bytes of the tables
-  pub same-tables : tableOf (after ts h .entries) ≡ tableOf (after us h′ .entries)
-  same-tables = ap tableOf (same .same-table)
+  pub same-tables : afterIn f ts m .table ≡ afterIn f us m′ .table
+  same-tables = same .same-table
 
   -- the four words of an allocated block
-  pub same-words : (k : ℕ) → entryAt (after ts h .entries) k ≢ FREE → (i : ℕ) → i < 4 → wordAt (after ts h .pool) (4 * k + i) ≡ wordAt (after us h′ .pool) (4 * k + i)
+  pub same-words : (k : ℕ) → entryAt (f .read (afterIn f ts m .table)) k ≢ FREE → (i : ℕ) → i < 4
+      → wordAt (afterIn f ts m .pool) (4 * k + i) ≡ wordAt (afterIn f us m′ .pool) (4 * k + i)
   same-words k u i l =
-      wordAt-same (after ts h .pool) (after us h′ .pool) (4 * k + i) (4 * k + i)
-      (λ j m. let e : 4 * (4 * k + i) + j ≡ 16 * k + (4 * i + j) = omega arith in rw e (same .same-bytes k u (4 * i + j) (omega arith)))
+      wordAt-same (afterIn f ts m .pool) (afterIn f us m′ .pool) (4 * k + i) (4 * k + i)
+      (λ j n. let e : 4 * (4 * k + i) + j ≡ 16 * k + (4 * i + j) = omega arith in rw e (same .same-bytes k u (4 * i + j) (omega arith)))

@@ -1,18 +1,20 @@
 -- How little is asked: mark stacks need only be equally long, or each have 0 to 64 whole entries; calls need only be the same calls; and a
 -- collection that is accepted on one of two pools of one length is accepted on the other.
 -- Assumes nothing.
-use mathlib.Core.Path.{_≡_, refl, ap}
+use mathlib.Core.Path.{_≡_, refl, sym, ap, _∙_}
 use mathlib.Core.List.{List, [], _∷_}
 use Prim.Native.Nat.{ℕ, _+_, _*_, _≤_, _<_}
 use native.Mathlib.Omega.{arith}
 use lib.ListN.{length, getD}
 use Rattle.rules.specs.Tables.{blockCount}
+use Rattle.rules.specs.Forms.{Form, Faithful}
 use Rattle.rules.specs.Outcomes.{Heap}
 use Rattle.rules.specs.Refusals.{firstOf, collectionTests}
 use Rattle.rules.specs.Reach.{Reachable}
 use Rattle.rules.specs.Calls.{collecting, collect}
-use Rattle.rules.specs.Runs.{Call, Turn}
+use Rattle.rules.specs.Runs.{Call, Collect, step, Turn}
 use Rattle.rules.specs.Meaning.{Accepted}
+use Rattle.rules.specs.Memory.{memory, AcceptedIn, perform}
 use Rattle.rules.proofs.Refusals.{accepts, accepted-none}
 use Rattle.rules.proofs.Twice.{heap, shape-same}
 use Rattle.keeping.specs.Keeping.{Agree}
@@ -20,6 +22,7 @@ use Rattle.keeping.proofs.Collections.{acted, collect-from}
 use Rattle.runs.specs.Noninterference.{SameStacks, equally-long, both-good, Alike, done, next}
 use Rattle.runs.specs.Unseen.{callsOf, stackLengths}
 use Rattle.runs.proofs.Collections.{stacks-whole, stacks-short}
+use Rattle.runs.proofs.Memory.{accepted-sound, refusal-in}
 
 -- ---- mark stacks
 
@@ -61,13 +64,25 @@ pub agree-of : (base : ℕ) (roots : List ℕ) (h h′ : Heap) → h .entries �
     → Agree base roots h h′
 agree-of base roots h h′ table bytes = record { table = table; bytes = bytes }
 
--- a collection is accepted on both or on neither, if the pools are equally long
-pub also-accepted : (base : ℕ) (roots es p q stack stack′ : List ℕ) → length p ≡ length q → SameStacks stack stack′
+-- a collection of heaps is accepted on both or on neither, if the pools are equally long
+also-collected : (base : ℕ) (roots es p q stack stack′ : List ℕ) → length p ≡ length q → SameStacks stack stack′
     → Accepted (collect base (heap p es) roots stack) → Accepted (collect base (heap q es) roots stack′)
 unfolding collecting
-also-accepted base roots es p q stack stack′ l s x =
+also-collected base roots es p q stack stack′ l s x =
     let h = heap p es in
     let h′ = heap q es in
     let z : firstOf (collectionTests base h roots stack) ≡ 0 = accepted-none _ h stack _ (rw collect-from at x) in
     let z′ : firstOf (collectionTests base h′ roots stack′) ≡ 0 = rw (← shape-same base es p q l, ← stacks-whole s, ← stacks-short s) z in
     rw (collect-from base h′ roots stack′, accepts h′ stack′ (acted base h′ roots stack′) z′) refl
+
+-- and so is one of memories with the same table
+pub also-accepted : (f : Form) → Faithful f → (base : ℕ) (table roots pool pool′ stack stack′ : List ℕ) → length pool ≡ length pool′ → SameStacks stack stack′
+    → AcceptedIn (perform f (Collect base roots) stack (memory pool table)) → AcceptedIn (perform f (Collect base roots) stack′ (memory pool′ table))
+unfolding step
+also-accepted f faithful base table roots pool pool′ stack stack′ l s x =
+    let c = Collect base roots in
+    let m = memory pool table in
+    let m′ = memory pool′ table in
+    let w = accepted-sound f c stack m refl x in
+    let y = sym (refusal-in f faithful c stack m w) ∙ x in
+    refusal-in f faithful c stack′ m′ (record { fits = w .fits; clean = w .clean }) ∙ also-collected base roots (f .read table) pool pool′ stack stack′ l s y

@@ -1,5 +1,7 @@
 pub mod Same
 pub mod Collections
+pub mod Heaps
+pub mod Memory
 pub mod Noninterference
 pub mod Conclusions
 pub mod Hypotheses

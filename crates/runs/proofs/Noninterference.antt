@@ -1,62 +1,65 @@
--- Noninterference: the first collection leaves pools that match in every allocated block, and every call keeps this.
+-- Noninterference: the calls on lent memory are those on the heaps in it, which they do not tell apart. After an accepted collection a table is what its
+-- entries are written as, so equal entries are equal bytes.
 -- Assumes nothing.
-use mathlib.Core.Path.{_≡_, subst}
+use mathlib.Core.Path.{_≡_, refl, sym, ap, subst, _∙_}
 use mathlib.Core.List.{List, _∷_}
-use Prim.Native.Nat.{ℕ, _+_, _*_, _/_}
-use native.Mathlib.Omega.{arith}
-use Rattle.rules.specs.Outcomes.{Heap, heapOf}
-use Rattle.rules.specs.Runs.{Call, Init, Allocate, Free, Reallocate, Collect, Survey, Load, Store, step, Turn, after, answers}
-use Rattle.rules.proofs.Matching.{Matching}
-use Rattle.rules.proofs.Twice.{heap, twin-init, twin-allocate, twin-free, twin-reallocate, twin-survey, twin-load, twin-store}
-use Rattle.runs.specs.Noninterference.{SameStacks, turn, Alike, done, next, Indistinct, Noninterference}
-use Rattle.runs.proofs.Same.{Same, same-twin}
-use Rattle.runs.proofs.Collections.{same-collect, same-first}
+use Rattle.rules.specs.Forms.{Form, Faithful}
+use Rattle.rules.specs.Outcomes.{Heap}
+use Rattle.rules.specs.Runs.{Collect, Turn, after}
+use Rattle.rules.specs.Memory.{Memory, memory, heapIn, Sound, AcceptedIn, perform, turnIn, afterIn, filledIn}
+use Rattle.rules.proofs.Memory.{Written, follows-sound, answers-in, after-in, after-written}
+use Rattle.runs.specs.Noninterference.{Alike, done, next, Indistinct, Noninterference}
+use Rattle.runs.proofs.Heaps.{SameUsed, SameHeaps, heaps-same}
+use Rattle.runs.proofs.Memory.{accepted-sound, refusal-in, none-filled}
 
--- one call on pools that match
-same-step : (call : Call) (es p q stack stack′ : List ℕ) → Matching es p q → SameStacks stack stack′
-    → Same call stack stack′ (step call stack (heap p es)) (step call stack′ (heap q es))
-unfolding step
-same-step (Init base) es p q stack stack′ m s = same-twin (Init base) stack stack′ (twin-init base es p q m)
-same-step (Allocate base bytes) es p q stack stack′ m s = same-twin (Allocate base bytes) stack stack′ (twin-allocate base es p q m bytes)
-same-step (Free base k) es p q stack stack′ m s = same-twin (Free base k) stack stack′ (twin-free base es p q m k)
-same-step (Reallocate base k bytes) es p q stack stack′ m s = same-twin (Reallocate base k bytes) stack stack′ (twin-reallocate base es p q m k bytes)
-same-step (Collect base roots) es p q stack stack′ m s = same-collect base roots es p q stack stack′ m s
-same-step (Survey base) es p q stack stack′ m s = same-twin (Survey base) stack stack′ (twin-survey base es p q m)
-same-step (Load base k i) es p q stack stack′ m s = same-twin (Load base k i) stack stack′ (twin-load base es p q m k i)
-same-step (Store base k i w) es p q stack stack′ m s = same-twin (Store base k i w) stack stack′ (twin-store base es p q m k i w)
+-- the buffers, as no call fills any
+buffers-same : (f : Form) {ts us : List Turn} → Alike ts us → (m m′ : Memory) → filledIn f ts m ≡ filledIn f us m′
+unfolding filledIn
+buffers-same f done m m′ = refl
+buffers-same f (next call {stack = stack} {stack′ = stack′} s r) m m′ =
+    rw (none-filled f call stack m, none-filled f call stack′ m′, buffers-same f r (perform f call stack m .memory) (perform f call stack′ m′ .memory)) refl
 
--- the same, where the tables are equal
-same-call : (call : Call) (h h′ : Heap) (stack stack′ : List ℕ) → h .entries ≡ h′ .entries → Matching (h .entries) (h .pool) (h′ .pool) → SameStacks stack stack′
-    → Same call stack stack′ (step call stack h) (step call stack′ h′)
-same-call call h h′ stack stack′ t m s =
-    subst (λ (es : List ℕ). Same call stack stack′ (step call stack h) (step call stack′ (heap (h′ .pool) es))) t
-    (same-step call (h .entries) (h .pool) (h′ .pool) stack stack′ m s)
+module _ (f : Form) (faithful : Faithful f) where
+  -- after a first call that is accepted, a table is what its entries are written as
+  written-after : (t : Turn) (ts : List Turn) (m : Memory) → Sound f m → AcceptedIn (turnIn f t m) → Written f (afterIn f (t ∷ ts) m)
+  unfolding afterIn
+  written-after t ts m s x =
+      let e = follows-sound f faithful (t .call) (t .stack) m s in
+      after-written f faithful ts (turnIn f t m .memory) (e .sound x) (e .written x)
 
--- a call that is the same, and then calls that are
-same-next : (call : Call) (h h′ : Heap) (stack stack′ : List ℕ) (ts us : List Turn) → Same call stack stack′ (step call stack h) (step call stack′ h′)
-    → Indistinct ts us (step call stack h .heap) (step call stack′ h′ .heap) → Indistinct (turn call stack ∷ ts) (turn call stack′ ∷ us) h h′
-unfolding after answers
-same-next call h h′ stack stack′ ts us x rest =
-    record { same-answers = next (x .answer) (rest .same-answers); same-table = rest .same-table; same-bytes = rest .same-bytes }
+  -- calls that do not tell the heaps apart do not tell the memories apart, if the first is accepted on both
+  memories-same : {t u : Turn} {ts us : List Turn} {m m′ : Memory} → Sound f m → Sound f m′ → Alike (t ∷ ts) (u ∷ us) → AcceptedIn (turnIn f t m) → AcceptedIn (turnIn f u m′)
+      → SameHeaps (t ∷ ts) (u ∷ us) (heapIn f m) (heapIn f m′) → Indistinct f (t ∷ ts) (u ∷ us) m m′
+  memories-same {t = t} {u = u} {ts = ts} {us = us} {m = m} {m′ = m′} s s′ alike x x′ same =
+      record {
+        same-answers = rw (answers-in f faithful (t ∷ ts) m s, answers-in f faithful (u ∷ us) m′ s′) (same .same-answers);
+        same-filled = buffers-same f alike m m′;
+        same-table = tables;
+        same-bytes = used;
+      }
+    where
+      e : heapIn f (afterIn f (t ∷ ts) m) ≡ after (t ∷ ts) (heapIn f m)
+      e = after-in f faithful (t ∷ ts) m s
 
--- every list of calls on pools that match
-same-calls : {ts us : List Turn} → Alike ts us → (h h′ : Heap) → h .entries ≡ h′ .entries → Matching (h .entries) (h .pool) (h′ .pool) → Indistinct ts us h h′
-unfolding after answers
-same-calls done h h′ t m =
-    record {
-      same-answers = done;
-      same-table = t;
-      same-bytes = λ k u j l. let e : (16 * k + j) / 16 ≡ k = omega arith in m .bytes (16 * k + j) (rw e u);
-    }
-same-calls (next call {stack = stack} {stack′ = stack′} s r) h h′ t m =
-    let x = same-call call h h′ stack stack′ t m s in
-    same-next call h h′ stack stack′ _ _ x (same-calls r (step call stack h .heap) (step call stack′ h′ .heap) (x .table) (x .match))
+      e′ : heapIn f (afterIn f (u ∷ us) m′) ≡ after (u ∷ us) (heapIn f m′)
+      e′ = after-in f faithful (u ∷ us) m′ s′
+
+      entries : f .read (afterIn f (t ∷ ts) m .table) ≡ f .read (afterIn f (u ∷ us) m′ .table)
+      entries = ap (λ (h : Heap). h .entries) e ∙ same .same-entries ∙ sym (ap (λ (h : Heap). h .entries) e′)
+
+      tables : afterIn f (t ∷ ts) m .table ≡ afterIn f (u ∷ us) m′ .table
+      tables = written-after t ts m s x ∙ ap (f .write) entries ∙ sym (written-after u us m′ s′ x′)
+
+      used : SameUsed (heapIn f (afterIn f (t ∷ ts) m)) (heapIn f (afterIn f (u ∷ us) m′))
+      used = subst (λ (h : Heap). SameUsed h (heapIn f (afterIn f (u ∷ us) m′))) (sym e) (subst (SameUsed (after (t ∷ ts) (heapIn f m))) (sym e′) (same .same-used))
 
 pub noninterference : Noninterference
-unfolding step
-noninterference base table roots pool pool′ stack stack′ ts us agree (next call s r) x x′ =
-    let h = heapOf pool table in
-    let h′ = heapOf pool′ table in
+noninterference f faithful base table roots pool pool′ stack stack′ ts us agree alike x x′ =
+    let m = memory pool table in
+    let m′ = memory pool′ table in
     let c = Collect base roots in
-    let first = same-first base roots table pool pool′ stack stack′ agree x x′ in
-    same-next c h h′ stack stack′ ts us first (same-calls r (step c stack h .heap) (step c stack′ h′ .heap) (first .table) (first .match))
+    let s = accepted-sound f c stack m refl x in
+    let s′ = accepted-sound f c stack′ m′ refl x′ in
+    let y = sym (refusal-in f faithful c stack m s) ∙ x in
+    let y′ = sym (refusal-in f faithful c stack′ m′ s′) ∙ x′ in
+    memories-same f faithful s s′ alike x x′ (heaps-same base roots (f .read table) pool pool′ stack stack′ (faithful .small table) agree alike y y′)

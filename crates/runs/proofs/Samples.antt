@@ -14,21 +14,23 @@ use Rattle.rules.specs.Tests.{either, count, leading, tabulate}
 use Rattle.rules.specs.Words.{number, bytesOf, wordAt, withWord, wordsOf}
 use Rattle.rules.specs.Entries.{TAIL, entryOf, entriesOf, tableOf}
 use Rattle.rules.specs.Tables.{entryAt, isHead, mayFollow, wellAfter, wellFormed, blockCount, freeFrom, fits, firstFrom, firstRun, placed, used, objects, longest}
+use Rattle.rules.specs.Forms.{packed}
 use Rattle.rules.specs.Pointers.{addressOf, goodBase, targetOf, headsObject, headAt, leadsTo}
 use Rattle.rules.specs.Outcomes.{Heap, Answer, onlyRefusal, changeFrom, placedAt, collectedTo, surveyed, loaded, unlessRefused, clearedBlocks}
 use Rattle.rules.specs.Refusals.{firstOf, goodShape, wholeWords}
 use Rattle.rules.specs.Marking.{pushed, visitTo, visit, walkWords, walk, drainFor, drain, trace, rootTo, markRoot, markRoots, passBlock, passFrom, pass, rescanFor, rescan, markAll, sweptEntry, freeingAfter, sweepFrom, sweep}
 use Rattle.rules.specs.Calls.{blocksFor, taken, placing, allocate, free, collecting, collect, survey, load}
-use Rattle.rules.specs.Runs.{Collect, Turn, step, after, answers}
-use Rattle.rules.specs.Meaning.{Accepted}
+use Rattle.rules.specs.Runs.{Collect, Turn, step}
+use Rattle.rules.specs.Memory.{Memory, heapIn, AcceptedIn, orRefused, perform, turnIn, afterIn, answersIn}
 use Rattle.rules.proofs.Below.{allBelow, below}
 use Rattle.rules.proofs.Marking.{head-inside}
+use Rattle.rules.proofs.Memory.{packed-faithful}
 use Rattle.keeping.specs.Keeping.{marking, collected, Agree}
 use Rattle.keeping.proofs.Owners.{reachable-head}
 use Rattle.keeping.proofs.Kept.{collected-kept}
 use Rattle.runs.specs.Noninterference.{SameStacks, Alike, done, next, SameAnswers, Indistinct}
 use Rattle.runs.specs.Unseen.{callsOf, stackLengths}
-use Rattle.runs.specs.Samples.{sampleBase, sampleTable, sampleRoots, firstPool, secondPool, thirdPool, firstHeap, secondHeap, thirdHeap, firstCalls, secondCalls, loadingCalls}
+use Rattle.runs.specs.Samples.{sampleBase, sampleTable, sampleRoots, firstPool, secondPool, thirdPool, firstMemory, secondMemory, thirdMemory, firstCalls, secondCalls, loadingCalls}
 use Rattle.runs.proofs.Noninterference.{noninterference}
 use Rattle.runs.proofs.Conclusions.{answer-but-rescans, answers-later, same-tables, same-words}
 use Rattle.runs.proofs.Hypotheses.{stacks-good, alike-long, agree-of, also-accepted}
@@ -57,6 +59,16 @@ agree-tested base h h′ roots well table t =
 
 -- ---- what is computed
 
+-- the heaps in the three memories
+abbrev pub firstHeap : Heap
+firstHeap = heapIn packed firstMemory
+
+abbrev pub secondHeap : Heap
+secondHeap = heapIn packed secondMemory
+
+abbrev pub thirdHeap : Heap
+thirdHeap = heapIn packed thirdMemory
+
 -- the answers of the first heap after its first collection
 abbrev pub laterAnswers : List Answer
 laterAnswers = onlyRefusal 7 ∷ onlyRefusal 1 ∷ loaded 0xDEAD_BEEF ∷ placedAt 1 (pos 2) ∷ loaded 0 ∷ collectedTo 5 1 (negℤ (pos 2)) ∷ surveyed 8 5 2 ∷ []
@@ -70,18 +82,18 @@ pub record Computed : Type 0 where
   pub first-bytes : getD firstPool 16 0 ∷ getD firstPool 79 0 ∷ getD firstPool 127 0 ∷ [] ≡ 0 ∷ 0 ∷ 0 ∷ []
   pub second-bytes : getD secondPool 16 0 ∷ getD secondPool 79 0 ∷ getD secondPool 127 0 ∷ [] ≡ 112 ∷ 255 ∷ 32 ∷ []
   -- what the first answers, and the table and the last word of g that it is left with
-  pub first-answers : answers firstCalls firstHeap ≡ collectedTo 5 2 (negℤ (pos 3)) ∷ laterAnswers
-  pub first-table : tableOf (after firstCalls firstHeap .entries) ≡ 65 ∷ 36 ∷ 165 ∷ []
-  pub first-used : entryAt (after firstCalls firstHeap .entries) 11 ≡ TAIL
-  pub first-word : wordAt (after firstCalls firstHeap .pool) 47 ≡ 0xDEAD_BEEF
+  pub first-answers : answersIn packed firstCalls firstMemory ≡ collectedTo 5 2 (negℤ (pos 3)) ∷ laterAnswers
+  pub first-table : afterIn packed firstCalls firstMemory .table ≡ 65 ∷ 36 ∷ 165 ∷ []
+  pub first-used : entryAt (entriesOf (afterIn packed firstCalls firstMemory .table)) 11 ≡ TAIL
+  pub first-word : wordAt (afterIn packed firstCalls firstMemory .pool) 47 ≡ 0xDEAD_BEEF
   -- three entries are enough for the second
-  pub second-rescans : step (Collect sampleBase sampleRoots) (replicate 12 9) secondHeap .answer .rescans ≡ 0
+  pub second-rescans : perform packed (Collect sampleBase sampleRoots) (replicate 12 9) secondMemory .answer .rescans ≡ 0
   -- the first and the third answer a load differently
-  pub first-loads : answers loadingCalls firstHeap ≡ collectedTo 5 2 (negℤ (pos 3)) ∷ loaded 0xDEAD_BEEF ∷ []
-  pub third-loads : answers loadingCalls thirdHeap ≡ collectedTo 5 2 (negℤ (pos 3)) ∷ loaded 0x00AD_BEEF ∷ []
+  pub first-loads : answersIn packed loadingCalls firstMemory ≡ collectedTo 5 2 (negℤ (pos 3)) ∷ loaded 0xDEAD_BEEF ∷ []
+  pub third-loads : answersIn packed loadingCalls thirdMemory ≡ collectedTo 5 2 (negℤ (pos 3)) ∷ loaded 0x00AD_BEEF ∷ []
 
 pub computed : Computed
-unfolding agreeIn agreeTest marking collected count leading tabulate number bytesOf wordAt withWord wordsOf entryOf entriesOf tableOf mayFollow wellAfter wellFormed blockCount freeFrom fits firstFrom firstRun placed used objects longest addressOf goodBase targetOf headsObject headAt leadsTo changeFrom unlessRefused clearedBlocks firstOf goodShape wholeWords pushed visitTo visit walkWords walk drainFor drain trace rootTo markRoot markRoots passBlock passFrom pass rescanFor rescan markAll sweptEntry freeingAfter sweepFrom sweep blocksFor taken placing allocate collecting collect free survey load step after answers
+unfolding agreeIn agreeTest marking collected count leading tabulate number bytesOf wordAt withWord wordsOf entryOf entriesOf tableOf mayFollow wellAfter wellFormed blockCount freeFrom fits firstFrom firstRun placed used objects longest addressOf goodBase targetOf headsObject headAt leadsTo changeFrom unlessRefused clearedBlocks firstOf goodShape wholeWords pushed visitTo visit walkWords walk drainFor drain trace rootTo markRoot markRoots passBlock passFrom pass rescanFor rescan markAll sweptEntry freeingAfter sweepFrom sweep blocksFor taken placing allocate collecting collect free survey load step orRefused perform afterIn answersIn
 computed =
     record {
       well = refl;
@@ -109,9 +121,9 @@ firstRefusal [] = 0
 firstRefusal (a ∷ xs) = a .refusal
 
 -- a first answer that is accepted
-accepted : (t : Turn) (ts : List Turn) (h : Heap) (a : Answer) (xs : List Answer) → answers (t ∷ ts) h ≡ a ∷ xs → a .refusal ≡ 0 → Accepted (step (t .call) (t .stack) h)
-unfolding answers firstRefusal
-accepted t ts h a xs e z = ap firstRefusal e ∙ z
+accepted : (t : Turn) (ts : List Turn) (m : Memory) (a : Answer) (xs : List Answer) → answersIn packed (t ∷ ts) m ≡ a ∷ xs → a .refusal ≡ 0 → AcceptedIn (turnIn packed t m)
+unfolding answersIn firstRefusal
+accepted t ts m a xs e z = ap firstRefusal e ∙ z
 
 -- ---- two heaps that differ in bytes of unreachable objects and of a free block
 
@@ -129,29 +141,28 @@ pub first-second-agree : Agree sampleBase (wordsOf sampleRoots) firstHeap second
 first-second-agree = agree-tested sampleBase firstHeap secondHeap (wordsOf sampleRoots) (computed .well) refl (computed .tested)
 
 -- so they are not told apart: the second collection is accepted because the first is
-pub first-second-indistinct : Indistinct firstCalls secondCalls firstHeap secondHeap
-unfolding step
+pub first-second-indistinct : Indistinct packed firstCalls secondCalls firstMemory secondMemory
 first-second-indistinct =
-    let x = accepted _ _ firstHeap _ _ (computed .first-answers) refl in
-    noninterference sampleBase sampleTable sampleRoots firstPool secondPool [] (replicate 12 9) _ _ first-second-agree samples-alike
-    x (also-accepted sampleBase sampleRoots (firstHeap .entries) firstPool secondPool [] (replicate 12 9) (computed .long) samples-stacks x)
+    let x = accepted _ _ firstMemory _ _ (computed .first-answers) refl in
+    noninterference packed packed-faithful sampleBase sampleTable sampleRoots firstPool secondPool [] (replicate 12 9) _ _ first-second-agree samples-alike
+    x (also-accepted packed packed-faithful sampleBase sampleTable sampleRoots firstPool secondPool [] (replicate 12 9) (computed .long) samples-stacks x)
 
 -- so the second answers, with some number of rescans of its first collection
-pub second-answers : (r : ℕ) × (answers secondCalls secondHeap ≡ collectedTo 5 r (negℤ (pos 3)) ∷ laterAnswers)
+pub second-answers : (r : ℕ) × (answersIn packed secondCalls secondMemory ≡ collectedTo 5 r (negℤ (pos 3)) ∷ laterAnswers)
 unfolding stackLengths bytesOf
 second-answers = answers-later (rw (computed .first-answers) at (first-second-indistinct .same-answers)) refl
 
 -- the table which it is left with
-pub second-table : tableOf (after secondCalls secondHeap .entries) ≡ 65 ∷ 36 ∷ 165 ∷ []
+pub second-table : afterIn packed secondCalls secondMemory .table ≡ 65 ∷ 36 ∷ 165 ∷ []
 second-table = sym (same-tables first-second-indistinct) ∙ computed .first-table
 
 -- and the last word of g
-pub second-word : wordAt (after secondCalls secondHeap .pool) 47 ≡ 0xDEAD_BEEF
+pub second-word : wordAt (afterIn packed secondCalls secondMemory .pool) 47 ≡ 0xDEAD_BEEF
 second-word = sym (same-words first-second-indistinct 11 (λ f. let e = computed .first-used in omega arith) 3 (omega arith)) ∙ computed .first-word
 
 -- the rescans do differ: 2 and 0
-pub rescans-differ : answers firstCalls firstHeap ≢ answers secondCalls secondHeap
-unfolding answers firstRescans
+pub rescans-differ : answersIn packed firstCalls firstMemory ≢ answersIn packed secondCalls secondMemory
+unfolding answersIn firstRescans
 rescans-differ e =
     let a = ap firstRescans (computed .first-answers) in
     let b = computed .second-rescans in
@@ -165,7 +176,7 @@ second-same : {t u t′ u′ : Turn} {a b c d : Answer} → SameAnswers (t ∷ u
 second-same (next _ (next x done)) = ap (λ (a : Answer). a .value) (answer-but-rescans x)
 
 -- a load tells them apart
-pub first-third-distinct : Indistinct loadingCalls loadingCalls firstHeap thirdHeap → ⊥
+pub first-third-distinct : Indistinct packed loadingCalls loadingCalls firstMemory thirdMemory → ⊥
 first-third-distinct same =
     let e = second-same (rw (computed .first-loads, computed .third-loads) at (same .same-answers)) in
     omega arith
@@ -174,5 +185,5 @@ first-third-distinct same =
 pub first-third-disagree : Agree sampleBase (wordsOf sampleRoots) firstHeap thirdHeap → ⊥
 first-third-disagree agree =
     first-third-distinct
-    (noninterference sampleBase sampleTable sampleRoots firstPool thirdPool [] [] _ _ agree (alike-long _ _ refl refl)
-    (accepted _ _ firstHeap _ _ (computed .first-loads) refl) (accepted _ _ thirdHeap _ _ (computed .third-loads) refl))
+    (noninterference packed packed-faithful sampleBase sampleTable sampleRoots firstPool thirdPool [] [] _ _ agree (alike-long _ _ refl refl)
+    (accepted _ _ firstMemory _ _ (computed .first-loads) refl) (accepted _ _ thirdMemory _ _ (computed .third-loads) refl))

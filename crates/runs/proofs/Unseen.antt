@@ -3,17 +3,15 @@
 -- Assumes nothing.
 use mathlib.Core.Path.{_≡_}
 use lib.ListN.{length}
-use Rattle.rules.specs.Entries.{entriesOf}
-use Rattle.rules.specs.Runs.{step}
 use Rattle.runs.specs.Unseen.{stackLengths, Unseen}
 use Rattle.runs.proofs.Noninterference.{noninterference}
 use Rattle.runs.proofs.Hypotheses.{stacks-long, alike-long, also-accepted}
-use Rattle.runs.proofs.Conclusions.{same-lists, same-tables, same-words}
+use Rattle.runs.proofs.Conclusions.{same-lists, same-buffers, same-tables, same-words}
 
 pub unseen : Unseen
-unfolding step stackLengths
-unseen base table roots pool pool′ stack stack′ ts us long agree calls lengths x =
+unfolding stackLengths
+unseen f faithful base table roots pool pool′ stack stack′ ts us long agree calls lengths x =
     let l : length stack ≡ length stack′ = cc in
-    let x′ = also-accepted base roots (entriesOf table) pool pool′ stack stack′ long (stacks-long stack stack′ l) x in
-    let same = noninterference base table roots pool pool′ stack stack′ ts us agree (alike-long _ _ calls lengths) x x′ in
-    record { lists = same-lists same lengths; tables = same-tables same; words = same-words same }
+    let x′ = also-accepted f faithful base table roots pool pool′ stack stack′ long (stacks-long stack stack′ l) x in
+    let same = noninterference f faithful base table roots pool pool′ stack stack′ ts us agree (alike-long _ _ calls lengths) x x′ in
+    record { lists = same-lists same lengths; buffers = same-buffers same; tables = same-tables same; words = same-words same }

@@ -1,6 +1,7 @@
 -- Noninterference: what is not reachable has no influence, as one statement about whole lists of calls.
 -- Two heaps have the same table, and pools that agree on the objects reachable from a root list. Both are collected from that list.
--- From then on no list of calls, made alike on both, tells them apart: not by an answer, not by the table, not by a byte of an allocated block.
+-- From then on no list of calls, made alike on both, tells them apart: not by an answer, not by what a call writes into a buffer, not by a byte of
+-- the table, not by a byte of an allocated block. Both heaps are in lent memory, in bytes: each is read from its memory by the form of the table.
 -- Assumes nothing.
 use mathlib.Core.Path.{_≡_}
 use mathlib.Core.Logic.{_≢_}
@@ -10,9 +11,10 @@ use lib.ListN.{length, getD}
 use Rattle.rules.specs.Words.{wordsOf}
 use Rattle.rules.specs.Entries.{FREE}
 use Rattle.rules.specs.Tables.{entryAt}
-use Rattle.rules.specs.Outcomes.{Heap, Answer, heapOf}
-use Rattle.rules.specs.Runs.{Call, Collect, step, Turn, after, answers}
-use Rattle.rules.specs.Meaning.{Accepted}
+use Rattle.rules.specs.Forms.{Form, Faithful}
+use Rattle.rules.specs.Outcomes.{Answer}
+use Rattle.rules.specs.Runs.{Call, Collect, Turn}
+use Rattle.rules.specs.Memory.{Memory, memory, heapIn, AcceptedIn, perform, afterIn, answersIn, filledIn}
 use Rattle.keeping.specs.Keeping.{Agree, butRescans, GoodStack}
 
 -- ---- calls that are made alike
@@ -48,31 +50,36 @@ pub data SameAnswers : List Turn → List Turn → List Answer → List Answer �
   next : {call : Call} {stack stack′ : List ℕ} {ts us : List Turn} {a b : Answer} {xs ys : List Answer} → SameAnswer stack stack′ a b call
       → SameAnswers ts us xs ys → SameAnswers (turn call stack ∷ ts) (turn call stack′ ∷ us) (a ∷ xs) (b ∷ ys)
 
--- the calls ts on the heap h and the calls us on the heap h′, each call on what the one before left, do not tell the heaps apart
-pub record Indistinct (ts us : List Turn) (h h′ : Heap) : Type 0 where
+-- the calls ts on the memory m and the calls us on the memory m′, each call on what the one before left, do not tell the heaps in them apart
+pub record Indistinct (f : Form) (ts us : List Turn) (m m′ : Memory) : Type 0 where
   -- all answers are the same
-  pub same-answers : SameAnswers ts us (answers ts h) (answers us h′)
-  -- after the list, so are the tables: equal entries are equal bytes (TableIsEntries of rules)
-  pub same-table : after ts h .entries ≡ after us h′ .entries
-  -- and every byte of an allocated block
-  pub same-bytes : (k : ℕ) → entryAt (after ts h .entries) k ≢ FREE → (j : ℕ) → j < 16 → getD (after ts h .pool) (16 * k + j) 0 ≡ getD (after us h′ .pool) (16 * k + j) 0
+  pub same-answers : SameAnswers ts us (answersIn f ts m) (answersIn f us m′)
+  -- and so is what the calls wrote into buffers that were lent for it
+  pub same-filled : filledIn f ts m ≡ filledIn f us m′
+  -- after the list the tables are the same, byte by byte
+  pub same-table : afterIn f ts m .table ≡ afterIn f us m′ .table
+  -- and so is every byte of an allocated block
+  pub same-bytes : (k : ℕ) → entryAt (f .read (afterIn f ts m .table)) k ≢ FREE → (j : ℕ) → j < 16
+      → getD (afterIn f ts m .pool) (16 * k + j) 0 ≡ getD (afterIn f us m′ .pool) (16 * k + j) 0
 
 -- ---- the statement
 
 abbrev pub Noninterference : Type 0
 Noninterference =
+    -- the form of the tables: any in which bytes and entries say the same
+    (f : Form) → Faithful f →
     -- one base, one table and one root list, in bytes, for both heaps; for each heap a pool, a mark stack for the collection, and the calls that follow it
     (base : ℕ) (table roots pool pool′ stack stack′ : List ℕ) (ts us : List Turn) →
-    let h : Heap = heapOf pool table in
-    let h′ : Heap = heapOf pool′ table in
+    let m : Memory = memory pool table in
+    let m′ : Memory = memory pool′ table in
     let first : Turn = turn (Collect base roots) stack in
     let first′ : Turn = turn (Collect base roots) stack′ in
     -- the heaps are equal in every byte of the objects reachable from the root list, whatever their other bytes hold
-    Agree base (wordsOf roots) h h′
+    Agree base (wordsOf roots) (heapIn f m) (heapIn f m′)
     -- both are collected from that list, and then called alike, by any calls on any bases, refused ones included
     → Alike (first ∷ ts) (first′ ∷ us)
-    -- the collection is accepted on both. So the table is well-formed, and each pool suits it
-    → Accepted (step (Collect base roots) stack h)
-    → Accepted (step (Collect base roots) stack′ h′)
+    -- the collection is accepted on both. So the table is as its form asks and well-formed, and each pool suits it
+    → AcceptedIn (perform f (Collect base roots) stack m)
+    → AcceptedIn (perform f (Collect base roots) stack′ m′)
     -- then the calls, that collection among them, do not tell the heaps apart
-    → Indistinct (first ∷ ts) (first′ ∷ us) h h′
+    → Indistinct f (first ∷ ts) (first′ ∷ us) m m′

@@ -1,4 +1,4 @@
--- Three heaps of 12 blocks at base 0x20000000, whose tables are the same. A number is a block, an arrow a word that holds an address:
+-- Three heaps of 12 blocks at base 0x20000000, whose tables are the same, in the packed form. A number is a block, an arrow a word that holds an address:
 --
 --     0     1  2     3     4      5  6     7     8     9 10 11
 --    [a]   [b  b]   [c]   free   [d  d]   [e]   [f]   [g  g  g]      roots: d, c
@@ -13,8 +13,8 @@ use lib.ListN.{set, replicate}
 use lib.Seq.{sets}
 use Rattle.rules.specs.Words.{bytesOf, withWord}
 use Rattle.rules.specs.Pointers.{addressOf}
-use Rattle.rules.specs.Outcomes.{Heap, heapOf}
 use Rattle.rules.specs.Runs.{Allocate, Free, Collect, Survey, Load, Turn}
+use Rattle.rules.specs.Memory.{Memory, memory}
 use Rattle.runs.specs.Noninterference.{turn}
 
 abbrev pub sampleBase : ℕ
@@ -39,14 +39,14 @@ secondPool = withWord (withWord (sets firstPool 64 (replicate 16 255)) 4 (addres
 abbrev pub thirdPool : List ℕ
 thirdPool = set firstPool 191 0
 
-abbrev pub firstHeap : Heap
-firstHeap = heapOf firstPool sampleTable
+abbrev pub firstMemory : Memory
+firstMemory = memory firstPool sampleTable
 
-abbrev pub secondHeap : Heap
-secondHeap = heapOf secondPool sampleTable
+abbrev pub secondMemory : Memory
+secondMemory = memory secondPool sampleTable
 
-abbrev pub thirdHeap : Heap
-thirdHeap = heapOf thirdPool sampleTable
+abbrev pub thirdMemory : Memory
+thirdMemory = memory thirdPool sampleTable
 
 -- the calls after the first collection, and the mark stacks of two collections among them
 abbrev pub laterCalls : List ℕ → List ℕ → List Turn
