@@ -3,6 +3,7 @@ pub mod Collections
 pub mod Heaps
 pub mod Memory
 pub mod Noninterference
+pub mod Packed
 pub mod Conclusions
 pub mod Hypotheses
 pub mod Unseen
