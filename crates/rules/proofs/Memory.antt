@@ -11,13 +11,13 @@ use Rattle.rules.specs.Tests.{pick, both, either}
 use Rattle.rules.specs.Entries.{entriesOf, tableOf}
 use Rattle.rules.specs.Forms.{Form, packed, Faithful}
 use Rattle.rules.specs.Outcomes.{Heap, Answer, Outcome, heapOf, onlyRefusal, leavesWith, unlessRefused}
-use Rattle.rules.specs.Refusals.{firstOf}
+use Rattle.rules.specs.Refusals.{test, firstOf}
 use Rattle.rules.specs.Calls.{init, placing, allocate, free, Way, stay, shrink, grow, move, noWay, along, reallocate, collecting, collect, survey, load, store}
 use Rattle.rules.specs.Runs.{Call, Init, Allocate, Free, Reallocate, Collect, Survey, Load, Store, step, Turn, after, answers}
 use Rattle.rules.specs.Memory.{Memory, memory, Sound, heapIn, holding, Result, result, AcceptedIn, stackFor, readsTable, testsIn, orRefused, perform, turnIn, afterIn, answersIn}
 use Rattle.rules.specs.Meaning.{AllBytes}
 use Rattle.rules.proofs.Entries.{length-entriesOf, entriesOf-lt, tableOf-entriesOf, entriesOf-tableOf, entriesOf-injective}
-use Rattle.rules.proofs.Refusals.{both-false}
+use Rattle.rules.proofs.Refusals.{true-not-false, both-false, not-false, first-none}
 use Rattle.rules.proofs.Sizes.{Kept, step-keeps}
 
 -- ---- a call of the rules is accepted, or leaves all as it was
@@ -162,6 +162,42 @@ performed f c stack m = go (firstOf (testsIn f c m (o .answer .refusal))) refl
     go zero e = acted (tests-none f c m (o .answer .refusal) e)
     go (suc r) e = left r refl
 
+either-second : (a b : Bool) → either a b ≡ false → b ≡ false
+either-second true b e = absurd (true-not-false refl e)
+either-second false b e = e
+
+-- none of the tests holds, so the table is as the form asks
+tests-sound : (f : Form) (c : Call) (m : Memory) (r : ℕ) → readsTable c ≡ true → firstOf (testsIn f c m r) ≡ 0 → Sound f m
+tests-sound f c m r reads z =
+    let a = first-none (test 1 _) _ (omega arith) z in
+    let b = first-none (test 2 _) _ (omega arith) (a .1) in
+    let unclean : both (readsTable c) (not (f .clean (m .table))) ≡ false = either-second (eqb r 2) _ (b .0) in
+    record { fits = not-false _ (either-second (eqb r 1) _ (a .0)); clean = not-false _ (rw reads at unclean) }
+
+-- an accepted call found the table as the form asks, if it reads it
+pub accepted-sound : (f : Form) (c : Call) (stack : List ℕ) (m : Memory) → readsTable c ≡ true → AcceptedIn (perform f c stack m) → Sound f m
+unfolding perform orRefused
+accepted-sound f c stack m reads x = tests-sound f c m (o .answer .refusal) reads (go (firstOf (testsIn f c m (o .answer .refusal))) x)
+  where
+    o : Outcome
+    o = step c stack (heapIn f m)
+
+    go : (n : ℕ) → AcceptedIn (orRefused n m (stackFor c stack) (result (o .answer) (holding f m (o .heap)) (o .stack))) → n ≡ 0
+    go zero a = refl
+    go (suc r) a = a
+
+-- no call fills one
+pub none-filled : (f : Form) (c : Call) (stack : List ℕ) (m : Memory) → perform f c stack m .filled ≡ []
+unfolding perform orRefused
+none-filled f c stack m = go (firstOf (testsIn f c m (o .answer .refusal)))
+  where
+    o : Outcome
+    o = step c stack (heapIn f m)
+
+    go : (n : ℕ) → orRefused n m (stackFor c stack) (result (o .answer) (holding f m (o .heap)) (o .stack)) .filled ≡ []
+    go zero = refl
+    go (suc r) = refl
+
 -- ---- lists of calls
 
 -- what every call keeps, if an accepted one gives it
@@ -177,6 +213,10 @@ module _ (f : Form) (faithful : Faithful f) where
   -- on memory that is as the form asks, every call does what the call on the heap does
   pub follows-sound : (c : Call) (stack : List ℕ) (m : Memory) → Sound f m → Follows f (perform f c stack m) (step c stack (heapIn f m))
   follows-sound c stack m s = follows f faithful c stack m (s .fits) (rw (s .clean) (both-false (readsTable c)))
+
+  -- so it is refused by the same number
+  pub refusal-in : (c : Call) (stack : List ℕ) (m : Memory) → Sound f m → perform f c stack m .answer .refusal ≡ step c stack (heapIn f m) .answer .refusal
+  refusal-in c stack m s = ap (λ (a : Answer). a .refusal) (follows-sound c stack m s .answer)
 
   pub sound-next : (c : Call) (stack : List ℕ) (m : Memory) → Sound f m → Sound f (perform f c stack m .memory)
   sound-next c stack m s = kept-by (Sound f) f c stack m (follows-sound c stack m s .sound) s

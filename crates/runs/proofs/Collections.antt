@@ -16,11 +16,11 @@ use Rattle.rules.specs.Entries.{FREE}
 use Rattle.rules.specs.Tables.{entryAt, wellFormed}
 use Rattle.rules.specs.Forms.{Small}
 use Rattle.rules.specs.Outcomes.{Heap}
-use Rattle.rules.specs.Refusals.{firstOf, wholeWords, badLists, illFormed, collectionTests}
+use Rattle.rules.specs.Refusals.{firstOf, wholeWords, goodLists, collectionTests}
 use Rattle.rules.specs.Calls.{collecting, collect}
 use Rattle.rules.specs.Runs.{Collect}
 use Rattle.rules.specs.Meaning.{Accepted}
-use Rattle.rules.proofs.Refusals.{first-none, both-left, not-false, shape-true, accepted-none}
+use Rattle.rules.proofs.Refusals.{both-left, shape-true, accepted-none, first-passed}
 use Rattle.rules.proofs.Matching.{SameByte, Matching, match-sets}
 use Rattle.rules.proofs.Twice.{heap, unless-both, shape-same}
 use Rattle.keeping.specs.Keeping.{collected, Agree}
@@ -71,9 +71,8 @@ module _ (base : ℕ) (roots es p q stack stack′ : List ℕ) (well : wellForme
 suits : (base : ℕ) (h : Heap) (roots stack : List ℕ) → firstOf (collectionTests base h roots stack) ≡ 0
     → (length (h .pool) ≡ 16 * length (h .entries)) × (wellFormed (h .entries) ≡ true)
 suits base h roots stack z =
-    let a = first-none (badLists base h roots stack) _ (omega arith) z in
-    let b = first-none (illFormed h) _ (omega arith) (a .1) in
-    (shape-true base h (both-left _ _ (not-false _ (a .0))) .pool, not-false _ (b .0))
+    let p = first-passed (goodLists base h roots stack) h _ z in
+    (shape-true base h (both-left _ _ (p .0)) .pool, p .1)
 
 pub same-collect : (base : ℕ) (roots es p q stack stack′ : List ℕ) → Matching es p q → SameStacks stack stack′
     → Same (Collect base roots) stack stack′ (collect base (heap p es) roots stack) (collect base (heap q es) roots stack′)

@@ -22,7 +22,7 @@ use Rattle.keeping.proofs.Collections.{acted, collect-from}
 use Rattle.runs.specs.Noninterference.{SameStacks, equally-long, both-good, Alike, done, next}
 use Rattle.runs.specs.Unseen.{callsOf, stackLengths}
 use Rattle.runs.proofs.Collections.{stacks-whole, stacks-short}
-use Rattle.runs.proofs.Memory.{accepted-sound, refusal-in}
+use Rattle.rules.proofs.Memory.{accepted-sound, refusal-in}
 
 -- ---- mark stacks
 

@@ -1,7 +1,6 @@
 pub mod Same
 pub mod Collections
 pub mod Heaps
-pub mod Memory
 pub mod Noninterference
 pub mod Packed
 pub mod Conclusions

@@ -7,10 +7,9 @@ use Rattle.rules.specs.Forms.{Form, Faithful}
 use Rattle.rules.specs.Outcomes.{Heap}
 use Rattle.rules.specs.Runs.{Collect, Turn, after}
 use Rattle.rules.specs.Memory.{Memory, memory, heapIn, Sound, AcceptedIn, perform, turnIn, afterIn, filledIn}
-use Rattle.rules.proofs.Memory.{Written, follows-sound, answers-in, after-in, after-written}
+use Rattle.rules.proofs.Memory.{Written, follows-sound, answers-in, after-in, after-written, accepted-sound, refusal-in, none-filled}
 use Rattle.runs.specs.Noninterference.{Alike, done, next, Indistinct, Noninterference}
 use Rattle.runs.proofs.Heaps.{SameUsed, SameHeaps, heaps-same}
-use Rattle.runs.proofs.Memory.{accepted-sound, refusal-in, none-filled}
 
 -- the buffers, as no call fills any
 buffers-same : (f : Form) {ts us : List Turn} → Alike ts us → (m m′ : Memory) → filledIn f ts m ≡ filledIn f us m′

@@ -11,11 +11,10 @@ use Rattle.rules.specs.Outcomes.{Heap, heapOf}
 use Rattle.rules.specs.Runs.{Collect, step, Turn, after}
 use Rattle.rules.specs.Meaning.{Accepted}
 use Rattle.rules.specs.Memory.{Memory, memory, heapIn, Sound, afterIn}
-use Rattle.rules.proofs.Memory.{packed-faithful, answers-in, after-in}
+use Rattle.rules.proofs.Memory.{packed-faithful, answers-in, after-in, refusal-in}
 use Rattle.keeping.specs.Keeping.{Agree}
 use Rattle.runs.specs.Noninterference.{turn, Alike, Indistinct}
 use Rattle.runs.proofs.Heaps.{SameUsed, SameHeaps}
-use Rattle.runs.proofs.Memory.{refusal-in}
 use Rattle.runs.proofs.Noninterference.{noninterference}
 
 -- every table is as the form asks
