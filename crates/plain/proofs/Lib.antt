@@ -1,3 +1,4 @@
+pub mod Inits
 pub mod Sums
 pub mod Laid
 pub mod Gaps

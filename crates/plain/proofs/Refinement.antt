@@ -16,7 +16,7 @@ use Rattle.rules.proofs.Refusals.{shape-true}
 use Rattle.plain.specs.Objects.{Plain}
 use Rattle.plain.specs.Replies.{reply, replies}
 use Rattle.plain.specs.Refines.{AnswersAsList}
-use Rattle.plain.proofs.Sums.{init-accepted}
+use Rattle.plain.proofs.Inits.{init-accepted}
 use Rattle.plain.proofs.Agrees.{Represents, Agrees}
 use Rattle.plain.proofs.Acts.{empty-laid, init-agrees, survey-agrees, load-agrees, store-agrees}
 use Rattle.plain.proofs.Places.{free-agrees, allocate-agrees}

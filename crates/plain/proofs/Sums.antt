@@ -1,21 +1,20 @@
 -- Used blocks are the sum of the answered changes: each call answers the change that it makes, a refused one none.
 -- Assumes nothing.
 use mathlib.Core.Path.{_≡_, refl, sym, ap, _∙_}
-use mathlib.Core.Bool.{true, not}
+use mathlib.Core.Bool.{not}
 use mathlib.Core.List.{List, [], _∷_}
 use Prim.Native.Nat.{ℕ, zero, suc}
 use lib.IntN.{ℤ, pos, _+ℤ_, +ℤ-idr}
 use lib.ListN.{length, replicate}
 use Rattle.rules.specs.Tables.{used, isFree}
 use Rattle.rules.specs.Entries.{FREE}
-use Rattle.rules.specs.Outcomes.{Heap, Outcome, onlyRefusal, changeFrom, leaves, unlessRefused}
-use Rattle.rules.specs.Refusals.{goodShape, badShape}
+use Rattle.rules.specs.Outcomes.{Heap, Outcome, changeFrom, unlessRefused}
 use Rattle.rules.specs.Calls.{Way, stay, shrink, grow, move, noWay, init, placing, allocate, free, along, reallocate, collecting, collect, survey, load, store}
 use Rattle.rules.specs.Runs.{Call, Init, Allocate, Free, Reallocate, Collect, Survey, Load, Store, Turn, step, after}
 use Rattle.rules.proofs.Lists.{count-none}
-use Rattle.rules.proofs.Refusals.{first-last, accepts}
 use Rattle.rules.proofs.Calls.{sub-add}
 use Rattle.plain.specs.Refines.{counted, changes, UsedIsSum}
+use Rattle.plain.proofs.Inits.{init-accepted}
 
 -- ---- one call
 
@@ -77,12 +76,6 @@ all-sums [] h d s = s
 all-sums (t ∷ ts) h d s =
     let o = step (t .call) (t .stack) h in
     all-sums ts (o .heap) (counted (t .call) (o .answer) d) (step-sums (t .call) (t .stack) h d s)
-
--- an init of a heap of good shape is accepted
-pub init-accepted : (base : ℕ) (h : Heap) → goodShape base h ≡ true
-    → init base h ≡ leaves (onlyRefusal 0) (record { pool = h .pool; entries = replicate (length (h .entries)) FREE })
-unfolding init
-init-accepted base h good = accepts h [] _ (first-last (badShape base h) (rw good))
 
 -- after it nothing is used
 pub used-is-sum : UsedIsSum
