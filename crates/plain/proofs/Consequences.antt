@@ -1,5 +1,5 @@
--- What the theorems come to. The sum of changes is one over the answers; the list's collection keeps the reachable objects in every heap
--- that an init accepts; these are fixed by that, and stand in rising order, each once.
+-- What the theorems come to. No answer depends on the table's form; the sum of changes is one over the answers; the list's collection keeps
+-- the reachable objects of all memory that an init accepts; these are fixed by that, and stand in rising order, each once.
 -- Assumes nothing.
 use mathlib.Core.Path.{_≡_, refl, sym, subst, _∙_}
 use mathlib.Core.Bool.{Bool, true, false, not}
@@ -14,18 +14,33 @@ use Rattle.rules.specs.Tests.{pick, both}
 use Rattle.rules.specs.Words.{wordsOf}
 use Rattle.rules.specs.Pointers.{goodBase}
 use Rattle.rules.specs.Tables.{used}
-use Rattle.rules.specs.Outcomes.{Heap, Answer}
-use Rattle.rules.specs.Refusals.{goodShape, wholeWords}
-use Rattle.rules.specs.Runs.{Collect, Turn, step, after, answers}
+use Rattle.rules.specs.Forms.{Form, Faithful}
+use Rattle.rules.specs.Outcomes.{Answer}
+use Rattle.rules.specs.Refusals.{wholeWords}
+use Rattle.rules.specs.Runs.{Init, Collect, Turn}
+use Rattle.rules.specs.Memory.{Memory, heapIn, AcceptedIn, perform, turnIn, afterIn, answersIn}
 use Rattle.rules.proofs.Refusals.{shape-true}
 use Rattle.plain.specs.Objects.{Object, Plain, end, Rising, done, next}
 use Rattle.plain.specs.Tracing.{isIn, ledTo, trace, among}
 use Rattle.plain.specs.Reaching.{Reachable, root, edge, Keeps}
 use Rattle.plain.specs.Replies.{Reply, refuseIf, collectedBy, reply, left}
-use Rattle.plain.specs.Refines.{fromInit, ListKeepsReachable, counted, changes, UsedIsSum}
+use Rattle.plain.specs.Refines.{fromInit, AnswersAsList, ListKeepsReachable, counted, changes, UsedIsSum}
 use Rattle.plain.proofs.Laid as lie
+use Rattle.plain.proofs.Inits.{init-accepted, init-follows, shape-in}
 use Rattle.plain.proofs.Sums.{used-is-sum}
+use Rattle.plain.proofs.Refinement.{answers-as-list}
 use Rattle.plain.proofs.Reached.{led-member, left-represents, blank-represents, list-keeps-reachable}
+
+-- ---- any form
+
+-- no answer depends on the table's form, nor on what memory held before the init: two memories with as many entries answer alike, each in a form of its own
+pub forms-alike : (f g : Form) → Faithful f → Faithful g → (base : ℕ) (m n : Memory) (ts : List Turn)
+    → AcceptedIn (perform f (Init base) [] m) → AcceptedIn (perform g (Init base) [] n) → length (f .read (m .table)) ≡ length (g .read (n .table))
+    → answersIn f (fromInit base ts) m ≡ answersIn g (fromInit base ts) n
+unfolding AnswersAsList
+forms-alike f g faithful faithful′ base m n ts z z′ same =
+    let p : Plain = record { size = length (f .read (m .table)); objects = [] } in
+    answers-as-list f faithful base m p ts z refl ∙ sym (answers-as-list g faithful′ base n p ts z′ same)
 
 -- ---- the sum of changes
 
@@ -35,28 +50,34 @@ summed [] xs d = d
 summed (t ∷ ts) [] d = d
 summed (t ∷ ts) (a ∷ xs) d = summed ts xs (counted (t .call) a d)
 
+-- it then is 0
+pub init-counted : (f : Form) → Faithful f → (base : ℕ) (m : Memory) (d : ℤ) → AcceptedIn (perform f (Init base) [] m)
+    → counted (Init base) (perform f (Init base) [] m .answer) d ≡ pos 0
+unfolding counted
+init-counted f faithful base m d z = rw (init-follows f faithful base m z .answer, init-accepted base (heapIn f m) (shape-in f base m z)) refl
+
 -- a caller who sees nothing but the answers can add it up
-pub changes-answered : (ts : List Turn) (h : Heap) (d : ℤ) → changes ts h d ≡ summed ts (answers ts h) d
-unfolding changes answers summed
-changes-answered [] h d = refl
-changes-answered (t ∷ ts) h d = let o = step (t .call) (t .stack) h in changes-answered ts (o .heap) (counted (t .call) (o .answer) d)
+pub changes-answered : (f : Form) (ts : List Turn) (m : Memory) (d : ℤ) → changes f ts m d ≡ summed ts (answersIn f ts m) d
+unfolding changes answersIn summed
+changes-answered f [] m d = refl
+changes-answered f (t ∷ ts) m d = let r = turnIn f t m in changes-answered f ts (r .memory) (counted (t .call) (r .answer) d)
 
 -- and then knows how many blocks are used
-pub used-answered : (base : ℕ) (h : Heap) (ts : List Turn) (d : ℤ) → goodShape base h ≡ true
-    → pos (used (after (fromInit base ts) h .entries)) ≡ summed (fromInit base ts) (answers (fromInit base ts) h) d
+pub used-answered : (f : Form) → Faithful f → (base : ℕ) (m : Memory) (ts : List Turn) (d : ℤ) → AcceptedIn (perform f (Init base) [] m)
+    → pos (used (f .read (afterIn f (fromInit base ts) m .table))) ≡ summed (fromInit base ts) (answersIn f (fromInit base ts) m) d
 unfolding UsedIsSum
-used-answered base h ts d good = sym (used-is-sum base h ts d good) ∙ changes-answered (fromInit base ts) h d
+used-answered f faithful base m ts d z = sym (used-is-sum f faithful base m ts d z) ∙ changes-answered f (fromInit base ts) m d
 
 -- ---- what is kept
 
--- any heap that an init accepts, with the calls after it on any base
-pub heap-keeps : (base : ℕ) (h : Heap) (ts : List Turn) (at room : ℕ) (roots : List ℕ) → goodShape base h ≡ true
-    → let os : List Object = left ts (record { size = length (h .entries); objects = [] }) .objects in
+-- any memory that an init accepts, with the calls after it on any base
+pub heap-keeps : (f : Form) (base : ℕ) (m : Memory) (ts : List Turn) (at room : ℕ) (roots : List ℕ) → AcceptedIn (perform f (Init base) [] m)
+    → let os : List Object = left ts (record { size = length (f .read (m .table)); objects = [] }) .objects in
     Keeps at os roots (among (trace (record { base = at; objects = os; room = room }) roots .reached) os)
 unfolding ListKeepsReachable
-heap-keeps base h ts at room roots good =
-    let s = shape-true base h good in
-    list-keeps-reachable (length (h .entries)) ts at room roots (s .some) (s .few)
+heap-keeps f base m ts at room roots z =
+    let s = shape-true base (heapIn f m) (shape-in f base m z) in
+    list-keeps-reachable (length (f .read (m .table))) ts at room roots (s .some) (s .few)
 
 -- an accepted call passes each test, and its reply is what comes after
 passes : (b : Bool) (r : ℕ) (p : Plain) (x : Reply) → 0 < r → refuseIf b r p x .answer .refusal ≡ 0 → refuseIf b r p x ≡ x

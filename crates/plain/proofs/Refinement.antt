@@ -1,4 +1,5 @@
 -- The heap is a plain list: an accepted init makes the heap represent the empty list, and each call after it agrees with the list's rule.
+-- The calls on lent memory are those on the heap in it.
 -- Assumes nothing.
 use mathlib.Core.Path.{_≡_, refl, sym, ap, _∙_}
 use mathlib.Core.Bool.{true}
@@ -12,11 +13,13 @@ use Rattle.rules.specs.Outcomes.{Heap, Answer}
 use Rattle.rules.specs.Refusals.{goodShape}
 use Rattle.rules.specs.Calls.{init}
 use Rattle.rules.specs.Runs.{Call, Init, Allocate, Free, Reallocate, Collect, Survey, Load, Store, Turn, step, answers}
+use Rattle.rules.specs.Memory.{heapIn, perform, answersIn}
 use Rattle.rules.proofs.Refusals.{shape-true}
+use Rattle.rules.proofs.Memory.{answers-in}
 use Rattle.plain.specs.Objects.{Plain}
 use Rattle.plain.specs.Replies.{reply, replies}
 use Rattle.plain.specs.Refines.{AnswersAsList}
-use Rattle.plain.proofs.Inits.{init-accepted}
+use Rattle.plain.proofs.Inits.{init-accepted, init-follows, shape-in}
 use Rattle.plain.proofs.Agrees.{Represents, Agrees}
 use Rattle.plain.proofs.Acts.{empty-laid, init-agrees, survey-agrees, load-agrees, store-agrees}
 use Rattle.plain.proofs.Places.{free-agrees, allocate-agrees}
@@ -47,7 +50,7 @@ all-agree (t ∷ ts) r =
     let a = step-agrees (t .call) (t .stack) r in
     both-same (a .answer) (all-agree ts (a .heap))
 
--- an accepted init, whatever was there before
+-- an init of a good shape, whatever was there before
 first-init : (base : ℕ) (h : Heap) (p : Plain) → goodShape base h ≡ true → p .size ≡ length (h .entries) → Agrees (reply (Init base) [] p) (init base h)
 unfolding reply goodBase addressOf
 first-init base h p good same =
@@ -60,7 +63,8 @@ first-init base h p good same =
     })
 
 pub answers-as-list : AnswersAsList
-unfolding AnswersAsList answers replies step
-answers-as-list base h p ts good same =
-    let a = first-init base h p good same in
-    both-same (a .answer) (all-agree ts (a .heap))
+unfolding AnswersAsList answersIn replies
+answers-as-list f faithful base m p ts z same =
+    let x = init-follows f faithful base m z in
+    let a = first-init base (heapIn f m) p (shape-in f base m z) same in
+    both-same (x .answer ∙ a .answer) (answers-in f faithful ts (perform f (Init base) [] m .memory) (x .sound z) ∙ ap (answers ts) (x .heap) ∙ all-agree ts (a .heap))

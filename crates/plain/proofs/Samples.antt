@@ -11,8 +11,10 @@ use lib.ListN.{replicate, set}
 use Rattle.rules.specs.Entries.{entriesOf}
 use Rattle.rules.specs.Tables.{used}
 use Rattle.rules.specs.Pointers.{addressOf, goodBase}
+use Rattle.rules.specs.Forms.{packed}
 use Rattle.rules.specs.Calls.{blocksFor}
-use Rattle.rules.specs.Runs.{after, answers}
+use Rattle.rules.specs.Memory.{afterIn, answersIn}
+use Rattle.rules.proofs.Memory.{packed-faithful}
 use Rattle.plain.specs.Objects.{Object, object, total, find, lowestGap, insert, replace}
 use Rattle.plain.specs.Tracing.{ledTo, trace, among}
 use Rattle.plain.specs.Reaching.{Reachable, root, edge, Keeps}
@@ -25,18 +27,18 @@ use Rattle.plain.proofs.Consequences.{summed, used-answered, allOf, lea
 
 -- ---- what the heap answers
 
--- as the list does, whatever pool, table and list held before
-pub garbage-answers : answers run garbage ≡ runAnswers
+-- as the list does, whatever memory and list held before
+pub garbage-answers : answersIn packed run garbage ≡ runAnswers
 unfolding AnswersAsList entriesOf
-garbage-answers = answers-as-list runBase garbage twelve (filling ++ ending) (run-accepted .0) refl ∙ run-answers
+garbage-answers = answers-as-list packed packed-faithful runBase garbage twelve (filling ++ ending) (run-accepted .0) refl ∙ run-answers
 
 -- ---- how many blocks are used
 
 -- whatever was counted before the init
-pub garbage-used : used (after run garbage .entries) ≡ 10
+pub garbage-used : used (entriesOf (afterIn packed run garbage .table)) ≡ 10
 unfolding summed counted filling ending runAnswers
 garbage-used =
-    let s = rw garbage-answers at (used-answered runBase garbage (filling ++ ending) (pos 99) (run-accepted .0)) in
+    let s = rw garbage-answers at (used-answered packed packed-faithful runBase garbage (filling ++ ending) (pos 99) (run-accepted .0)) in
     cc
 
 -- ---- what a collection keeps

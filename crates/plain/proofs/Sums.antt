@@ -8,13 +8,16 @@ use lib.IntN.{ℤ, pos, _+ℤ_, +ℤ-idr}
 use lib.ListN.{length, replicate}
 use Rattle.rules.specs.Tables.{used, isFree}
 use Rattle.rules.specs.Entries.{FREE}
+use Rattle.rules.specs.Forms.{Form, Faithful}
 use Rattle.rules.specs.Outcomes.{Heap, Outcome, changeFrom, unlessRefused}
 use Rattle.rules.specs.Calls.{Way, stay, shrink, grow, move, noWay, init, placing, allocate, free, along, reallocate, collecting, collect, survey, load, store}
-use Rattle.rules.specs.Runs.{Call, Init, Allocate, Free, Reallocate, Collect, Survey, Load, Store, Turn, step, after}
+use Rattle.rules.specs.Runs.{Call, Init, Allocate, Free, Reallocate, Collect, Survey, Load, Store, Turn, step}
+use Rattle.rules.specs.Memory.{Memory, Sound, heapIn, perform, turnIn, afterIn}
 use Rattle.rules.proofs.Lists.{count-none}
 use Rattle.rules.proofs.Calls.{sub-add}
+use Rattle.rules.proofs.Memory.{Follows, follows-sound, kept-by}
 use Rattle.plain.specs.Refines.{counted, changes, UsedIsSum}
-use Rattle.plain.proofs.Inits.{init-accepted}
+use Rattle.plain.proofs.Inits.{init-accepted, init-follows, shape-in}
 
 -- ---- one call
 
@@ -68,17 +71,28 @@ step-sums (Survey base) stack h d s = accounted-refused _ h [] _ (accounted-same
 step-sums (Load base k i) stack h d s = accounted-refused _ h [] _ (accounted-same h _ refl refl) .sums d s
 step-sums (Store base k i w) stack h d s = accounted-refused _ h [] _ (accounted-same h _ refl refl) .sums d s
 
--- ---- calls in a row
+-- ---- calls in a row on lent memory
 
-all-sums : (ts : List Turn) (h : Heap) (d : ℤ) → Sums h d → changes ts h d ≡ pos (used (after ts h .entries))
-unfolding changes after
-all-sums [] h d s = s
-all-sums (t ∷ ts) h d s =
-    let o = step (t .call) (t .stack) h in
-    all-sums ts (o .heap) (counted (t .call) (o .answer) d) (step-sums (t .call) (t .stack) h d s)
+module _ (f : Form) (faithful : Faithful f) where
+  -- a call that does what the call on the heap does answers its change too
+  follows-sums : (c : Call) (stack : List ℕ) (m : Memory) (d : ℤ) → Follows f (perform f c stack m) (step c stack (heapIn f m)) → Sums (heapIn f m) d
+      → Sums (heapIn f (perform f c stack m .memory)) (counted c (perform f c stack m .answer) d)
+  follows-sums c stack m d x s = rw (ap (λ (h : Heap). h .entries) (x .heap), x .answer) (step-sums c stack (heapIn f m) d s)
 
--- after it nothing is used
+  all-sums : (ts : List Turn) (m : Memory) (d : ℤ) → Sound f m → Sums (heapIn f m) d → changes f ts m d ≡ pos (used (f .read (afterIn f ts m .table)))
+  unfolding changes afterIn
+  all-sums [] m d sound s = s
+  all-sums (t ∷ ts) m d sound s =
+      let x = follows-sound f faithful (t .call) (t .stack) m sound in
+      all-sums ts (turnIn f t m .memory) (counted (t .call) (turnIn f t m .answer) d) (kept-by (Sound f) f (t .call) (t .stack) m (x .sound) sound)
+      (follows-sums (t .call) (t .stack) m d x s)
+
+-- after an accepted init nothing is used
 pub used-is-sum : UsedIsSum
-unfolding UsedIsSum changes after step counted
-used-is-sum base h ts d good =
-    all-sums ts (init base h .heap) (counted (Init base) (init base h .answer) d) (rw (init-accepted base h good) (ap pos (sym (none-used (length (h .entries))))))
+unfolding UsedIsSum changes afterIn counted
+used-is-sum f faithful base m ts d z =
+    let r = perform f (Init base) [] m in
+    let x = init-follows f faithful base m z in
+    let e = init-accepted base (heapIn f m) (shape-in f base m z) in
+    all-sums f faithful ts (r .memory) (counted (Init base) (r .answer) d) (x .sound z)
+    (rw (ap (λ (h : Heap). h .entries) (x .heap), x .answer, e) (ap pos (sym (none-used (length (f .read (m .table)))))))

@@ -1,7 +1,7 @@
 -- The worked examples 1 to 11 of a heap of 8 blocks at base 4,096, computed on the plain list: each call's answer and the list it leaves. And calls in a row.
 -- Assumes nothing.
 use mathlib.Core.Path.{_≡_, refl}
-use mathlib.Core.Bool.{true, false}
+use mathlib.Core.Bool.{false}
 use mathlib.Core.List.{List, [], _∷_, _++_, map}
 use Prim.Native.Nat.{ℕ, _*_}
 use lib.IntN.{pos}
@@ -11,10 +11,12 @@ use Rattle.rules.specs.Words.{number, bytesOf, wordAt, wordsOf}
 use Rattle.rules.specs.Pointers.{addressOf, goodBase}
 use Rattle.rules.specs.Entries.{entryOf, entriesOf}
 use Rattle.rules.specs.Tables.{mayFollow, wellAfter, wellFormed}
-use Rattle.rules.specs.Outcomes.{Heap, Answer, heapOf, onlyRefusal, placedAt, collectedTo, surveyed, loaded}
-use Rattle.rules.specs.Refusals.{goodShape, wholeWords}
-use Rattle.rules.specs.Calls.{blocksFor}
-use Rattle.rules.specs.Runs.{Call, Init, Allocate, Free, Reallocate, Collect, Survey, Load, Store, Turn}
+use Rattle.rules.specs.Forms.{packed}
+use Rattle.rules.specs.Outcomes.{Answer, unlessRefused, onlyRefusal, placedAt, collectedTo, surveyed, loaded}
+use Rattle.rules.specs.Refusals.{firstOf, goodShape, wholeWords}
+use Rattle.rules.specs.Calls.{blocksFor, init}
+use Rattle.rules.specs.Runs.{Call, Init, Allocate, Free, Reallocate, Collect, Survey, Load, Store, Turn, step}
+use Rattle.rules.specs.Memory.{Memory, memory, AcceptedIn, orRefused, perform}
 use Rattle.rules.specs.Examples.{minus}
 use Rattle.plain.specs.Objects.{Object, object, Plain, total, find, lowestGap, longestGap, nextStart, insert, remove, replace}
 use Rattle.plain.specs.Tracing.{isIn, ledTo, push, followTo, follow, followAll, emptyFor, empty, subtree, fromRootTo, fromRoots, goThrough, again, againFor, trace, among}
@@ -113,12 +115,12 @@ abbrev pub run : List Turn
 run = fromInit runBase (filling ++ ending)
 
 -- before the init: a pool full of ones, and a table that is not even well-formed
-abbrev pub garbage : Heap
-garbage = heapOf (replicate 192 255) (7 ∷ 255 ∷ 170 ∷ [])
+abbrev pub garbage : Memory
+garbage = memory (replicate 192 255) (7 ∷ 255 ∷ 170 ∷ [])
 
 -- the init is accepted all the same
-pub run-accepted : (goodShape runBase garbage ≡ true) × (wellFormed (garbage .entries) ≡ false)
-unfolding goodShape goodBase addressOf entriesOf entryOf mayFollow wellAfter wellFormed
+pub run-accepted : AcceptedIn (perform packed (Init runBase) [] garbage) × (wellFormed (entriesOf (garbage .table)) ≡ false)
+unfolding perform orRefused step init unlessRefused firstOf goodShape goodBase addressOf entriesOf entryOf mayFollow wellAfter wellFormed
 run-accepted = (refl, refl)
 
 -- a list with an object in it

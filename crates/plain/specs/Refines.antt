@@ -1,17 +1,17 @@
--- What the theorems of this crate say. From an accepted init on, any calls in a row, refused ones among them, are answered as the plain list
+-- What the theorems of this crate say. From an accepted init of lent memory on, any calls in a row, refused ones among them, are answered as the plain list
 -- answers them; what the list's collection keeps is what is reachable in it; and the used blocks are the sum of the changes that were answered
--- since the latest accepted init.
+-- since the latest accepted init. How the table's bytes hold entries does not matter: any form will do that is faithful.
 -- Assumes nothing.
 use mathlib.Core.Path.{_≡_}
-use mathlib.Core.Bool.{true}
 use mathlib.Core.List.{List, [], _∷_}
 use Prim.Native.Nat.{ℕ, zero, suc, _≤_}
 use lib.IntN.{ℤ, pos, _+ℤ_}
 use lib.ListN.{length}
 use Rattle.rules.specs.Tables.{used}
-use Rattle.rules.specs.Outcomes.{Heap, Answer}
-use Rattle.rules.specs.Refusals.{goodShape}
-use Rattle.rules.specs.Runs.{Call, Init, Allocate, Free, Reallocate, Collect, Survey, Load, Store, Turn, step, after, answers}
+use Rattle.rules.specs.Forms.{Form, Faithful}
+use Rattle.rules.specs.Outcomes.{Answer}
+use Rattle.rules.specs.Runs.{Call, Init, Allocate, Free, Reallocate, Collect, Survey, Load, Store, Turn}
+use Rattle.rules.specs.Memory.{Memory, AcceptedIn, perform, turnIn, afterIn, answersIn}
 use Rattle.plain.specs.Objects.{Object, Plain}
 use Rattle.plain.specs.Tracing.{trace, among}
 use Rattle.plain.specs.Reaching.{Keeps}
@@ -21,12 +21,13 @@ use Rattle.plain.specs.Replies.{replies, left}
 abbrev pub fromInit : ℕ → List Turn → List Turn
 fromInit base ts = record { call = Init base; stack = [] } ∷ ts
 
--- The heap is a plain list: an init that is accepted, and then any calls with any bases, are answered alike on pool and table and on the list.
--- What pool, table and list held before the init does not matter.
+-- The heap is a plain list: an init that is accepted, and then any calls with any bases, are answered alike on lent memory and on the list.
+-- What memory and list held before the init does not matter.
 unfoldable pub AnswersAsList : Type 0
 AnswersAsList =
-    (base : ℕ) (h : Heap) (p : Plain) (ts : List Turn) → goodShape base h ≡ true → p .size ≡ length (h .entries)
-    → answers (fromInit base ts) h ≡ replies (fromInit base ts) p
+    (f : Form) → Faithful f → (base : ℕ) (m : Memory) (p : Plain) (ts : List Turn)
+    → AcceptedIn (perform f (Init base) [] m) → p .size ≡ length (f .read (m .table))
+    → answersIn f (fromInit base ts) m ≡ replies (fromInit base ts) p
 
 -- A collection of a plain list keeps exactly the reachable objects, whatever calls have made the list of an empty one, and with any mark stack.
 unfoldable pub ListKeepsReachable : Type 0
@@ -47,12 +48,12 @@ counted (Load base k i) a d = d +ℤ a .change
 counted (Store base k i w) a d = d +ℤ a .change
 
 -- the sum of all changes that the calls answer since the latest accepted init, or since d before them
-unfoldable pub changes : List Turn → Heap → ℤ → ℤ
-changes [] h d = d
-changes (t ∷ ts) h d = changes ts (step (t .call) (t .stack) h .heap) (counted (t .call) (step (t .call) (t .stack) h .answer) d)
+unfoldable pub changes : Form → List Turn → Memory → ℤ → ℤ
+changes f [] m d = d
+changes f (t ∷ ts) m d = changes f ts (turnIn f t m .memory) (counted (t .call) (turnIn f t m .answer) d)
 
 -- Used blocks are the sum of the answered changes since the latest accepted init, whatever came before it.
 unfoldable pub UsedIsSum : Type 0
 UsedIsSum =
-    (base : ℕ) (h : Heap) (ts : List Turn) (d : ℤ) → goodShape base h ≡ true
-    → changes (fromInit base ts) h d ≡ pos (used (after (fromInit base ts) h .entries))
+    (f : Form) → Faithful f → (base : ℕ) (m : Memory) (ts : List Turn) (d : ℤ) → AcceptedIn (perform f (Init base) [] m)
+    → changes f (fromInit base ts) m d ≡ pos (used (f .read (afterIn f (fromInit base ts) m .table)))
