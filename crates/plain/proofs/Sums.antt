@@ -1,23 +1,30 @@
--- Used blocks are the sum of the answered changes: each call answers the change that it makes, a refused one none.
+-- Used blocks are the sum of the answered changes: each call answers the change that it makes, a refused one none, and one that starts the sum anew the
+-- blocks that are used after it.
 -- Assumes nothing.
 use mathlib.Core.Path.{_≡_, refl, sym, ap, _∙_}
-use mathlib.Core.Bool.{not}
+use mathlib.Core.Bool.{Bool, true, false, not}
 use mathlib.Core.List.{List, [], _∷_}
 use Prim.Native.Nat.{ℕ, zero, suc}
+use lib.Dec.{eqb}
 use lib.IntN.{ℤ, pos, _+ℤ_, +ℤ-idr}
 use lib.ListN.{length, replicate}
+use native.Mathlib.Omega.{arith}
+use borrow.Author.Tests.{eq-eqb, ne-eqb}
+use Rattle.rules.specs.Tests.{pick, both}
 use Rattle.rules.specs.Tables.{used, isFree}
 use Rattle.rules.specs.Entries.{FREE}
 use Rattle.rules.specs.Forms.{Form, Faithful}
-use Rattle.rules.specs.Outcomes.{Heap, Outcome, changeFrom, unlessRefused}
-use Rattle.rules.specs.Calls.{Way, stay, shrink, grow, move, noWay, init, placing, allocate, free, along, reallocate, collecting, collect, survey, load, store}
+use Rattle.rules.specs.Outcomes.{Heap, Answer, Outcome, onlyRefusal, changeFrom, unlessRefused}
+use Rattle.rules.specs.Calls.{Way, stay, shrink, grow, move, noWay, placing, allocate, free, along, reallocate, collecting, collect, survey, load, store}
 use Rattle.rules.specs.Runs.{Call, Init, Allocate, Free, Reallocate, Collect, Survey, Load, Store, Turn, step}
-use Rattle.rules.specs.Memory.{Memory, Sound, heapIn, perform, turnIn, afterIn}
+use Rattle.rules.specs.Memory.{Memory, Sound, heapIn, AcceptedIn, stackFor, perform, turnIn, afterIn}
+use Rattle.rules.specs.Meaning.{Accepted}
 use Rattle.rules.proofs.Lists.{count-none}
 use Rattle.rules.proofs.Calls.{sub-add}
-use Rattle.rules.proofs.Memory.{Follows, follows-sound, kept-by}
-use Rattle.plain.specs.Refines.{counted, changes, UsedIsSum}
-use Rattle.plain.proofs.Inits.{init-accepted, init-follows, shape-in}
+use Rattle.rules.proofs.Refusals.{true-not-false, both-false}
+use Rattle.rules.proofs.Memory.{Ended, accepted, refused, step-ended, Follows, follows-sound, kept-by}
+use Rattle.plain.specs.Refines.{startsAnew, counted, changes, UsedIsSum}
+use Rattle.plain.proofs.Inits.{passes, follows-accepted, init-accepted, init-shape}
 
 -- ---- one call
 
@@ -53,23 +60,52 @@ none-used : (n : ℕ) → used (replicate n FREE) ≡ 0
 unfolding used
 none-used n = count-none (λ (e : ℕ). not (isFree e)) n FREE refl
 
--- an init starts the sum anew if it is accepted, and leaves all as it was if not
-init-sums : (r : ℕ) (base : ℕ) (h : Heap) (acted : Outcome) (d : ℤ) → used (acted .heap .entries) ≡ 0 → acted .answer .refusal ≡ 0 → Sums h d
-    → Sums (unlessRefused r h [] acted .heap) (counted (Init base) (unlessRefused r h [] acted .answer) d)
-unfolding unlessRefused counted
-init-sums zero base h acted d e a s = rw (a, e)
-init-sums (suc r) base h acted d e a s = s
+-- a call that does not start the sum anew answers the change that it makes
+step-accounted : (c : Call) (stack : List ℕ) (h : Heap) → startsAnew c ≡ false → Accounted h (step c stack h)
+unfolding step allocate free reallocate collect survey load store placing collecting
+step-accounted (Init base) stack h e = absurd (true-not-false refl e)
+step-accounted (Allocate base bytes) stack h e = accounted-refused _ h [] _ (accounted-change h _ refl)
+step-accounted (Free base k) stack h e = accounted-refused _ h [] _ (accounted-change h _ refl)
+step-accounted (Reallocate base k bytes) stack h e = accounted-refused _ h [] _ (accounted-along _ h k _ _)
+step-accounted (Collect base roots) stack h e = accounted-refused _ h stack _ (accounted-change h _ refl)
+step-accounted (Survey base) stack h e = accounted-refused _ h [] _ (accounted-same h _ refl refl)
+step-accounted (Load base k i) stack h e = accounted-refused _ h [] _ (accounted-same h _ refl refl)
+step-accounted (Store base k i w) stack h e = accounted-refused _ h [] _ (accounted-same h _ refl refl)
 
+-- an accepted call that starts it anew answers the blocks that are used after it; an init none
+step-anew : (c : Call) (stack : List ℕ) (h : Heap) → startsAnew c ≡ true → Accepted (step c stack h) → step c stack h .answer .used ≡ used (step c stack h .heap .entries)
+unfolding step
+step-anew (Init base) stack h e z = rw (init-accepted base h (init-shape base h z)) (sym (none-used (length (h .entries))))
+step-anew (Allocate base bytes) stack h e z = absurd (true-not-false e refl)
+step-anew (Free base k) stack h e z = absurd (true-not-false e refl)
+step-anew (Reallocate base k bytes) stack h e z = absurd (true-not-false e refl)
+step-anew (Collect base roots) stack h e z = absurd (true-not-false e refl)
+step-anew (Survey base) stack h e z = absurd (true-not-false e refl)
+step-anew (Load base k i) stack h e z = absurd (true-not-false e refl)
+step-anew (Store base k i w) stack h e z = absurd (true-not-false e refl)
+
+-- the three ways to count an answer: a refused one, one that adds its change, one that starts anew
+module _ (c : Call) (d : ℤ) where
+  counted-refused : (r : ℕ) → counted c (onlyRefusal (suc r)) d ≡ d
+  unfolding counted
+  counted-refused r = ap (λ (b : Bool). pick b (pos 0) (d +ℤ pos 0)) (ap (both (startsAnew c)) (ne-eqb (suc r) 0 (λ e. omega arith)) ∙ both-false (startsAnew c)) ∙ +ℤ-idr d
+
+  counted-change : (a : Answer) → startsAnew c ≡ false → counted c a d ≡ d +ℤ a .change
+  unfolding counted
+  counted-change a e = ap (λ (b : Bool). pick (both b (eqb (a .refusal) 0)) (pos (a .used)) (d +ℤ a .change)) e
+
+  counted-anew : (a : Answer) → startsAnew c ≡ true → a .refusal ≡ 0 → counted c a d ≡ pos (a .used)
+  unfolding counted
+  counted-anew a e z = ap (λ (b : Bool). pick b (pos (a .used)) (d +ℤ a .change)) (ap (λ (t : Bool). both t (eqb (a .refusal) 0)) e ∙ eq-eqb (a .refusal) 0 z)
+
+-- each call
 step-sums : (c : Call) (stack : List ℕ) (h : Heap) (d : ℤ) → Sums h d → Sums (step c stack h .heap) (counted c (step c stack h .answer) d)
-unfolding step counted init allocate free reallocate collect survey load store placing collecting
-step-sums (Init base) stack h d s = init-sums _ base h _ d (none-used (length (h .entries))) refl s
-step-sums (Allocate base bytes) stack h d s = accounted-refused _ h [] _ (accounted-change h _ refl) .sums d s
-step-sums (Free base k) stack h d s = accounted-refused _ h [] _ (accounted-change h _ refl) .sums d s
-step-sums (Reallocate base k bytes) stack h d s = accounted-refused _ h [] _ (accounted-along _ h k _ _) .sums d s
-step-sums (Collect base roots) stack h d s = accounted-refused _ h stack _ (accounted-change h _ refl) .sums d s
-step-sums (Survey base) stack h d s = accounted-refused _ h [] _ (accounted-same h _ refl refl) .sums d s
-step-sums (Load base k i) stack h d s = accounted-refused _ h [] _ (accounted-same h _ refl refl) .sums d s
-step-sums (Store base k i w) stack h d s = accounted-refused _ h [] _ (accounted-same h _ refl refl) .sums d s
+step-sums c stack h d s = go (startsAnew c) refl (step-ended c stack h)
+  where
+    go : (b : Bool) → startsAnew c ≡ b → Ended h (stackFor c stack) (step c stack h) → Sums (step c stack h .heap) (counted c (step c stack h .answer) d)
+    go false e x = counted-change c d (step c stack h .answer) e ∙ step-accounted c stack h e .sums d s
+    go true e (accepted z) = counted-anew c d (step c stack h .answer) e z ∙ ap pos (step-anew c stack h e z)
+    go true e (refused r q) = rw q (counted-refused c d r ∙ s)
 
 -- ---- calls in a row on lent memory
 
@@ -79,6 +115,14 @@ module _ (f : Form) (faithful : Faithful f) where
       → Sums (heapIn f (perform f c stack m .memory)) (counted c (perform f c stack m .answer) d)
   follows-sums c stack m d x s = rw (ap (λ (h : Heap). h .entries) (x .heap), x .answer) (step-sums c stack (heapIn f m) d s)
 
+  -- an accepted call that starts the sum anew, whatever was counted before
+  anew-sums : (c : Call) (stack : List ℕ) (m : Memory) (d : ℤ) → startsAnew c ≡ true → AcceptedIn (perform f c stack m)
+      → Sums (heapIn f (perform f c stack m .memory)) (counted c (perform f c stack m .answer) d)
+  anew-sums c stack m d e z =
+      let x = follows-accepted f c stack m faithful z in
+      let own = passes f c stack m z .own in
+      rw (ap (λ (h : Heap). h .entries) (x .heap), x .answer) (counted-anew c d (step c stack (heapIn f m) .answer) e own ∙ ap pos (step-anew c stack (heapIn f m) e own))
+
   all-sums : (ts : List Turn) (m : Memory) (d : ℤ) → Sound f m → Sums (heapIn f m) d → changes f ts m d ≡ pos (used (f .read (afterIn f ts m .table)))
   unfolding changes afterIn
   all-sums [] m d sound s = s
@@ -87,12 +131,10 @@ module _ (f : Form) (faithful : Faithful f) where
       all-sums ts (turnIn f t m .memory) (counted (t .call) (turnIn f t m .answer) d) (kept-by (Sound f) f (t .call) (t .stack) m (x .sound) sound)
       (follows-sums (t .call) (t .stack) m d x s)
 
--- after an accepted init nothing is used
+-- from an accepted init on
 pub used-is-sum : UsedIsSum
-unfolding UsedIsSum changes afterIn counted
+unfolding UsedIsSum changes afterIn
 used-is-sum f faithful base m ts d z =
     let r = perform f (Init base) [] m in
-    let x = init-follows f faithful base m z in
-    let e = init-accepted base (heapIn f m) (shape-in f base m z) in
-    all-sums f faithful ts (r .memory) (counted (Init base) (r .answer) d) (x .sound z)
-    (rw (ap (λ (h : Heap). h .entries) (x .heap), x .answer, e) (ap pos (sym (none-used (length (f .read (m .table)))))))
+    let x = follows-accepted f (Init base) [] m faithful z in
+    all-sums f faithful ts (r .memory) (counted (Init base) (r .answer) d) (x .sound z) (anew-sums f faithful (Init base) [] m d refl z)

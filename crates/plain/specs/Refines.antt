@@ -3,10 +3,13 @@
 -- since the latest accepted init. How the table's bytes hold entries does not matter: any form will do that is faithful.
 -- Assumes nothing.
 use mathlib.Core.Path.{_≡_}
+use mathlib.Core.Bool.{Bool, true, false}
 use mathlib.Core.List.{List, [], _∷_}
-use Prim.Native.Nat.{ℕ, zero, suc, _≤_}
+use Prim.Native.Nat.{ℕ, _≤_}
+use lib.Dec.{eqb}
 use lib.IntN.{ℤ, pos, _+ℤ_}
 use lib.ListN.{length}
+use Rattle.rules.specs.Tests.{pick, both}
 use Rattle.rules.specs.Tables.{used}
 use Rattle.rules.specs.Forms.{Form, Faithful}
 use Rattle.rules.specs.Outcomes.{Answer}
@@ -36,18 +39,23 @@ ListKeepsReachable =
     → let os : List Object = left ts (record { size = n; objects = [] }) .objects in
     Keeps base os roots (among (trace (record { base = base; objects = os; room = room }) roots .reached) os)
 
--- the sum d of the changes, one answer further; an accepted init starts it anew
-unfoldable pub counted : Call → Answer → ℤ → ℤ
-counted (Init base) a d = elim (a .refusal) [ zero ↦ pos 0 | suc r ↦ d ]
-counted (Allocate base bytes) a d = d +ℤ a .change
-counted (Free base k) a d = d +ℤ a .change
-counted (Reallocate base k bytes) a d = d +ℤ a .change
-counted (Collect base roots) a d = d +ℤ a .change
-counted (Survey base) a d = d +ℤ a .change
-counted (Load base k i) a d = d +ℤ a .change
-counted (Store base k i w) a d = d +ℤ a .change
+-- whether the call fills a whole heap, whatever was there: such a call starts the sum of changes anew
+abbrev pub startsAnew : Call → Bool
+startsAnew (Init base) = true
+startsAnew (Allocate base bytes) = false
+startsAnew (Free base k) = false
+startsAnew (Reallocate base k bytes) = false
+startsAnew (Collect base roots) = false
+startsAnew (Survey base) = false
+startsAnew (Load base k i) = false
+startsAnew (Store base k i w) = false
 
--- the sum of all changes that the calls answer since the latest accepted init, or since d before them
+-- the sum d of the changes, one answer further. An accepted call that starts anew sets it to the used blocks that it answers, which of an init are 0; every other
+-- call adds its change
+unfoldable pub counted : Call → Answer → ℤ → ℤ
+counted c a d = pick (both (startsAnew c) (eqb (a .refusal) 0)) (pos (a .used)) (d +ℤ a .change)
+
+-- the sum of all changes that the calls answer since the latest one that started it anew, or since d before them
 unfoldable pub changes : Form → List Turn → Memory → ℤ → ℤ
 changes f [] m d = d
 changes f (t ∷ ts) m d = changes f ts (turnIn f t m .memory) (counted (t .call) (turnIn f t m .answer) d)
