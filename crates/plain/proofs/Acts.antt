@@ -14,7 +14,7 @@ use Rattle.rules.specs.Words.{wordAt, withWord}
 use Rattle.rules.specs.Entries.{FREE}
 use Rattle.rules.specs.Meaning.{Extent}
 use Rattle.rules.specs.Outcomes.{Heap, unlessRefused}
-use Rattle.rules.specs.Refusals.{firstOf, badShape, outside, noHead, noWord}
+use Rattle.rules.specs.Refusals.{firstOf, goodShape, badShape, outside, noHead, noWord}
 use Rattle.rules.specs.Calls.{init, survey, load, store}
 use Rattle.rules.specs.Runs.{Init, Survey, Load, Store}
 use Rattle.rules.proofs.Words.{length-withWord, wordAt-other}
@@ -37,7 +37,7 @@ module _ {p : Plain} {h : Heap} (r : Represents p h) where
   pub init-agrees : (base : ℕ) (stack : List ℕ) → Agrees (reply (Init base) stack p) (init base h)
   unfolding reply init unlessRefused firstOf
   init-agrees base stack =
-      agree-test r (badShape base h) [] (misplaced base p) [] _ _ (omega arith) (ap not (agree-shape r base))
+      agree-test r (badShape (goodShape base h)) [] (misplaced base p) [] _ _ (omega arith) (ap not (agree-shape r base))
       (λ _. record {
         answer = refl;
         heap = represents-other r _ [] refl (length-replicate (length (h .entries)) FREE) (empty-laid (h .pool) (length (h .entries)));

@@ -3,7 +3,7 @@
 -- Assumes nothing.
 use mathlib.Core.Path.{_≡_, refl, sym, ap, _∙_}
 use mathlib.Core.Bool.{Bool, true, false, not}
-use mathlib.Core.List.{List, [], _∷_}
+use mathlib.Core.List.{List, [], _∷_, _++_}
 use mathlib.Core.Option.{Option, some, none}
 use Prim.Native.Nat.{ℕ, _*_, _≤_, _<_}
 use native.Mathlib.Omega.{arith}
@@ -14,7 +14,7 @@ use Rattle.rules.specs.Pointers.{goodBase}
 use Rattle.rules.specs.Entries.{HEAD}
 use Rattle.rules.specs.Meaning.{Extent}
 use Rattle.rules.specs.Outcomes.{Heap, Outcome, onlyRefusal, changeFrom, unlessRefused}
-use Rattle.rules.specs.Refusals.{Test, firstOf, goodShape, badShape, illFormed, outside, noHead}
+use Rattle.rules.specs.Refusals.{Test, firstOf, goodShape, badShape, illFormed, heapTests, outside, noHead}
 use Rattle.rules.specs.Calls.{placing}
 use Rattle.rules.proofs.Refusals.{first-yes, first-no, refuses}
 use Rattle.plain.specs.Objects.{Object, Plain, find}
@@ -64,9 +64,9 @@ module _ {p : Plain} {h : Heap} (r : Represents p h) where
 
   -- the tests of every call but init: the base suits, and the table is well-formed
   pub agree-heap : (base : ℕ) (ts : List Test) (stack : List ℕ) (acted : Outcome) (x : Reply) → Agrees x (unlessRefused (firstOf ts) h stack acted)
-      → Agrees (refuseIf (misplaced base p) 1 p x) (unlessRefused (firstOf (badShape base h ∷ illFormed h ∷ ts)) h stack acted)
+      → Agrees (refuseIf (misplaced base p) 1 p x) (unlessRefused (firstOf (heapTests base h ++ ts)) h stack acted)
   agree-heap base ts stack acted x f =
-      agree-test (badShape base h) (illFormed h ∷ ts) (misplaced base p) stack acted x (omega arith) (ap not (agree-shape base)) (λ _. agree-well ts stack acted x f)
+      agree-test (badShape (goodShape base h)) (illFormed h ∷ ts) (misplaced base p) stack acted x (omega arith) (ap not (agree-shape base)) (λ _. agree-well ts stack acted x f)
 
   -- the tests of a call that names an object
   pub agree-named : (k : ℕ) (ts : List Test) (acted : Outcome) (f : Object → Reply)

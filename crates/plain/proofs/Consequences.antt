@@ -26,7 +26,7 @@ use Rattle.plain.specs.Reaching.{Reachable, root, edge, Keeps}
 use Rattle.plain.specs.Replies.{Reply, refuseIf, collectedBy, reply, left}
 use Rattle.plain.specs.Refines.{fromInit, AnswersAsList, ListKeepsReachable, counted, changes, UsedIsSum}
 use Rattle.plain.proofs.Laid as lie
-use Rattle.plain.proofs.Inits.{init-accepted, init-follows, shape-in}
+use Rattle.plain.proofs.Inits.{shape-in}
 use Rattle.plain.proofs.Sums.{used-is-sum}
 use Rattle.plain.proofs.Refinement.{answers-as-list}
 use Rattle.plain.proofs.Reached.{led-member, left-represents, blank-represents, list-keeps-reachable}
@@ -49,12 +49,6 @@ unfoldable pub summed : List Turn → List Answer → ℤ → ℤ
 summed [] xs d = d
 summed (t ∷ ts) [] d = d
 summed (t ∷ ts) (a ∷ xs) d = summed ts xs (counted (t .call) a d)
-
--- it then is 0
-pub init-counted : (f : Form) → Faithful f → (base : ℕ) (m : Memory) (d : ℤ) → AcceptedIn (perform f (Init base) [] m)
-    → counted (Init base) (perform f (Init base) [] m .answer) d ≡ pos 0
-unfolding counted
-init-counted f faithful base m d z = rw (init-follows f faithful base m z .answer, init-accepted base (heapIn f m) (shape-in f base m z)) refl
 
 -- a caller who sees nothing but the answers can add it up
 pub changes-answered : (f : Form) (ts : List Turn) (m : Memory) (d : ℤ) → changes f ts m d ≡ summed ts (answersIn f ts m) d

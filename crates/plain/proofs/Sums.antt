@@ -22,9 +22,9 @@ use Rattle.rules.specs.Meaning.{Accepted}
 use Rattle.rules.proofs.Lists.{count-none}
 use Rattle.rules.proofs.Calls.{sub-add}
 use Rattle.rules.proofs.Refusals.{true-not-false, both-false}
-use Rattle.rules.proofs.Memory.{Ended, accepted, refused, step-ended, Follows, follows-sound, kept-by}
+use Rattle.rules.proofs.Memory.{Ended, accepted, refused, step-ended, Follows, follows-sound, kept-by, passes-in, follows-accepted}
 use Rattle.plain.specs.Refines.{startsAnew, counted, changes, UsedIsSum}
-use Rattle.plain.proofs.Inits.{passes, follows-accepted, init-accepted, init-shape}
+use Rattle.plain.proofs.Inits.{init-accepted, init-shape}
 
 -- ---- one call
 
@@ -72,8 +72,8 @@ step-accounted (Survey base) stack h e = accounted-refused _ h [] _ (accounted-s
 step-accounted (Load base k i) stack h e = accounted-refused _ h [] _ (accounted-same h _ refl refl)
 step-accounted (Store base k i w) stack h e = accounted-refused _ h [] _ (accounted-same h _ refl refl)
 
--- an accepted call that starts it anew answers the blocks that are used after it; an init none
-step-anew : (c : Call) (stack : List ℕ) (h : Heap) → startsAnew c ≡ true → Accepted (step c stack h) → step c stack h .answer .used ≡ used (step c stack h .heap .entries)
+-- after an accepted call that starts it anew no block is used
+step-anew : (c : Call) (stack : List ℕ) (h : Heap) → startsAnew c ≡ true → Accepted (step c stack h) → 0 ≡ used (step c stack h .heap .entries)
 unfolding step
 step-anew (Init base) stack h e z = rw (init-accepted base h (init-shape base h z)) (sym (none-used (length (h .entries))))
 step-anew (Allocate base bytes) stack h e z = absurd (true-not-false e refl)
@@ -92,11 +92,11 @@ module _ (c : Call) (d : ℤ) where
 
   counted-change : (a : Answer) → startsAnew c ≡ false → counted c a d ≡ d +ℤ a .change
   unfolding counted
-  counted-change a e = ap (λ (b : Bool). pick (both b (eqb (a .refusal) 0)) (pos (a .used)) (d +ℤ a .change)) e
+  counted-change a e = ap (λ (b : Bool). pick (both b (eqb (a .refusal) 0)) (pos 0) (d +ℤ a .change)) e
 
-  counted-anew : (a : Answer) → startsAnew c ≡ true → a .refusal ≡ 0 → counted c a d ≡ pos (a .used)
+  counted-anew : (a : Answer) → startsAnew c ≡ true → a .refusal ≡ 0 → counted c a d ≡ pos 0
   unfolding counted
-  counted-anew a e z = ap (λ (b : Bool). pick b (pos (a .used)) (d +ℤ a .change)) (ap (λ (t : Bool). both t (eqb (a .refusal) 0)) e ∙ eq-eqb (a .refusal) 0 z)
+  counted-anew a e z = ap (λ (b : Bool). pick b (pos 0) (d +ℤ a .change)) (ap (λ (t : Bool). both t (eqb (a .refusal) 0)) e ∙ eq-eqb (a .refusal) 0 z)
 
 -- each call
 step-sums : (c : Call) (stack : List ℕ) (h : Heap) (d : ℤ) → Sums h d → Sums (step c stack h .heap) (counted c (step c stack h .answer) d)
@@ -119,8 +119,8 @@ module _ (f : Form) (faithful : Faithful f) where
   anew-sums : (c : Call) (stack : List ℕ) (m : Memory) (d : ℤ) → startsAnew c ≡ true → AcceptedIn (perform f c stack m)
       → Sums (heapIn f (perform f c stack m .memory)) (counted c (perform f c stack m .answer) d)
   anew-sums c stack m d e z =
-      let x = follows-accepted f c stack m faithful z in
-      let own = passes f c stack m z .own in
+      let x = follows-accepted f faithful c stack m z in
+      let own = passes-in f c stack m z .own in
       rw (ap (λ (h : Heap). h .entries) (x .heap), x .answer) (counted-anew c d (step c stack (heapIn f m) .answer) e own ∙ ap pos (step-anew c stack (heapIn f m) e own))
 
   all-sums : (ts : List Turn) (m : Memory) (d : ℤ) → Sound f m → Sums (heapIn f m) d → changes f ts m d ≡ pos (used (f .read (afterIn f ts m .table)))
@@ -136,5 +136,5 @@ pub used-is-sum : UsedIsSum
 unfolding UsedIsSum changes afterIn
 used-is-sum f faithful base m ts d z =
     let r = perform f (Init base) [] m in
-    let x = follows-accepted f (Init base) [] m faithful z in
+    let x = follows-accepted f faithful (Init base) [] m z in
     all-sums f faithful ts (r .memory) (counted (Init base) (r .answer) d) (x .sound z) (anew-sums f faithful (Init base) [] m d refl z)

@@ -15,7 +15,7 @@ use Rattle.rules.specs.Words.{wordsOf}
 use Rattle.rules.specs.Entries.{FREE, HEAD, TAIL, MARK}
 use Rattle.rules.specs.Tables.{entryAt}
 use Rattle.rules.specs.Outcomes.{Heap, changeFrom, unlessRefused}
-use Rattle.rules.specs.Refusals.{firstOf, wholeWords, badLists, illFormed, manyRoots, longStack}
+use Rattle.rules.specs.Refusals.{firstOf, wholeWords, badShape, goodLists, illFormed, manyRoots, longStack}
 use Rattle.rules.specs.Marking.{Marked, sweep}
 use Rattle.rules.specs.Calls.{collecting, collect}
 use Rattle.rules.specs.Runs.{Collect}
@@ -121,7 +121,7 @@ module _ {p : Plain} {h : Heap} (r : Represents p h) where
   pub collect-agrees : (base : ℕ) (roots stack : List ℕ) → Agrees (reply (Collect base roots) stack p) (collect base h roots stack)
   unfolding reply collect unlessRefused firstOf
   collect-agrees base roots stack =
-      agree-test r (badLists base h roots stack) (illFormed h ∷ manyRoots roots ∷ longStack stack ∷ []) _ stack _ _ (omega arith)
+      agree-test r (badShape (goodLists base h roots stack)) (illFormed h ∷ manyRoots roots ∷ longStack stack ∷ []) _ stack _ _ (omega arith)
       (ap (λ (t : Bool). not (both t (both (wholeWords roots) (wholeWords stack)))) (agree-shape r base))
       (λ _. agree-well r (manyRoots roots ∷ longStack stack ∷ []) stack _ _
       (agree-test r (manyRoots roots) (longStack stack ∷ []) _ stack _ _ (omega arith) refl

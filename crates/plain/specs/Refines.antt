@@ -50,10 +50,9 @@ startsAnew (Survey base) = false
 startsAnew (Load base k i) = false
 startsAnew (Store base k i w) = false
 
--- the sum d of the changes, one answer further. An accepted call that starts anew sets it to the used blocks that it answers, which of an init are 0; every other
--- call adds its change
+-- the sum d of the changes, one answer further: an accepted call that starts anew sets it to 0, and every other adds its change
 unfoldable pub counted : Call → Answer → ℤ → ℤ
-counted c a d = pick (both (startsAnew c) (eqb (a .refusal) 0)) (pos (a .used)) (d +ℤ a .change)
+counted c a d = pick (both (startsAnew c) (eqb (a .refusal) 0)) (pos 0) (d +ℤ a .change)
 
 -- the sum of all changes that the calls answer since the latest one that started it anew, or since d before them
 unfoldable pub changes : Form → List Turn → Memory → ℤ → ℤ

@@ -19,7 +19,7 @@ use Rattle.rules.specs.Memory.{Memory, memory, heapIn, holding, Result, result,
 use Rattle.rules.specs.Meaning.{Accepted}
 use Rattle.rules.proofs.Entries.{length-entriesOf, entriesOf-replicate, tableOf-entriesOf}
 use Rattle.rules.proofs.Refusals.{true-not-false, both-left, both-right, not-true, not-false, shape-in-bytes}
-use Rattle.rules.proofs.Memory.{tests-none, Performed, acted, left, performed, packed-faithful, follows-sound, sound-next}
+use Rattle.rules.proofs.Memory.{tests-passed, perform-accepted, passes-in, Performed, acted, left, performed, packed-faithful, follows-sound, sound-next}
 use Rattle.promises.specs.Conditions.{First, when}
 use Rattle.promises.specs.Bytes.{OnBytes}
 use Rattle.promises.proofs.Checked.{init-checked, acts}
@@ -56,7 +56,7 @@ number : (f : Form) (c : Call) (stack : List ℕ) (m : Memory)
     (perform f c stack m .answer .refusal)
 unfolding perform
 number f c stack m =
-    rw (answered (firstOf (testsIn f c m r)) m (stackFor c stack) (result (o .answer) (holding f m (o .heap)) (o .stack)) (tests-none f c m r))
+    rw (answered (firstOf (testsIn f c m r)) m (stackFor c stack) (result (o .answer) (holding f m (o .heap)) (o .stack)) (λ z. tests-passed f c m r z .own))
     (first-step (test 1 (either (eqb r 1) long)) _ _ _ refl
     (λ e. ⊎-elim (λ p. inl (eqb-true r 1 p)) (λ p. inr (not-true (f .fits (m .table)) p)) (one-of (eqb r 1) long e))
     (λ e. let q = neither (eqb r 1) long e in ⊎-elim (eqb-false r 1 (q .0)) (λ p. true-not-false (not-false (f .fits (m .table)) (q .1)) p))
@@ -80,19 +80,9 @@ number f c stack m =
 accepted-bytes : (f : Form) (c : Call) (stack : List ℕ) (m : Memory) → AcceptedIn (perform f c stack m)
     → let o : Outcome = step c stack (heapIn f m) in
     Accepted o × (perform f c stack m ≡ result (o .answer) (holding f m (o .heap)) (o .stack))
-unfolding perform orRefused
-accepted-bytes f c stack m z = go (firstOf (testsIn f c m (o .answer .refusal))) refl z
-  where
-    o : Outcome
-    o = step c stack (heapIn f m)
-
-    done : Result
-    done = result (o .answer) (holding f m (o .heap)) (o .stack)
-
-    go : (n : ℕ) → firstOf (testsIn f c m (o .answer .refusal)) ≡ n → AcceptedIn (orRefused n m (stackFor c stack) done)
-        → Accepted o × (orRefused n m (stackFor c stack) done ≡ done)
-    go zero e a = (tests-none f c m (o .answer .refusal) e, refl)
-    go (suc n) e a = absurd (omega arith)
+accepted-bytes f c stack m z =
+    let p = passes-in f c stack m z in
+    (p .own, perform-accepted f c stack m (p .fits) (p .clean) (p .own))
 
 init-zero : (base : ℕ) (pool table : List ℕ) → AcceptedIn (perform packed (Init base) [] (memory pool table))
     → perform packed (Init base) [] (memory pool table) .memory ≡ memory pool (replicate (length table) 0)

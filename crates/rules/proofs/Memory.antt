@@ -8,16 +8,15 @@ use native.Mathlib.Omega.{arith}
 use lib.Dec.{eqb}
 use borrow.Author.Tests.{eqb-true}
 use Rattle.rules.specs.Tests.{pick, both, either}
-use Rattle.rules.specs.Entries.{entriesOf, tableOf}
 use Rattle.rules.specs.Forms.{Form, packed, Faithful}
 use Rattle.rules.specs.Outcomes.{Heap, Answer, Outcome, heapOf, onlyRefusal, leavesWith, unlessRefused}
-use Rattle.rules.specs.Refusals.{test, firstOf}
+use Rattle.rules.specs.Refusals.{firstOf}
 use Rattle.rules.specs.Calls.{init, placing, allocate, free, Way, stay, shrink, grow, move, noWay, along, reallocate, collecting, collect, survey, load, store}
 use Rattle.rules.specs.Runs.{Call, Init, Allocate, Free, Reallocate, Collect, Survey, Load, Store, step, Turn, after, answers}
 use Rattle.rules.specs.Memory.{Memory, memory, Sound, heapIn, holding, Result, result, AcceptedIn, stackFor, readsTable, testsIn, orRefused, perform, turnIn, afterIn, answersIn}
 use Rattle.rules.specs.Meaning.{AllBytes}
 use Rattle.rules.proofs.Entries.{length-entriesOf, entriesOf-lt, tableOf-entriesOf, entriesOf-tableOf, entriesOf-injective}
-use Rattle.rules.proofs.Refusals.{true-not-false, both-false, not-false, first-none}
+use Rattle.rules.proofs.Refusals.{both-false, not-false}
 use Rattle.rules.proofs.Sizes.{Kept, step-keeps}
 
 -- ---- a call of the rules is accepted, or leaves all as it was
@@ -64,6 +63,30 @@ tests-own f c m r fits clean = rw (fits, clean) (go (eqb r 1) (eqb r 2) (eqb r 0
     go false false true p q s = sym (eqb-true r 0 s)
     go false false false p q s = refl
 
+-- none of the tests holds, where a and b are those of the call on the heap, and d and e those of the form
+none-holds : (a b d e : Bool) (r : ℕ) → pick (either a (not d)) 1 (pick (either b e) 2 (pick (not (eqb r 0)) r 0)) ≡ 0 → (d ≡ true) × (e ≡ false) × (r ≡ 0)
+none-holds true b d e r z = absurd (omega arith)
+none-holds false b false e r z = absurd (omega arith)
+none-holds false true true e r z = absurd (omega arith)
+none-holds false false true true r z = absurd (omega arith)
+none-holds false false true false r z = (refl, refl, go (eqb r 0) refl z)
+  where
+    go : (t : Bool) → eqb r 0 ≡ t → pick (not t) r 0 ≡ 0 → r ≡ 0
+    go true q z = eqb-true r 0 q
+    go false q z = z
+
+-- then neither the form nor the call on the heap refuses
+pub record Passes (f : Form) (c : Call) (m : Memory) (r : ℕ) : Type 0 where
+  pub fits : f .fits (m .table) ≡ true
+  pub clean : both (readsTable c) (not (f .clean (m .table))) ≡ false
+  pub own : r ≡ 0
+
+pub tests-passed : (f : Form) (c : Call) (m : Memory) (r : ℕ) → firstOf (testsIn f c m r) ≡ 0 → Passes f c m r
+unfolding firstOf
+tests-passed f c m r z =
+    let n = none-holds (eqb r 1) (eqb r 2) (f .fits (m .table)) (both (readsTable c) (not (f .clean (m .table)))) r z in
+    record { fits = n .0; clean = n .1; own = n .2 }
+
 -- ---- a call on memory to which the form adds no refusal
 
 module _ (f : Form) (c : Call) (stack : List ℕ) (m : Memory) (fits : f .fits (m .table) ≡ true) (clean : both (readsTable c) (not (f .clean (m .table))) ≡ false) where
@@ -80,6 +103,26 @@ module _ (f : Form) (c : Call) (stack : List ℕ) (m : Memory) (fits : f .fits (
   pub perform-refused : (r : ℕ) → o ≡ leavesWith (onlyRefusal (suc r)) (heapIn f m) (stackFor c stack) → perform f c stack m ≡ result (onlyRefusal (suc r)) m (stackFor c stack)
   unfolding perform orRefused
   perform-refused r e = rw (number ∙ ap (λ (x : Outcome). x .answer .refusal) e)
+
+-- ---- an accepted call
+
+pub passes-in : (f : Form) (c : Call) (stack : List ℕ) (m : Memory) → AcceptedIn (perform f c stack m) → Passes f c m (step c stack (heapIn f m) .answer .refusal)
+unfolding perform orRefused
+passes-in f c stack m x = tests-passed f c m (o .answer .refusal) (go (firstOf (testsIn f c m (o .answer .refusal))) x)
+  where
+    o : Outcome
+    o = step c stack (heapIn f m)
+
+    go : (n : ℕ) → AcceptedIn (orRefused n m (stackFor c stack) (result (o .answer) (holding f m (o .heap)) (o .stack))) → n ≡ 0
+    go zero a = refl
+    go (suc r) a = a
+
+-- if it reads the table, that was as the form asks
+pub accepted-sound : (f : Form) (c : Call) (stack : List ℕ) (m : Memory) → readsTable c ≡ true → AcceptedIn (perform f c stack m) → Sound f m
+accepted-sound f c stack m reads x =
+    let p = passes-in f c stack m x in
+    let unclean : not (f .clean (m .table)) ≡ false = rw reads at (p .clean) in
+    record { fits = p .fits; clean = not-false _ unclean }
 
 -- ---- the calls on memory are those on the heap in it
 
@@ -131,20 +174,12 @@ module _ (f : Form) (faithful : Faithful f) (c : Call) (stack : List ℕ) (m : M
       go (refused r q) =
           rw (perform-refused f c stack m fits clean r q, q) (record { answer = refl; heap = refl; sound = λ z. absurd (omega arith); written = λ z. absurd (omega arith) })
 
--- ---- a call on memory is accepted, or leaves every byte as it was
+-- an accepted call does, whether or not the table was clean before
+pub follows-accepted : (f : Form) → Faithful f → (c : Call) (stack : List ℕ) (m : Memory) → AcceptedIn (perform f c stack m)
+    → Follows f (perform f c stack m) (step c stack (heapIn f m))
+follows-accepted f faithful c stack m z = let p = passes-in f c stack m z in follows f faithful c stack m (p .fits) (p .clean)
 
-pub tests-none : (f : Form) (c : Call) (m : Memory) (r : ℕ) → firstOf (testsIn f c m r) ≡ 0 → r ≡ 0
-unfolding firstOf
-tests-none f c m r = go (eqb r 1) (eqb r 2) (eqb r 0) _ _ refl
-  where
-    go : (a b z d e : Bool) → eqb r 0 ≡ z → pick (either a d) 1 (pick (either b e) 2 (pick (not z) r 0)) ≡ 0 → r ≡ 0
-    go a b true d e q n = eqb-true r 0 q
-    go true b false d e q n = absurd (omega arith)
-    go false true false true e q n = absurd (omega arith)
-    go false true false false e q n = absurd (omega arith)
-    go false false false true e q n = absurd (omega arith)
-    go false false false false true q n = absurd (omega arith)
-    go false false false false false q n = n
+-- ---- a call on memory is accepted, or leaves every byte as it was
 
 pub data Performed (m : Memory) (stack : List ℕ) (x : Result) : Type 0 where
   acted : AcceptedIn x → Performed m stack x
@@ -159,32 +194,8 @@ performed f c stack m = go (firstOf (testsIn f c m (o .answer .refusal))) refl
 
     go : (n : ℕ) → firstOf (testsIn f c m (o .answer .refusal)) ≡ n
         → Performed m (stackFor c stack) (orRefused n m (stackFor c stack) (result (o .answer) (holding f m (o .heap)) (o .stack)))
-    go zero e = acted (tests-none f c m (o .answer .refusal) e)
+    go zero e = acted (tests-passed f c m (o .answer .refusal) e .own)
     go (suc r) e = left r refl
-
-either-second : (a b : Bool) → either a b ≡ false → b ≡ false
-either-second true b e = absurd (true-not-false refl e)
-either-second false b e = e
-
--- none of the tests holds, so the table is as the form asks
-tests-sound : (f : Form) (c : Call) (m : Memory) (r : ℕ) → readsTable c ≡ true → firstOf (testsIn f c m r) ≡ 0 → Sound f m
-tests-sound f c m r reads z =
-    let a = first-none (test 1 _) _ (omega arith) z in
-    let b = first-none (test 2 _) _ (omega arith) (a .1) in
-    let unclean : both (readsTable c) (not (f .clean (m .table))) ≡ false = either-second (eqb r 2) _ (b .0) in
-    record { fits = not-false _ (either-second (eqb r 1) _ (a .0)); clean = not-false _ (rw reads at unclean) }
-
--- an accepted call found the table as the form asks, if it reads it
-pub accepted-sound : (f : Form) (c : Call) (stack : List ℕ) (m : Memory) → readsTable c ≡ true → AcceptedIn (perform f c stack m) → Sound f m
-unfolding perform orRefused
-accepted-sound f c stack m reads x = tests-sound f c m (o .answer .refusal) reads (go (firstOf (testsIn f c m (o .answer .refusal))) x)
-  where
-    o : Outcome
-    o = step c stack (heapIn f m)
-
-    go : (n : ℕ) → AcceptedIn (orRefused n m (stackFor c stack) (result (o .answer) (holding f m (o .heap)) (o .stack))) → n ≡ 0
-    go zero a = refl
-    go (suc r) a = a
 
 -- no call fills one
 pub none-filled : (f : Form) (c : Call) (stack : List ℕ) (m : Memory) → perform f c stack m .filled ≡ []

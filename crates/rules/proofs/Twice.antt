@@ -8,7 +8,7 @@ use native.Mathlib.Omega.{arith}
 use native.Mathlib.Decide.{ℕ-discrete, decLt}
 use lib.ListN.{length, getD, set, take, drop, replicate, length-replicate, length-append, length-take, length-drop}
 use lib.Seq.{sets, ext-getD, getD-take, getD-drop, length-take-le, getD-set-same, getD-set-other, set-out}
-use borrow.Author.Tests.{eqb-false, leb-false}
+use borrow.Author.Tests.{leb-false}
 use Rattle.rules.specs.Words.{bytesOf, wordAt, withWord}
 use Rattle.rules.specs.Entries.{FREE}
 use Rattle.rules.specs.Tables.{entryAt, blockCount, placed, released}
