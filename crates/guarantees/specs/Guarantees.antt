@@ -15,7 +15,7 @@ use Rattle.plain.specs.Refines.{AnswersAsList, ListKeepsReachable, UsedIsSum}
 use Rattle.guarantees.specs.EntryPoints.{EntryPoints}
 
 pub record Guarantees : Type 2 where
-  -- The rules are those of the papers: the worked examples 1 to 12 come out, the order of the marking shows in its rescans, and words have their lowest byte first.
+  -- The worked examples 1 to 12 come out, the order of the marking shows in its rescans, and words have their lowest byte first.
   pub examples-hold : map (λ (x : Example). x .is) examples ≡ map (λ (x : Example). x .ought) examples
   pub orders-hold : map (λ (x : Example). x .is) orders ≡ map (λ (x : Example). x .ought) orders
   pub words-hold : (wordAt (0 ∷ 16 ∷ 0 ∷ 0 ∷ []) 0 ≡ 4096) × (bytesOf 4096 ≡ 0 ∷ 16 ∷ 0 ∷ 0 ∷ [])

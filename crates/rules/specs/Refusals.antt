@@ -105,7 +105,7 @@ resizeTests base h k bytes = heapTests base h ++ noBytes bytes ∷ nameTests h k
 
 -- of a word of an object: 1 2 6 7 8
 abbrev pub wordTests : ℕ → Heap → ℕ → ℕ → List Test
-wordTests base h k i = heapTests base h ++ outside h k ∷ noHead h k ∷ noWord h k i ∷ []
+wordTests base h k i = heapTests base h ++ nameTests h k ++ noWord h k i ∷ []
 
 -- of a collection: 1 2 3 4
 abbrev pub collectionTests : ℕ → Heap → List ℕ → List ℕ → List Test
