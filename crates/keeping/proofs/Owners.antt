@@ -7,12 +7,11 @@ use mathlib.Core.List.{List}
 use Prim.Native.Nat.{ℕ, zero, suc, _+_, _*_, _-_, _<_}
 use native.Mathlib.Omega.{arith}
 use native.Mathlib.Decide.{ℕ-discrete}
-use Rattle.rules.specs.Entries.{FREE, HEAD, TAIL, MARK, entriesOf}
+use Rattle.rules.specs.Entries.{FREE, HEAD, TAIL, MARK}
 use Rattle.rules.specs.Tables.{entryAt, wellFormed, blockCount}
 use Rattle.rules.specs.Words.{wordAt}
 use Rattle.rules.specs.Outcomes.{Heap}
 use Rattle.rules.specs.Reach.{Reachable, root, edge}
-use Rattle.rules.proofs.Entries.{entriesOf-lt}
 use Rattle.rules.proofs.Marks.{leads-head}
 use Rattle.rules.proofs.Tables.{entry-inside, well-says, extent-of}
 use Rattle.rules.proofs.Marking.{head-inside, mark-inside}
@@ -27,10 +26,6 @@ well-first es w t = well-says es w .first (entry-inside es 0 (λ f. omega arith)
 
 pub well-after : (es : List ℕ) → wellFormed es ≡ true → (k : ℕ) → entryAt es (suc k) ≡ TAIL → entryAt es k ≢ FREE
 well-after es w k t = well-says es w .after k (entry-inside es (suc k) (λ f. omega arith)) t
-
--- a well-formed table in bytes is proper
-pub table-proper : (table : List ℕ) → wellFormed (entriesOf table) ≡ true → Proper (entriesOf table)
-table-proper table w = record { well = w; small = λ k. entriesOf-lt table k }
 
 -- a block of an object is its head, or a TAIL behind it
 pub owns-cases : (es : List ℕ) (o k : ℕ) → Owns es o k → (k ≡ o) ⊎ ((o < k) × (entryAt es k ≡ TAIL))

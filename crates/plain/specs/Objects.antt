@@ -16,7 +16,7 @@ pub record Object : Type 0 where
 abbrev pub object : ℕ → ℕ → List ℕ → Object
 object s b ws = record { start = s; blocks = b; words = ws }
 
--- how many blocks there are, and the objects in them. What is lent beside pool and table would be one more field, which every call carries on unchanged
+-- how many blocks there are, and the objects in them. What is lent beside pool and table would be one more field
 pub record Plain : Type 0 where
   pub size : ℕ
   pub objects : List Object

@@ -11,19 +11,20 @@ use lib.ListN.{length, replicate}
 use borrow.Author.Tests.{eqb-true, eqb-false, eq-eqb}
 use Rattle.rules.specs.Tests.{both, either}
 use Rattle.rules.specs.Entries.{FREE, entriesOf, tableOf}
-use Rattle.rules.specs.Outcomes.{Outcome, heapOf, onlyRefusal}
+use Rattle.rules.specs.Outcomes.{Heap, Outcome, heapOf, onlyRefusal}
 use Rattle.rules.specs.Refusals.{test, firstOf}
-use Rattle.rules.specs.Runs.{Call, Init, step}
-use Rattle.rules.specs.Forms.{Form, packed}
+use Rattle.rules.specs.Runs.{Call, Init, Survey, Load, Store, step}
+use Rattle.rules.specs.Forms.{Form, packed, Faithful}
 use Rattle.rules.specs.Memory.{Memory, memory, heapIn, holding, Result, result, AcceptedIn, stackFor, readsTable, testsIn, orRefused, perform}
-use Rattle.rules.specs.Meaning.{Accepted}
+use Rattle.rules.specs.Meaning.{AllBytes, Accepted}
 use Rattle.rules.proofs.Entries.{length-entriesOf, entriesOf-replicate, tableOf-entriesOf}
 use Rattle.rules.proofs.Refusals.{true-not-false, both-left, both-right, not-true, not-false, shape-in-bytes}
-use Rattle.rules.proofs.Memory.{tests-passed, perform-accepted, passes-in, Performed, acted, left, performed, packed-faithful, follows-sound, sound-next}
+use Rattle.rules.proofs.Memory.{tests-passed, perform-accepted, passes-in, accepted-sound, Performed, acted, left, performed, packed-faithful, follows-sound, sound-next}
 use Rattle.promises.specs.Conditions.{First, when}
 use Rattle.promises.specs.Bytes.{OnBytes}
 use Rattle.promises.proofs.Checked.{init-checked, acts}
 use Rattle.promises.proofs.Initialising.{all-free}
+use Rattle.promises.proofs.Storing.{stored, survey-leaves, load-leaves}
 use Rattle.promises.proofs.Numbers.{first-step, first-end}
 
 refused-bytes : (f : Form) (c : Call) (stack : List ℕ) (m : Memory) → ¬ AcceptedIn (perform f c stack m)
@@ -57,9 +58,9 @@ number : (f : Form) (c : Call) (stack : List ℕ) (m : Memory)
 unfolding perform
 number f c stack m =
     rw (answered (firstOf (testsIn f c m r)) m (stackFor c stack) (result (o .answer) (holding f m (o .heap)) (o .stack)) (λ z. tests-passed f c m r z .own))
-    (first-step (test 1 (either (eqb r 1) long)) _ _ _ refl
-    (λ e. ⊎-elim (λ p. inl (eqb-true r 1 p)) (λ p. inr (not-true (f .fits (m .table)) p)) (one-of (eqb r 1) long e))
-    (λ e. let q = neither (eqb r 1) long e in ⊎-elim (eqb-false r 1 (q .0)) (λ p. true-not-false (not-false (f .fits (m .table)) (q .1)) p))
+    (first-step (test 1 (either (eqb r 1) misfit)) _ _ _ refl
+    (λ e. ⊎-elim (λ p. inl (eqb-true r 1 p)) (λ p. inr (not-true (f .fits (m .table)) p)) (one-of (eqb r 1) misfit e))
+    (λ e. let q = neither (eqb r 1) misfit e in ⊎-elim (eqb-false r 1 (q .0)) (λ p. true-not-false (not-false (f .fits (m .table)) (q .1)) p))
     (λ _. first-step (test 2 (either (eqb r 2) dirty)) _ _ _ refl
     (λ e. ⊎-elim (λ p. inl (eqb-true r 2 p)) (λ p. inr (both-left (readsTable c) (not (f .clean (m .table))) p, not-true (f .clean (m .table)) (both-right (readsTable c) _ p))) (one-of (eqb r 2) dirty e))
     (λ e. let q = neither (eqb r 2) dirty e in ⊎-elim (eqb-false r 2 (q .0)) (λ p. true-not-false {b = dirty} (rw (p .0, p .1)) (q .1)))
@@ -71,8 +72,8 @@ number f c stack m =
     r : ℕ
     r = o .answer .refusal
 
-    long : Bool
-    long = not (f .fits (m .table))
+    misfit : Bool
+    misfit = not (f .fits (m .table))
 
     dirty : Bool
     dirty = both (readsTable c) (not (f .clean (m .table)))
@@ -95,6 +96,43 @@ init-zero base pool table z =
     ∙ tableOf-entriesOf (replicate (length table) 0) (λ i. omega (arith, all-free (length table) i)) in
     rw (a .1, e, t)
 
+-- a call that reads the table and leaves its entries leaves its bytes
+module _ (f : Form) (faithful : Faithful f) (c : Call) (stack : List ℕ) (m : Memory) (bytes : AllBytes (m .table)) (reads : readsTable c ≡ true)
+    (stays : Accepted (step c stack (heapIn f m)) → step c stack (heapIn f m) .heap .entries ≡ f .read (m .table)) where
+  table-left : perform f c stack m .memory .table ≡ m .table
+  table-left = go (performed f c stack m)
+    where
+      go : Performed m (stackFor c stack) (perform f c stack m) → perform f c stack m .memory .table ≡ m .table
+      go (acted z) =
+          let a = accepted-bytes f c stack m z in
+          let s = accepted-sound f c stack m reads z in
+          ap (λ (x : Result). x .memory .table) (a .1) ∙ ap (f .write) (stays (a .0)) ∙ faithful .write-read (m .table) bytes (s .fits) (s .clean)
+      go (left r e) = ap (λ (x : Result). x .memory .table) e
+
+  -- and the memory, if it leaves the pool
+  memory-left : (Accepted (step c stack (heapIn f m)) → step c stack (heapIn f m) .heap .pool ≡ m .pool) → perform f c stack m .memory ≡ m
+  memory-left same = ap (memory (perform f c stack m .memory .pool)) table-left ∙ ap (λ (p : List ℕ). memory p (m .table)) (go (performed f c stack m))
+    where
+      go : Performed m (stackFor c stack) (perform f c stack m) → perform f c stack m .memory .pool ≡ m .pool
+      go (acted z) = let a = accepted-bytes f c stack m z in ap (λ (x : Result). x .memory .pool) (a .1) ∙ same (a .0)
+      go (left r e) = ap (λ (x : Result). x .memory .pool) e
+
+survey-bytes : (f : Form) → Faithful f → (base : ℕ) (m : Memory) → AllBytes (m .table) → perform f (Survey base) [] m .memory ≡ m
+unfolding step
+survey-bytes f faithful base m bytes =
+    let e = survey-leaves base (heapIn f m) in
+    memory-left f faithful (Survey base) [] m bytes refl (λ _. ap (λ (h : Heap). h .entries) e) (λ _. ap (λ (h : Heap). h .pool) e)
+
+load-bytes : (f : Form) → Faithful f → (base k i : ℕ) (m : Memory) → AllBytes (m .table) → perform f (Load base k i) [] m .memory ≡ m
+unfolding step
+load-bytes f faithful base k i m bytes =
+    let e = load-leaves base (heapIn f m) k i in
+    memory-left f faithful (Load base k i) [] m bytes refl (λ _. ap (λ (h : Heap). h .entries) e) (λ _. ap (λ (h : Heap). h .pool) e)
+
+store-bytes : (f : Form) → Faithful f → (base k i w : ℕ) (m : Memory) → AllBytes (m .table) → perform f (Store base k i w) [] m .memory .table ≡ m .table
+unfolding step
+store-bytes f faithful base k i w m bytes = table-left f faithful (Store base k i w) [] m bytes refl (λ z. stored base (heapIn f m) k i w z .table)
+
 pub on-bytes : OnBytes
 on-bytes = record {
   refused-bytes = refused-bytes;
@@ -103,6 +141,9 @@ on-bytes = record {
   as-on-heap = λ f faithful c stack m s.
       let x = follows-sound f faithful c stack m s in
       record { answer = x .answer; heap = x .heap; sound = sound-next f faithful c stack m s };
+  survey-bytes = survey-bytes;
+  load-bytes = load-bytes;
+  store-bytes = store-bytes;
   packed-faithful = packed-faithful;
   packed-sound = λ m. record { fits = refl; clean = refl };
   init-zero = init-zero;

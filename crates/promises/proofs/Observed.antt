@@ -2,7 +2,8 @@
 -- Only the promises are used, never how a call is defined, so a promise that said less would not give these laws.
 -- Assumes nothing.
 use mathlib.Core.Path.{_≡_, refl, ap, ap₂, sym, _∙_}
-use mathlib.Core.Logic.{_≢_, _↔_, inl, inr}
+use mathlib.Core.Logic.{_≢_, _↔_, ⊎-elim, inl, inr}
+use mathlib.Core.Bool.{true, false}
 use mathlib.Core.List.{List, [], _∷_}
 use mathlib.Core.Option.{Option, none}
 use Prim.Native.Nat.{ℕ, zero, suc, _+_, _*_, _≤_, _<_}
@@ -19,12 +20,13 @@ use Rattle.rules.specs.Outcomes.{Heap, Answer, Outcome, heapOf, placement, coll
 use Rattle.rules.specs.Reach.{Reachable}
 use Rattle.rules.specs.Calls.{blocksFor, init, allocate, free, reallocate, collect, survey, load, store}
 use Rattle.rules.specs.Runs.{Call, Init, Allocate, Free, Reallocate, Collect, Survey, Load, Store, step}
+use Rattle.rules.specs.Forms.{Form}
+use Rattle.rules.specs.Memory.{Memory, heapIn, Result, AcceptedIn, readsTable, perform}
 use Rattle.rules.proofs.Words.{wordAt-same}
+use Rattle.rules.proofs.Refusals.{true-not-false}
 use Rattle.rules.proofs.Tables.{entry-inside, well-says, run-shorter}
 use Rattle.rules.proofs.Pointers.{points-one, leads-one}
 use Rattle.keeping.proofs.Owners.{reachable-head}
-use Rattle.rules.specs.Forms.{Form}
-use Rattle.rules.specs.Memory.{Memory, heapIn, Result, AcceptedIn, perform}
 use Rattle.promises.specs.Conditions.{when, First, RoomAfter, NoRun, ofInit, ofAllocate, ofFree, ofReallocate, ofCollect, ofSurvey, ofWord}
 use Rattle.promises.specs.Promises.{Object, blocksOf, Same, Counts, Surveyed}
 use Rattle.promises.specs.Determined.{partsOf}
@@ -81,6 +83,16 @@ init-bad-shape base pool table bad = init-number base (heapOf pool table) 1 (inl
 pub table-written : (f : Form) (c : Call) (stack : List ℕ) (m : Memory) → AcceptedIn (perform f c stack m)
     → perform f c stack m .memory .table ≡ f .write (step c stack (heapIn f m) .heap .entries)
 table-written f c stack m accepted = ap (λ (r : Result). r .memory .table) (on-bytes .accepted-bytes f c stack m accepted .1)
+
+-- bytes that are not clean are 2 to a call that reads them, whatever else it would be refused for but 1
+pub unclean-number : (f : Form) (c : Call) (stack : List ℕ) (m : Memory) → f .fits (m .table) ≡ true → f .clean (m .table) ≡ false → readsTable c ≡ true
+    → step c stack (heapIn f m) .answer .refusal ≢ 1 → perform f c stack m .answer .refusal ≡ 2
+unfolding First
+unclean-number f c stack m fits clean reads other =
+    ⊎-elim
+    (λ one. absurd (⊎-elim other (true-not-false fits) (one .0)))
+    (λ rest. ⊎-elim (λ two. two .1) (λ later. absurd (later .0 (inr (reads, clean)))) (rest .1))
+    (on-bytes .number f c stack m)
 
 -- a word has one target
 pub target-one : (base n w : ℕ) (x : Option ℕ) → Points base n w x → targetOf base n w ≡ x

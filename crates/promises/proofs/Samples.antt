@@ -6,7 +6,7 @@ use mathlib.Core.Logic.{_≢_, ⊎-elim, inl, inr}
 use mathlib.Core.Bool.{true}
 use mathlib.Core.List.{List, [], _∷_, List·Memᴰ·head}
 use mathlib.Core.Option.{some, none}
-use Prim.Native.Nat.{ℕ, zero, suc, _+_, _*_, _<_}
+use Prim.Native.Nat.{ℕ, zero, _+_, _*_, _<_}
 use native.Mathlib.Omega.{arith}
 use lib.IntN.{ℤ, pos, negℤ, _+ℤ_, natAbs}
 use lib.ListN.{replicate}
@@ -15,7 +15,7 @@ use Rattle.rules.specs.Words.{number, bytesOf, wordAt, withWord, wordsOf}
 use Rattle.rules.specs.Entries.{HEAD, entryOf, entriesOf}
 use Rattle.rules.specs.Tables.{entryAt, mayFollow, wellAfter, wellFormed, blockCount, freeFrom, fits, firstFrom, firstRun, placed, released, extended, used, objects, longest}
 use Rattle.rules.specs.Pointers.{addressOf, goodBase, targetOf, headsObject, headAt, leadsTo}
-use Rattle.rules.specs.Meaning.{AllBytes, Heads, Lowest, Longest, Points, Leads, ShapeInBytes, Passed, Accepted}
+use Rattle.rules.specs.Meaning.{Heads, Lowest, Longest, Points, Leads, ShapeInBytes, Passed, Accepted}
 use Rattle.rules.specs.Outcomes.{Heap, Answer, Outcome, heapOf, onlyRefusal, loaded, surveyed, leaves, changeFrom, unlessRefused, clearedBlocks}
 use Rattle.rules.specs.Refusals.{firstOf, goodShape, wholeWords}
 use Rattle.rules.specs.Reach.{Reachable, root, edge}
@@ -33,12 +33,6 @@ use Rattle.promises.proofs.Promised.{promises}
 use Rattle.promises.proofs.Bytes.{on-bytes}
 use Rattle.promises.proofs.Determined.{start-one, surveyed-one}
 use Rattle.promises.proofs.Observed.{Sums, allocate-number, free-number, reallocate-number, collect-number, store-number, refusals-alike, init-shape, init-bad-shape, target-one, lead-one, allocate-loads, free-loads, reallocate-loads, store-loads, collect-loads, new-zero, new-beyond, again-kept, again-zero, again-beyond, allocate-sums, free-sums, reallocate-sums, collect-sums, init-none-used, collect-less, free-again, allocate-survey, reallocate-survey, equal-then}
-
-all-bytes : (a b c : ℕ) → a < 256 → b < 256 → c < 256 → AllBytes (a ∷ b ∷ c ∷ [])
-all-bytes a b c p q r zero = p
-all-bytes a b c p q r (suc zero) = q
-all-bytes a b c p q r (suc (suc zero)) = r
-all-bytes a b c p q r (suc (suc (suc i))) = omega arith
 
 -- ---- what is computed
 
@@ -377,6 +371,14 @@ stack-too-long =
 
 pub stack-left : collect base h sampleRoots (sampleStack 260) .stack ≡ sampleStack 260
 stack-left = promises .refused-stack base h sampleRoots (sampleStack 260) (λ none. omega (arith, stack-too-long))
+
+-- in bytes: nothing at all is written
+pub collect-memory : perform packed (Collect base sampleRoots) (sampleStack 260) sampleMemory ≡ result (onlyRefusal 4) sampleMemory (sampleStack 260)
+unfolding step
+collect-memory =
+    let n = number-on (Collect base sampleRoots) (sampleStack 260) ∙ stack-too-long in
+    on-bytes .refused-bytes packed (Collect base sampleRoots) (sampleStack 260) sampleMemory (λ z. omega (arith, n))
+    ∙ ap (λ (r : ℕ). result (onlyRefusal r) sampleMemory (sampleStack 260)) n
 
 pub heap-left : collect base h sampleRoots (sampleStack 260) .heap ≡ h
 unfolding step

@@ -7,10 +7,10 @@ use mathlib.Core.List.{List, [], _∷_}
 use Prim.Native.Nat.{ℕ}
 use lib.ListN.{length, replicate}
 use Rattle.rules.specs.Outcomes.{Outcome, heapOf, onlyRefusal}
-use Rattle.rules.specs.Runs.{Call, Init, step}
+use Rattle.rules.specs.Runs.{Call, Init, Survey, Load, Store, step}
 use Rattle.rules.specs.Forms.{Form, packed, Faithful}
 use Rattle.rules.specs.Memory.{Memory, memory, heapIn, Sound, holding, Result, result, AcceptedIn, stackFor, readsTable, perform}
-use Rattle.rules.specs.Meaning.{Shape, ShapeInBytes, Accepted}
+use Rattle.rules.specs.Meaning.{AllBytes, Shape, ShapeInBytes, Accepted}
 use Rattle.promises.specs.Conditions.{First, when}
 
 -- the result of a call is that of the call on the heap, and the memory then holds the heap that is left
@@ -39,6 +39,10 @@ pub record OnBytes : Type 0 where
   -- so on a table that is as its form asks, every call is as on the heap, and the table stays so
   pub as-on-heap : (f : Form) → Faithful f → (c : Call) (stack : List ℕ) (m : Memory) → Sound f m
       → AsOnHeap f (perform f c stack m) (step c stack (heapIn f m))
+  -- survey and load leave every byte, and store every byte of the table
+  pub survey-bytes : (f : Form) → Faithful f → (base : ℕ) (m : Memory) → AllBytes (m .table) → perform f (Survey base) [] m .memory ≡ m
+  pub load-bytes : (f : Form) → Faithful f → (base k i : ℕ) (m : Memory) → AllBytes (m .table) → perform f (Load base k i) [] m .memory ≡ m
+  pub store-bytes : (f : Form) → Faithful f → (base k i w : ℕ) (m : Memory) → AllBytes (m .table) → perform f (Store base k i w) [] m .memory .table ≡ m .table
   -- the packed form holds entries faithfully, and every table is as it asks
   pub packed-faithful : Faithful packed
   pub packed-sound : (m : Memory) → Sound packed m

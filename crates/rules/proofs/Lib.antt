@@ -16,3 +16,4 @@ pub mod Twice
 pub mod Used
 pub mod Sizes
 pub mod Memory
+pub mod Bytewise

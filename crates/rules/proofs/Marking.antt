@@ -3,15 +3,15 @@
 -- Assumes nothing.
 use mathlib.Core.Path.{_≡_, refl, ap, sym, _∙_, subst}
 use mathlib.Core.Bool.{Bool, true, false}
-use mathlib.Core.List.{List, [], _∷_, _++_, append-assoc, append-nil, List·Memᴰ, List·Memᴰ·tail, List·Memᴰ·cases-cons, List·Memᴰ·not-nil}
+use mathlib.Core.List.{List, [], _∷_, List·Memᴰ, List·Memᴰ·tail, List·Memᴰ·cases-cons, List·Memᴰ·not-nil}
 use mathlib.Core.Logic.{⊎-elim}
 use mathlib.Core.Option.{Option, some, none}
 use Prim.Native.Nat.{ℕ, zero, suc, _+_, _*_, _-_, _≤_, _<_}
 use native.Mathlib.Numerals.{add-one}
 use native.Mathlib.Omega.{arith}
 use lib.Dec.{eqb, ltb}
-use lib.ListN.{length, getD, set, take, drop, length-set, drop-of-length-le}
-use lib.Seq.{drop-cons, take-all, take-suc-set, drop-set-lt}
+use lib.ListN.{length, getD, set, drop, length-set, drop-of-length-le}
+use lib.Seq.{drop-cons}
 use borrow.Author.Tests.{eq-eqb, ne-eqb, ltb-true, ltb-false, eqb-true, eqb-false}
 use Rattle.rules.specs.Tests.{pick}
 use Rattle.rules.specs.Words.{wordAt}
@@ -20,7 +20,7 @@ use Rattle.rules.specs.Tables.{entryAt, isHead, objects, blockCount}
 use Rattle.rules.specs.Pointers.{leadsTo}
 use Rattle.rules.proofs.Lists.{one, count-set}
 use Rattle.rules.proofs.Tables.{entry-inside, objects-le}
-use Rattle.rules.specs.Marking.{Context, State, state, marked, pushed, visitTo, visit, walkWords, walk, drainFor, drain, trace, rootTo, markRoot, markRoots, passBlock, passFrom, pass, Marked, markedIn, rescanFor, rescan, markAll, sweptEntry, freeingAfter, sweepFrom, sweep}
+use Rattle.rules.specs.Marking.{Context, State, state, marked, pushed, visitTo, visit, walkWords, walk, drainFor, drain, trace, rootTo, markRoot, markRoots, passBlock, passFrom, pass, Marked, markedIn, rescanFor, rescan, markAll, freeingAfter, sweepFrom}
 
 -- a HEAD or a MARK is a block of the table
 pub head-inside : (es : List ℕ) (k : ℕ) → entryAt es k ≡ HEAD → k < length es
@@ -397,24 +397,6 @@ pass-turn c k n s {z = z} h e q i =
 pub pass-end : (c : Context) (k n : ℕ) (s : State) {z : State} → n ≤ k → passFrom c k (n - k) s ≡ z → s ≡ z
 unfolding passFrom
 pass-end c k n s h i = let m : n - k ≡ 0 = omega arith in rw m at i
-
-pub sweep-turn : (es : List ℕ) (k : ℕ) (freeing : Bool) {e : ℕ} {freeing′ : Bool} {z : List ℕ} → k < length es
-    → e ≡ sweptEntry freeing (entryAt es k) → freeing′ ≡ freeingAfter freeing (entryAt es k)
-    → take k es ++ sweepFrom freeing (drop k es) ≡ z → take (k + 1) (set es k e) ++ sweepFrom freeing′ (drop (k + 1) (set es k e)) ≡ z
-unfolding sweepFrom
-sweep-turn es k freeing {e} h p q i =
-    rw (add-one, take-suc-set es k e h, drop-set-lt (suc k) es k e (omega arith), append-assoc, p, q)
-    (rw (drop-cons es k 0 h) at i)
-
-pub sweep-end : (es : List ℕ) (k : ℕ) (freeing : Bool) {z : List ℕ} → length es ≤ k → take k es ++ sweepFrom freeing (drop k es) ≡ z → es ≡ z
-unfolding sweepFrom
-sweep-end es k freeing {z} h i =
-    let r : take k es ++ [] ≡ z = rw (drop-of-length-le es h) at i in
-    sym (take-all k es h) ∙ sym (append-nil (take k es)) ∙ r
-
-pub sweep-start : (es : List ℕ) → take 0 es ++ sweepFrom false (drop 0 es) ≡ sweep es
-unfolding sweep
-sweep-start es = refl
 
 pub sweep-length : (freeing : Bool) (es : List ℕ) → length (sweepFrom freeing es) ≡ length es
 unfolding sweepFrom

@@ -4,7 +4,7 @@ use mathlib.Core.Path.{_≡_, refl}
 use mathlib.Core.List.{List, [], _∷_, _++_, map}
 use Prim.Native.Nat.{ℕ}
 use lib.IntN.{ℤ, pos, negℤ}
-use lib.ListN.{replicate}
+use lib.ListN.{length, replicate}
 use Rattle.rules.specs.Tests.{count, leading, tabulate}
 use Rattle.rules.specs.Words.{number, bytesOf, wordAt, wordsOf}
 use Rattle.rules.specs.Entries.{entryOf, entriesOf, tableOf}
@@ -98,6 +98,11 @@ examples =
     -- a refused collection leaves the mark stack too
     ∷ collects (collect 4096 (small 3 0) [] (sevens 8)) (onlyRefusal 2) (3 ∷ 0 ∷ []) stale (sevens 8)
     ∷ []
+
+-- there are so many
+pub examples-number : length examples ≡ 23
+unfolding examples
+examples-number = refl
 
 -- the lowest byte of a word is the first: the bytes 0, 16, 0, 0 are 4,096, and 4,096 is these bytes
 pub words-hold : (wordAt (0 ∷ 16 ∷ 0 ∷ 0 ∷ []) 0 ≡ 4096) × (bytesOf 4096 ≡ 0 ∷ 16 ∷ 0 ∷ 0 ∷ [])

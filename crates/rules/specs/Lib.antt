@@ -14,3 +14,4 @@ pub mod Memory
 pub mod Meaning
 pub mod Examples
 pub mod Orders
+pub mod Bytewise

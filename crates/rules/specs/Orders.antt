@@ -5,7 +5,7 @@ use mathlib.Core.Path.{_≡_, refl}
 use mathlib.Core.List.{List, [], _∷_, _++_, map}
 use Prim.Native.Nat.{ℕ, _+_, _*_}
 use lib.IntN.{pos}
-use lib.ListN.{replicate}
+use lib.ListN.{length, replicate}
 use Rattle.rules.specs.Tests.{count, leading, tabulate}
 use Rattle.rules.specs.Words.{number, bytesOf, wordAt, withWord, wordsOf}
 use Rattle.rules.specs.Entries.{entryOf, entriesOf, tableOf}
@@ -54,6 +54,11 @@ orders =
     ∷ collects (collect 4096 rootsInOrder (bytesOf 4144 ++ bytesOf 4160) (sevens 8)) (collectedTo 5 1 (minus 3)) (84 ∷ 5 ∷ []) (rootsInOrder .pool) (zeros 8)
     ∷ collects (collect 4096 rootsInOrder (bytesOf 4160 ++ bytesOf 4144) (sevens 8)) (collectedTo 5 0 (minus 3)) (84 ∷ 5 ∷ []) (rootsInOrder .pool) (zeros 8)
     ∷ []
+
+-- there are so many
+pub orders-number : length orders ≡ 4
+unfolding orders
+orders-number = refl
 
 pub orders-hold : map (λ (x : Example). x .is) orders ≡ map (λ (x : Example). x .ought) orders
 unfolding orders count leading tabulate number bytesOf wordAt withWord wordsOf entryOf entriesOf tableOf mayFollow wellAfter wellFormed blockCount used objects addressOf goodBase targetOf headsObject headAt leadsTo changeFrom unlessRefused firstOf goodShape wholeWords pushed visitTo visit walkWords walk drainFor drain trace rootTo markRoot markRoots passBlock passFrom pass rescanFor rescan markAll sweptEntry freeingAfter sweepFrom sweep collecting collect

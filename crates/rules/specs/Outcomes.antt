@@ -8,12 +8,12 @@ use lib.Seq.{sets}
 use Rattle.rules.specs.Entries.{entriesOf}
 use Rattle.rules.specs.Tables.{used}
 
--- what the caller lends and gets back: the pool's bytes and the table's entries
+-- what the rules speak of: the pool's bytes and the table's entries. What the caller lends is all bytes (Memory)
 pub record Heap : Type 0 where
   pub pool : List ℕ
   pub entries : List ℕ
 
--- the heap in a pool and a table. The entries stand for the table's bytes: equal entries are equal tables (Meaning: TableIsEntries)
+-- the heap in a pool and a packed table; equal entries are then equal tables (Meaning: TableIsEntries)
 abbrev pub heapOf : List ℕ → List ℕ → Heap
 heapOf pool table = record { pool = pool; entries = entriesOf table }
 

@@ -1,4 +1,4 @@
--- Lists of calls: each gets pool and table as the one before left them.
+-- Lists of calls: each gets the heap as the one before left it.
 -- Assumes nothing.
 use mathlib.Core.List.{List, [], _∷_}
 use Prim.Native.Nat.{ℕ}
