@@ -4,7 +4,7 @@
 use mathlib.Core.Path.{_≡_, refl, sym, ap}
 use mathlib.Core.Logic.{_≢_}
 use mathlib.Core.Bool.{false, true≢false}
-use mathlib.Core.List.{List, _∷_, map}
+use mathlib.Core.List.{List, [], _∷_, _++_, map}
 use Prim.Native.Nat.{ℕ, _+_, _*_, _<_}
 use native.Mathlib.Omega.{arith}
 use lib.ListN.{length}
@@ -67,6 +67,19 @@ pub answers-later : {t u : Turn} {ts us : List Turn} {a : Answer} {xs ys : List 
     → stackLengths ts ≡ stackLengths us → (r : ℕ) × (ys ≡ withRescans r a ∷ xs)
 answers-later (next {a = a} {b = b} x rest) l =
     (b .rescans, sym (cons-same (ap (withRescans (b .rescans)) (answer-but-rescans x)) (answers-long rest l)))
+
+-- the answers to calls that are followed by others are the same, and so are those to the others
+pub answers-joined : (ts us : List Turn) {ts′ us′ : List Turn} (xs : List Answer) {xs′ ys : List Answer} → length ts ≡ length xs → length us ≡ length xs
+    → SameAnswers (ts ++ ts′) (us ++ us′) (xs ++ xs′) ys
+    → (zs : List Answer) × (ws : List Answer) × (ys ≡ zs ++ ws) × SameAnswers ts us xs zs × SameAnswers ts′ us′ xs′ ws
+answers-joined [] [] [] l m same = ([], _, refl, done, same)
+answers-joined [] [] (a ∷ xs) l m same = absurd (omega arith)
+answers-joined [] (u ∷ us) xs l m same = absurd (omega arith)
+answers-joined (t ∷ ts) [] xs l m same = absurd (omega arith)
+answers-joined (t ∷ ts) (u ∷ us) [] l m same = absurd (omega arith)
+answers-joined (t ∷ ts) (u ∷ us) (a ∷ xs) l m (next {b = b} x rest) =
+    let (zs, ws, e, y, z) = answers-joined ts us xs (omega arith) (omega arith) rest in
+    (b ∷ zs, ws, cc, next x y, z)
 
 -- ---- the memories
 

@@ -2,7 +2,7 @@
 -- collection that is accepted on one of two pools of one length is accepted on the other.
 -- Assumes nothing.
 use mathlib.Core.Path.{_≡_, refl, sym, ap, _∙_}
-use mathlib.Core.List.{List, [], _∷_}
+use mathlib.Core.List.{List, [], _∷_, map}
 use Prim.Native.Nat.{ℕ, _+_, _*_, _≤_, _<_}
 use native.Mathlib.Omega.{arith}
 use lib.ListN.{length, getD}
@@ -19,7 +19,7 @@ use Rattle.rules.proofs.Refusals.{accepts, accepted-none}
 use Rattle.rules.proofs.Twice.{heap, shape-same}
 use Rattle.keeping.specs.Keeping.{Agree}
 use Rattle.keeping.proofs.Collections.{acted, collect-from}
-use Rattle.runs.specs.Noninterference.{SameStacks, equally-long, both-good, Alike, done, next}
+use Rattle.runs.specs.Noninterference.{SameStacks, equally-long, both-good, turn, Alike, done, next}
 use Rattle.runs.specs.Unseen.{callsOf, stackLengths}
 use Rattle.runs.proofs.Collections.{stacks-whole, stacks-short}
 use Rattle.rules.proofs.Memory.{accepted-sound, refusal-in}
@@ -36,6 +36,23 @@ stacks-good stack stack′ n m e l f k =
     both-good (record { whole = omega arith; short = omega arith }) (record { whole = omega arith; short = omega arith })
 
 -- ---- calls
+
+-- after a call with two such mark stacks any calls that are alike, whatever mark stacks these have
+pub alike-next : (call : Call) {stack stack′ : List ℕ} {ts us : List Turn} → SameStacks stack stack′ → Alike ts us
+    → Alike (turn call stack ∷ ts) (turn call stack′ ∷ us)
+alike-next call s r = next call s r
+
+-- a call, and two such mark stacks
+pub record Paired : Type 0 where
+  pub call : Call
+  pub stack : List ℕ
+  pub stack′ : List ℕ
+  pub same : SameStacks stack stack′
+
+-- so any calls with any such mark stacks
+pub alike-paired : (ps : List Paired) → Alike (map (λ (p : Paired). turn (p .call) (p .stack)) ps) (map (λ (p : Paired). turn (p .call) (p .stack′)) ps)
+alike-paired [] = done
+alike-paired (p ∷ ps) = alike-next (p .call) (p .same) (alike-paired ps)
 
 -- the same calls, with mark stacks of the same lengths
 pub alike-long : (ts us : List Turn) → callsOf ts ≡ callsOf us → stackLengths ts ≡ stackLengths us → Alike ts us

@@ -1,10 +1,10 @@
 -- The statement used on three heaps. What the first answers is computed; what the second answers follows by the statement, with other dead
--- bytes and other mark stacks. Heaps that differ in a reachable byte are told apart.
+-- bytes and other mark stacks, all but the rescans of two collections. Heaps that differ in a reachable byte are told apart.
 -- Assumes nothing.
 use mathlib.Core.Path.{_≡_, refl, sym, ap, _∙_}
 use mathlib.Core.Logic.{_≢_}
 use mathlib.Core.Bool.{Bool, true, not}
-use mathlib.Core.List.{List, [], _∷_}
+use mathlib.Core.List.{List, [], _∷_, _++_, map}
 use Prim.Native.Nat.{ℕ, _+_, _*_}
 use native.Mathlib.Omega.{arith}
 use lib.Dec.{T, eqb, eqb→eq}
@@ -20,7 +20,7 @@ use Rattle.rules.specs.Outcomes.{Heap, Answer, onlyRefusal, changeFrom, placedA
 use Rattle.rules.specs.Refusals.{firstOf, goodShape, wholeWords}
 use Rattle.rules.specs.Marking.{pushed, visitTo, visit, walkWords, walk, drainFor, drain, trace, rootTo, markRoot, markRoots, passBlock, passFrom, pass, rescanFor, rescan, markAll, sweptEntry, freeingAfter, sweepFrom, sweep}
 use Rattle.rules.specs.Calls.{blocksFor, taken, placing, allocate, free, collecting, collect, survey, load}
-use Rattle.rules.specs.Runs.{Collect, Turn, step}
+use Rattle.rules.specs.Runs.{Turn, step}
 use Rattle.rules.specs.Memory.{Memory, heapIn, AcceptedIn, orRefused, perform, turnIn, afterIn, answersIn}
 use Rattle.rules.proofs.Below.{allBelow, below}
 use Rattle.rules.proofs.Marking.{head-inside}
@@ -29,11 +29,11 @@ use Rattle.keeping.specs.Keeping.{marking, collected, Agree}
 use Rattle.keeping.proofs.Owners.{reachable-head}
 use Rattle.keeping.proofs.Kept.{collected-kept}
 use Rattle.runs.specs.Noninterference.{SameStacks, Alike, done, next, SameAnswers, Indistinct}
-use Rattle.runs.specs.Unseen.{callsOf, stackLengths}
-use Rattle.runs.specs.Samples.{sampleBase, sampleTable, sampleRoots, firstPool, secondPool, thirdPool, firstMemory, secondMemory, thirdMemory, firstCalls, secondCalls, loadingCalls}
+use Rattle.runs.specs.Unseen.{stackLengths}
+use Rattle.runs.specs.Samples.{sampleBase, sampleTable, sampleRoots, firstPool, secondPool, thirdPool, firstMemory, secondMemory, thirdMemory, earlierCalls, firstCalls, secondCalls, loadingCalls}
 use Rattle.runs.proofs.Noninterference.{noninterference}
-use Rattle.runs.proofs.Conclusions.{answer-but-rescans, answers-later, same-tables, same-words}
-use Rattle.runs.proofs.Hypotheses.{stacks-good, alike-long, agree-of, also-accepted}
+use Rattle.runs.proofs.Conclusions.{answer-but-rescans, answers-later, answers-joined, same-tables, same-words}
+use Rattle.runs.proofs.Hypotheses.{stacks-long, stacks-good, alike-next, alike-long, agree-of, also-accepted}
 
 -- ---- agreement on the reachable objects, as a test over the objects that a collection keeps
 
@@ -69,9 +69,20 @@ secondHeap = heapIn packed secondMemory
 abbrev pub thirdHeap : Heap
 thirdHeap = heapIn packed thirdMemory
 
--- the answers of the first heap after its first collection
-abbrev pub laterAnswers : List Answer
-laterAnswers = onlyRefusal 7 ∷ onlyRefusal 1 ∷ loaded 0xDEAD_BEEF ∷ placedAt 1 (pos 2) ∷ loaded 0 ∷ collectedTo 5 1 (negℤ (pos 2)) ∷ surveyed 8 5 2 ∷ []
+-- the answers to the earlier and to the last calls, with r rescans
+abbrev pub earlierAnswers : ℕ → List Answer
+earlierAnswers r = collectedTo 5 r (negℤ (pos 3)) ∷ onlyRefusal 7 ∷ onlyRefusal 1 ∷ loaded 0xDEAD_BEEF ∷ placedAt 1 (pos 2) ∷ loaded 0 ∷ []
+
+abbrev pub lastAnswers : ℕ → List Answer
+lastAnswers r = collectedTo 5 r (negℤ (pos 2)) ∷ surveyed 8 5 2 ∷ []
+
+-- the rescans of answers
+abbrev pub rescansOf : List Answer → List ℕ
+rescansOf xs = map (λ (a : Answer). a .rescans) xs
+
+-- and of answer k, from 0
+abbrev pub rescansAt : ℕ → List Answer → ℕ
+rescansAt k xs = getD (rescansOf xs) k 0
 
 pub record Computed : Type 0 where
   -- the table is well-formed
@@ -82,12 +93,12 @@ pub record Computed : Type 0 where
   pub first-bytes : getD firstPool 16 0 ∷ getD firstPool 79 0 ∷ getD firstPool 127 0 ∷ [] ≡ 0 ∷ 0 ∷ 0 ∷ []
   pub second-bytes : getD secondPool 16 0 ∷ getD secondPool 79 0 ∷ getD secondPool 127 0 ∷ [] ≡ 112 ∷ 255 ∷ 32 ∷ []
   -- what the first answers, and the table and the last word of g that it is left with
-  pub first-answers : answersIn packed firstCalls firstMemory ≡ collectedTo 5 2 (negℤ (pos 3)) ∷ laterAnswers
+  pub first-answers : answersIn packed firstCalls firstMemory ≡ earlierAnswers 2 ++ lastAnswers 1
   pub first-table : afterIn packed firstCalls firstMemory .table ≡ 65 ∷ 36 ∷ 165 ∷ []
   pub first-used : entryAt (entriesOf (afterIn packed firstCalls firstMemory .table)) 11 ≡ TAIL
   pub first-word : wordAt (afterIn packed firstCalls firstMemory .pool) 47 ≡ 0xDEAD_BEEF
-  -- three entries are enough for the second
-  pub second-rescans : perform packed (Collect sampleBase sampleRoots) (replicate 12 9) secondMemory .answer .rescans ≡ 0
+  -- three entries are enough for the second, and two at last
+  pub second-rescans : rescansOf (answersIn packed secondCalls secondMemory) ≡ replicate 8 0
   -- the first and the third answer a load differently
   pub first-loads : answersIn packed loadingCalls firstMemory ≡ collectedTo 5 2 (negℤ (pos 3)) ∷ loaded 0xDEAD_BEEF ∷ []
   pub third-loads : answersIn packed loadingCalls thirdMemory ≡ collectedTo 5 2 (negℤ (pos 3)) ∷ loaded 0x00AD_BEEF ∷ []
@@ -110,12 +121,7 @@ computed =
       third-loads = refl;
     }
 
--- the rescans of the first answer
-firstRescans : List Answer → ℕ
-firstRescans [] = 0
-firstRescans (a ∷ xs) = a .rescans
-
--- its refusal number
+-- the refusal number of the first answer
 firstRefusal : List Answer → ℕ
 firstRefusal [] = 0
 firstRefusal (a ∷ xs) = a .refusal
@@ -131,10 +137,19 @@ accepted t ts m a xs e z = ap firstRefusal e ∙ z
 samples-stacks : SameStacks [] (replicate 12 9)
 samples-stacks = stacks-good [] (replicate 12 9) 0 3 refl (omega arith) refl (omega arith)
 
--- then the same calls, with mark stacks of the same lengths
+-- at last 1 and 2
+last-stacks : SameStacks (bytesOf 7) (replicate 8 8)
+unfolding bytesOf
+last-stacks = stacks-good (bytesOf 7) (replicate 8 8) 1 2 refl (omega arith) refl (omega arith)
+
+-- the other mark stacks are equally long
 pub samples-alike : Alike firstCalls secondCalls
-unfolding callsOf stackLengths bytesOf
-samples-alike = next _ samples-stacks (alike-long _ _ refl refl)
+samples-alike =
+    alike-next _ samples-stacks (alike-next _ none (alike-next _ (stacks-long _ _ refl) (alike-next _ none (alike-next _ none (alike-next _ none
+    (alike-next _ last-stacks (alike-next _ none done)))))))
+  where
+    none : SameStacks [] []
+    none = stacks-long [] [] refl
 
 -- they agree on what is reachable
 pub first-second-agree : Agree sampleBase (wordsOf sampleRoots) firstHeap secondHeap
@@ -147,10 +162,19 @@ first-second-indistinct =
     noninterference packed packed-faithful sampleBase sampleTable sampleRoots firstPool secondPool [] (replicate 12 9) _ _ first-second-agree samples-alike
     x (also-accepted packed packed-faithful sampleBase sampleTable sampleRoots firstPool secondPool [] (replicate 12 9) (computed .long) samples-stacks x)
 
--- so the second answers, with some number of rescans of its first collection
-pub second-answers : (r : ℕ) × (answersIn packed secondCalls secondMemory ≡ collectedTo 5 r (negℤ (pos 3)) ∷ laterAnswers)
+-- equal parts of a list
+joined-same : {xs xs′ ys ys′ zs : List Answer} → zs ≡ xs ++ ys → xs ≡ xs′ → ys ≡ ys′ → zs ≡ xs′ ++ ys′
+joined-same e f g = cc
+
+-- so the second answers, with some numbers of rescans of the two collections whose mark stacks are not equally long
+pub second-answers : (r : ℕ) × (s : ℕ) × (answersIn packed secondCalls secondMemory ≡ earlierAnswers r ++ lastAnswers s)
 unfolding stackLengths bytesOf
-second-answers = answers-later (rw (computed .first-answers) at (first-second-indistinct .same-answers)) refl
+second-answers =
+    let (zs, ws, e, x, y) = answers-joined (earlierCalls [] (1 ∷ 2 ∷ 3 ∷ [])) (earlierCalls (replicate 12 9) (253 ∷ 254 ∷ 255 ∷ [])) (earlierAnswers 2) refl refl
+    (rw (computed .first-answers) at (first-second-indistinct .same-answers)) in
+    let (r, f) = answers-later x refl in
+    let (s, g) = answers-later y refl in
+    (r, s, joined-same e f g)
 
 -- the table which it is left with
 pub second-table : afterIn packed secondCalls secondMemory .table ≡ 65 ∷ 36 ∷ 165 ∷ []
@@ -160,14 +184,16 @@ second-table = sym (same-tables first-second-indistinct) ∙ computed .first-tab
 pub second-word : wordAt (afterIn packed secondCalls secondMemory .pool) 47 ≡ 0xDEAD_BEEF
 second-word = sym (same-words first-second-indistinct 11 (λ f. let e = computed .first-used in omega arith) 3 (omega arith)) ∙ computed .first-word
 
--- the rescans do differ: 2 and 0
-pub rescans-differ : answersIn packed firstCalls firstMemory ≢ answersIn packed secondCalls secondMemory
-unfolding answersIn firstRescans
-rescans-differ e =
-    let a = ap firstRescans (computed .first-answers) in
+-- the rescans do differ: 2 and 0, and at last 1 and 0
+pub rescans-differ : (rescansAt 0 (answersIn packed firstCalls firstMemory) ≢ rescansAt 0 (answersIn packed secondCalls secondMemory))
+    × (rescansAt 6 (answersIn packed firstCalls firstMemory) ≢ rescansAt 6 (answersIn packed secondCalls secondMemory))
+rescans-differ =
+    let a = ap rescansOf (computed .first-answers) in
     let b = computed .second-rescans in
-    let c = ap firstRescans e in
-    omega arith
+    ((λ e. let c = entry 0 a in let d = entry 0 b in omega arith), (λ e. let c = entry 6 a in let d = entry 6 b in omega arith))
+  where
+    entry : {ms ns : List ℕ} (k : ℕ) → ms ≡ ns → getD ms k 0 ≡ getD ns k 0
+    entry k e = ap (λ (ns : List ℕ). getD ns k 0) e
 
 -- ---- two heaps that differ in one byte of a reachable object
 

@@ -48,11 +48,12 @@ secondMemory = memory secondPool sampleTable
 abbrev pub thirdMemory : Memory
 thirdMemory = memory thirdPool sampleTable
 
--- the calls after the first collection, and the mark stacks of two collections among them
-abbrev pub laterCalls : List ℕ → List ℕ → List Turn
-laterCalls torn one =
+-- the first collection and the calls after it, and the mark stacks of two collections among them
+abbrev pub earlierCalls : List ℕ → List ℕ → List Turn
+earlierCalls stack torn =
+    turn (Collect sampleBase sampleRoots) stack
     -- b is no object any more
-    turn (Free sampleBase 1) []
+    ∷ turn (Free sampleBase 1) []
     -- the mark stack is no whole number of entries
     ∷ turn (Collect sampleBase sampleRoots) torn
     -- the last word of the last object
@@ -60,17 +61,19 @@ laterCalls torn one =
     -- two blocks, where b was, and their last word
     ∷ turn (Allocate sampleBase 17) []
     ∷ turn (Load sampleBase 1 7) []
-    -- the new object is unreachable; one entry is not enough for d and g
-    ∷ turn (Collect sampleBase sampleRoots) one
-    ∷ turn (Survey sampleBase) []
     ∷ []
 
--- on the first heap no mark stack at first; on the second three entries. Whatever the mark stacks hold, they hold different bytes
+-- then a last collection, to which the new object is unreachable
+abbrev pub lastCalls : List ℕ → List Turn
+lastCalls stack = turn (Collect sampleBase sampleRoots) stack ∷ turn (Survey sampleBase) [] ∷ []
+
+-- on the first heap no mark stack at first, and one entry at last: neither is enough for d and g. On the second three entries, and two at last.
+-- Whatever the mark stacks hold, they hold different bytes
 abbrev pub firstCalls : List Turn
-firstCalls = turn (Collect sampleBase sampleRoots) [] ∷ laterCalls (1 ∷ 2 ∷ 3 ∷ []) (bytesOf 7)
+firstCalls = earlierCalls [] (1 ∷ 2 ∷ 3 ∷ []) ++ lastCalls (bytesOf 7)
 
 abbrev pub secondCalls : List Turn
-secondCalls = turn (Collect sampleBase sampleRoots) (replicate 12 9) ∷ laterCalls (253 ∷ 254 ∷ 255 ∷ []) (bytesOf 8)
+secondCalls = earlierCalls (replicate 12 9) (253 ∷ 254 ∷ 255 ∷ []) ++ lastCalls (replicate 8 8)
 
 -- a collection, and then the last word of the last object
 abbrev pub loadingCalls : List Turn
