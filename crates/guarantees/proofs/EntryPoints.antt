@@ -1,4 +1,4 @@
--- The entry points, each by the proof of its function.
+-- The entry points, each by the proof of its function; what its contract says holds by computing.
 -- Assumes nothing.
 use mathlib.Core.Path.{refl}
 use Rattle.guarantees.specs.EntryPoints.{EntryPoints}
@@ -15,18 +15,26 @@ pub entry-points : EntryPoints
 entry-points = record {
   init-meets = init.met;
   init-asks-nothing = λ M 𝓤 H A mem run κs a. (tt, refl);
+  init-says = λ M 𝓤 H A mem run κs a g r. refl;
   allocate-meets = allocate.met;
   allocate-asks-nothing = λ M 𝓤 H A mem run κs a. (tt, refl);
+  allocate-says = λ M 𝓤 H A mem run κs a g r. refl;
   free-meets = free.met;
   free-asks-nothing = λ M 𝓤 H A mem run κs a. (tt, refl);
+  free-says = λ M 𝓤 H A mem run κs a g r. refl;
   reallocate-meets = reallocate.met;
   reallocate-asks-nothing = λ M 𝓤 H A mem run κs a. (tt, refl);
+  reallocate-says = λ M 𝓤 H A mem run κs a g r. refl;
   collect-meets = collect.met;
   collect-asks-nothing = λ M 𝓤 H A mem run κs a. (tt, refl);
+  collect-says = λ M 𝓤 H A mem run κs a g r. refl;
   survey-meets = survey.met;
   survey-asks-nothing = λ M 𝓤 H A mem run κs a. (tt, refl);
+  survey-says = λ M 𝓤 H A mem run κs a g r. refl;
   load-meets = load.met;
   load-asks-nothing = λ M 𝓤 H A mem run κs a. (tt, refl);
+  load-says = λ M 𝓤 H A mem run κs a g r. refl;
   store-meets = store.met;
   store-asks-nothing = λ M 𝓤 H A mem run κs a. (tt, refl);
+  store-says = λ M 𝓤 H A mem run κs a g r. refl;
 }
