@@ -70,6 +70,7 @@ Says T c said =
     → c M 𝓤 H A mem run κs a .ensures g r ≡ exits 𝓤 H A (T .signature) (T .kept) κs a (λ e. fact 𝓤 (at-each κs (T .signature .params) (T .kept) (said κs) a e r))
 
 pub record EntryPoints : Type 2 where
+  -- of each function: it meets its contract; the contract asks nothing; and it says that the answer and the lent memory at exit are those of the rules' call
   pub init-meets : {M : Type 1} → init-statement.statement M
   pub init-asks-nothing : AsksNothing init.signature (λ M. init.spec {M = M})
   pub init-says : Says init.ended (λ M. init.spec {M = M}) (λ κs base pool table r.
