@@ -1,7 +1,8 @@
 -- All guarantees, each by its theorem.
 -- Assumes nothing.
-use Rattle.rules.specs.Examples.{examples-hold, words-hold}
-use Rattle.rules.specs.Orders.{orders-hold}
+use Rattle.rules.specs.Examples.{examples-hold, examples-number, words-hold}
+use Rattle.rules.specs.Orders.{orders-hold, orders-number}
+use Rattle.rules.specs.Bytewise.{bytewise-refusals}
 use Rattle.keeping.proofs.Collections.{keeps-exactly, any-stack}
 use Rattle.promises.proofs.Bytes.{on-bytes}
 use Rattle.promises.proofs.Promised.{promises}
@@ -18,7 +19,10 @@ pub guarantees : Guarantees
 guarantees = record {
   examples-hold = examples-hold;
   orders-hold = orders-hold;
+  examples-number = examples-number;
+  orders-number = orders-number;
   words-hold = words-hold;
+  bytewise-refusals = bytewise-refusals;
   entry-points = entry-points;
   on-bytes = on-bytes;
   promises = promises;

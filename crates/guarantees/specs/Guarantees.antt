@@ -3,9 +3,11 @@
 -- Assumes nothing.
 use mathlib.Core.Path.{_≡_}
 use mathlib.Core.List.{[], _∷_, map}
+use lib.ListN.{length}
 use Rattle.rules.specs.Words.{wordAt, bytesOf}
 use Rattle.rules.specs.Examples.{Example, examples}
 use Rattle.rules.specs.Orders.{orders}
+use Rattle.rules.specs.Bytewise.{BytewiseRefusals}
 use Rattle.keeping.specs.Keeping.{KeepsExactly, AnyStack}
 use Rattle.promises.specs.Bytes.{OnBytes}
 use Rattle.promises.specs.Promises.{Promises}
@@ -15,10 +17,14 @@ use Rattle.plain.specs.Refines.{AnswersAsList, ListKeepsReachable, UsedIsSum}
 use Rattle.guarantees.specs.EntryPoints.{EntryPoints}
 
 pub record Guarantees : Type 2 where
-  -- The worked examples 1 to 12 come out, the order of the marking shows in its rescans, and words have their lowest byte first.
+  -- The worked examples 1 to 12 come out, the order of the marking shows in its rescans, and words have their lowest byte first; on a table of another form
+  -- than the packed one the calls are refused as they should be.
   pub examples-hold : map (λ (x : Example). x .is) examples ≡ map (λ (x : Example). x .ought) examples
   pub orders-hold : map (λ (x : Example). x .is) orders ≡ map (λ (x : Example). x .ought) orders
+  pub examples-number : length examples ≡ 23
+  pub orders-number : length orders ≡ 4
   pub words-hold : (wordAt (0 ∷ 16 ∷ 0 ∷ 0 ∷ []) 0 ≡ 4096) × (bytesOf 4096 ≡ 0 ∷ 16 ∷ 0 ∷ 0 ∷ [])
+  pub bytewise-refusals : BytewiseRefusals
   -- The code follows the rules: each function that C calls does to lent memory, for every input, what the rules say.
   pub entry-points : EntryPoints
   -- Of lent memory a refused call leaves every byte, and an accepted one the bytes of the heap that the call leaves.

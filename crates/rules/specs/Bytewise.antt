@@ -51,9 +51,13 @@ unfoldable pub refusalsOn : Memory → List ℕ
 refusalsOn m = map (λ (c : Call). perform bytewise c (sevens 260) m .answer .refusal) eachCall
 
 -- Bytes that are not clean are 2, before any number of the call's own, and but for init, which only fills the table; a length that does not fit is 1, also for init.
-pub bytewise-refusals : (refusalsOn cleanEight ≡ 0 ∷ 5 ∷ 6 ∷ 5 ∷ 4 ∷ 0 ∷ 6 ∷ 6 ∷ [])
+abbrev pub BytewiseRefusals : Type 0
+BytewiseRefusals =
+    (refusalsOn cleanEight ≡ 0 ∷ 5 ∷ 6 ∷ 5 ∷ 4 ∷ 0 ∷ 6 ∷ 6 ∷ [])
     × (refusalsOn uncleanEight ≡ 0 ∷ 2 ∷ 2 ∷ 2 ∷ 2 ∷ 2 ∷ 2 ∷ 2 ∷ [])
     × (refusalsOn seven ≡ 1 ∷ 1 ∷ 1 ∷ 1 ∷ 1 ∷ 1 ∷ 1 ∷ 1 ∷ [])
+
+pub bytewise-refusals : BytewiseRefusals
 unfolding refusalsOn perform orRefused firstOf step init allocate free reallocate collect survey load store unlessRefused goodShape lowBits lowOnly goodBase addressOf wholeWords wellFormed wellAfter mayFollow collecting along placing
 bytewise-refusals = (refl, refl, refl)
 
