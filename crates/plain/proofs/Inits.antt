@@ -13,7 +13,7 @@ use Rattle.rules.specs.Outcomes.{Heap, onlyRefusal, leaves}
 use Rattle.rules.specs.Refusals.{goodShape, badShape}
 use Rattle.rules.specs.Calls.{init}
 use Rattle.rules.specs.Runs.{Init, step}
-use Rattle.rules.specs.Memory.{Memory, heapIn, AcceptedIn, perform}
+use Rattle.rules.specs.Memory.{Memory, heapIn, lengthsFit, AcceptedIn, perform}
 use Rattle.rules.specs.Meaning.{Accepted}
 use Rattle.rules.proofs.Refusals.{first-last, first-none, accepts, accepted-none, not-false}
 use Rattle.rules.proofs.Memory.{perform-accepted, passes-in, Follows, follows-accepted}
@@ -45,7 +45,7 @@ unfolding step
 shape-in f base m z = init-shape base (heapIn f m) (passes-in f (Init base) [] m z .own)
 
 -- it is accepted exactly if the shape is good and the form has the table's length: an init does not test what the table held
-pub init-exactly : (f : Form) (base : ℕ) (m : Memory) → AcceptedIn (perform f (Init base) [] m) ↔ ((goodShape base (heapIn f m) ≡ true) × (f .fits (m .table) ≡ true))
+pub init-exactly : (f : Form) (base : ℕ) (m : Memory) → AcceptedIn (perform f (Init base) [] m) ↔ ((goodShape base (heapIn f m) ≡ true) × (lengthsFit f m ≡ true))
 unfolding step
 init-exactly f base m = (
   λ z. (shape-in f base m z, passes-in f (Init base) [] m z .fits),
@@ -54,5 +54,5 @@ init-exactly f base m = (
 )
 
 -- every length is one of the packed form, so there exactly if the shape is good
-pub init-packed : (base : ℕ) (m : Memory) → AcceptedIn (perform packed (Init base) [] m) ↔ (goodShape base (heapIn packed m) ≡ true)
-init-packed base m = (shape-in packed base m, λ good. init-exactly packed base m .1 (good, refl))
+pub init-packed : (base : ℕ) (m : Memory) → lengthsFit packed m ≡ true → AcceptedIn (perform packed (Init base) [] m) ↔ (goodShape base (heapIn packed m) ≡ true)
+init-packed base m fit = (shape-in packed base m, λ good. init-exactly packed base m .1 (good, fit))

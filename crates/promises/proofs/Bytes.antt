@@ -15,11 +15,11 @@ use Rattle.rules.specs.Outcomes.{Heap, Outcome, heapOf, onlyRefusal}
 use Rattle.rules.specs.Refusals.{test, firstOf}
 use Rattle.rules.specs.Runs.{Call, Init, Survey, Load, Store, step}
 use Rattle.rules.specs.Forms.{Form, packed, Faithful}
-use Rattle.rules.specs.Memory.{Memory, memory, heapIn, holding, Result, result, AcceptedIn, stackFor, readsTable, testsIn, orRefused, perform}
+use Rattle.rules.specs.Memory.{Memory, memory, heapIn, lengthsFit, doneIn, Result, result, AcceptedIn, stackFor, readsTable, testsIn, orRefused, perform}
 use Rattle.rules.specs.Meaning.{AllBytes, Accepted}
 use Rattle.rules.proofs.Entries.{length-entriesOf, entriesOf-replicate, tableOf-entriesOf}
 use Rattle.rules.proofs.Refusals.{true-not-false, both-left, both-right, not-true, not-false, shape-in-bytes}
-use Rattle.rules.proofs.Memory.{tests-passed, perform-accepted, passes-in, accepted-sound, Performed, acted, left, performed, packed-faithful, follows-sound, sound-next}
+use Rattle.rules.proofs.Memory.{packed-sound, tests-passed, perform-accepted, passes-in, accepted-sound, Performed, acted, left, performed, packed-faithful, follows-sound, sound-next}
 use Rattle.promises.specs.Conditions.{First, when}
 use Rattle.promises.specs.Bytes.{OnBytes}
 use Rattle.promises.proofs.Checked.{init-checked, acts}
@@ -53,14 +53,14 @@ answered (suc n) m stack done z = refl
 number : (f : Form) (c : Call) (stack : List ℕ) (m : Memory)
     → let r : ℕ = step c stack (heapIn f m) .answer .refusal in
     First
-    (when 1 ((r ≡ 1) ⊎ (f .fits (m .table) ≡ false)) ∷ when 2 ((r ≡ 2) ⊎ ((readsTable c ≡ true) × (f .clean (m .table) ≡ false))) ∷ when r (r ≢ 0) ∷ [])
+    (when 1 ((r ≡ 1) ⊎ (lengthsFit f m ≡ false)) ∷ when 2 ((r ≡ 2) ⊎ ((readsTable c ≡ true) × (f .clean (m .table) ≡ false))) ∷ when r (r ≢ 0) ∷ [])
     (perform f c stack m .answer .refusal)
 unfolding perform
 number f c stack m =
-    rw (answered (firstOf (testsIn f c m r)) m (stackFor c stack) (result (o .answer) (holding f m (o .heap)) (o .stack)) (λ z. tests-passed f c m r z .own))
+    rw (answered (firstOf (testsIn f c m r)) m (stackFor c stack) (doneIn f c stack m) (λ z. tests-passed f c m r z .own))
     (first-step (test 1 (either (eqb r 1) misfit)) _ _ _ refl
-    (λ e. ⊎-elim (λ p. inl (eqb-true r 1 p)) (λ p. inr (not-true (f .fits (m .table)) p)) (one-of (eqb r 1) misfit e))
-    (λ e. let q = neither (eqb r 1) misfit e in ⊎-elim (eqb-false r 1 (q .0)) (λ p. true-not-false (not-false (f .fits (m .table)) (q .1)) p))
+    (λ e. ⊎-elim (λ p. inl (eqb-true r 1 p)) (λ p. inr (not-true (lengthsFit f m) p)) (one-of (eqb r 1) misfit e))
+    (λ e. let q = neither (eqb r 1) misfit e in ⊎-elim (eqb-false r 1 (q .0)) (λ p. true-not-false (not-false (lengthsFit f m) (q .1)) p))
     (λ _. first-step (test 2 (either (eqb r 2) dirty)) _ _ _ refl
     (λ e. ⊎-elim (λ p. inl (eqb-true r 2 p)) (λ p. inr (both-left (readsTable c) (not (f .clean (m .table))) p, not-true (f .clean (m .table)) (both-right (readsTable c) _ p))) (one-of (eqb r 2) dirty e))
     (λ e. let q = neither (eqb r 2) dirty e in ⊎-elim (eqb-false r 2 (q .0)) (λ p. true-not-false {b = dirty} (rw (p .0, p .1)) (q .1)))
@@ -73,14 +73,14 @@ number f c stack m =
     r = o .answer .refusal
 
     misfit : Bool
-    misfit = not (f .fits (m .table))
+    misfit = not (lengthsFit f m)
 
     dirty : Bool
     dirty = both (readsTable c) (not (f .clean (m .table)))
 
 accepted-bytes : (f : Form) (c : Call) (stack : List ℕ) (m : Memory) → AcceptedIn (perform f c stack m)
     → let o : Outcome = step c stack (heapIn f m) in
-    Accepted o × (perform f c stack m ≡ result (o .answer) (holding f m (o .heap)) (o .stack))
+    Accepted o × (perform f c stack m ≡ doneIn f c stack m)
 accepted-bytes f c stack m z =
     let p = passes-in f c stack m z in
     (p .own, perform-accepted f c stack m (p .fits) (p .clean) (p .own))
@@ -145,7 +145,7 @@ on-bytes = record {
   load-bytes = load-bytes;
   store-bytes = store-bytes;
   packed-faithful = packed-faithful;
-  packed-sound = λ m. record { fits = refl; clean = refl };
+  packed-sound = packed-sound;
   init-zero = init-zero;
   shape-in-bytes = shape-in-bytes;
 }

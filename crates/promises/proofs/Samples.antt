@@ -95,7 +95,7 @@ good = record { shape = on-bytes .shape-in-bytes base samplePool sampleTable .1 
 
 -- on the sample's bytes a call is refused as on its heap
 number-on : (c : Call) (stack : List ℕ) → perform packed c stack sampleMemory .answer .refusal ≡ step c stack h .answer .refusal
-number-on c stack = ap (λ (a : Answer). a .refusal) (on-bytes .as-on-heap packed (on-bytes .packed-faithful) c stack sampleMemory (on-bytes .packed-sound sampleMemory) .answer)
+number-on c stack = ap (λ (a : Answer). a .refusal) (on-bytes .as-on-heap packed (on-bytes .packed-faithful) c stack sampleMemory (on-bytes .packed-sound sampleMemory refl) .answer)
 
 -- the lowest start, where the search is computed
 lowest : (b s : ℕ) → 0 < b → firstRun (h .entries) b ≡ some s → Lowest (h .entries) b (some s)

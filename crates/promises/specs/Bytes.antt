@@ -9,7 +9,7 @@ use lib.ListN.{length, replicate}
 use Rattle.rules.specs.Outcomes.{Outcome, heapOf, onlyRefusal}
 use Rattle.rules.specs.Runs.{Call, Init, Survey, Load, Store, step}
 use Rattle.rules.specs.Forms.{Form, packed, Faithful}
-use Rattle.rules.specs.Memory.{Memory, memory, heapIn, Sound, holding, Result, result, AcceptedIn, stackFor, readsTable, perform}
+use Rattle.rules.specs.Memory.{Memory, memory, heapIn, lengthsFit, Sound, doneIn, Result, result, AcceptedIn, stackFor, readsTable, perform}
 use Rattle.rules.specs.Meaning.{AllBytes, Shape, ShapeInBytes, Accepted}
 use Rattle.promises.specs.Conditions.{First, when}
 
@@ -25,13 +25,12 @@ pub record OnBytes : Type 0 where
       → perform f c stack m ≡ result (onlyRefusal (perform f c stack m .answer .refusal)) m (stackFor c stack)
   -- an accepted call is accepted on the heap in the memory, answers as it does there, and leaves the bytes that its entries are written as
   pub accepted-bytes : (f : Form) (c : Call) (stack : List ℕ) (m : Memory) → AcceptedIn (perform f c stack m)
-      → let o : Outcome = step c stack (heapIn f m) in
-      Accepted o × (perform f c stack m ≡ result (o .answer) (holding f m (o .heap)) (o .stack))
+      → Accepted (step c stack (heapIn f m)) × (perform f c stack m ≡ doneIn f c stack m)
   -- the number: 1 also where the table's length does not fit, 2 also where its bytes are not clean and the call reads it; else that of the call on the heap
   pub number : (f : Form) (c : Call) (stack : List ℕ) (m : Memory)
       → let r : ℕ = step c stack (heapIn f m) .answer .refusal in
       First
-      (when 1 ((r ≡ 1) ⊎ (f .fits (m .table) ≡ false))
+      (when 1 ((r ≡ 1) ⊎ (lengthsFit f m ≡ false))
       ∷ when 2 ((r ≡ 2) ⊎ ((readsTable c ≡ true) × (f .clean (m .table) ≡ false)))
       ∷ when r (r ≢ 0)
       ∷ [])
@@ -45,7 +44,7 @@ pub record OnBytes : Type 0 where
   pub store-bytes : (f : Form) → Faithful f → (base k i w : ℕ) (m : Memory) → AllBytes (m .table) → perform f (Store base k i w) [] m .memory .table ≡ m .table
   -- the packed form holds entries faithfully, and every table is as it asks
   pub packed-faithful : Faithful packed
-  pub packed-sound : (m : Memory) → Sound packed m
+  pub packed-sound : (m : Memory) → lengthsFit packed m ≡ true → Sound packed m
   -- an accepted init leaves a table of zero bytes, and the pool
   pub init-zero : (base : ℕ) (pool table : List ℕ) → AcceptedIn (perform packed (Init base) [] (memory pool table))
       → perform packed (Init base) [] (memory pool table) .memory ≡ memory pool (replicate (length table) 0)

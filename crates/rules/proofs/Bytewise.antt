@@ -1,6 +1,6 @@
 -- The form with a byte for each entry: bytes and entries say the same in it.
 -- Assumes nothing.
-use mathlib.Core.Path.{_≡_, refl, ap}
+use mathlib.Core.Path.{_≡_, refl, ap, _∙_}
 use mathlib.Core.Bool.{true}
 use mathlib.Core.List.{List, [], _∷_}
 use Prim.Native.Nat.{ℕ, zero, suc, _%_, _<_}
@@ -56,5 +56,6 @@ bytewise-faithful = record {
   write-read = λ t _ _ clean. low-same t clean;
   read-write = λ t es _ _ small. small-same es small;
   write-fits = λ t es fits long. eq-eqb (length (lowBits es) % 4) 0 (omega (arith, eqb-true (length t % 4) 0 fits, long, length-low t, length-low es));
+  write-long = λ t es _ long. length-low es ∙ long ∙ length-low t;
   write-clean = λ t es _ _. low-clean es;
 }

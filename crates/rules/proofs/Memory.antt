@@ -6,16 +6,17 @@ use mathlib.Core.List.{List, [], _∷_}
 use Prim.Native.Nat.{ℕ, zero, suc}
 use native.Mathlib.Omega.{arith}
 use lib.Dec.{eqb}
+use lib.ListN.{length}
 use borrow.Author.Tests.{eqb-true}
 use Rattle.rules.specs.Tests.{pick, both, either}
 use Rattle.rules.specs.Forms.{Form, packed, Faithful}
-use Rattle.rules.specs.Outcomes.{Heap, Answer, Outcome, heapOf, onlyRefusal, leavesWith, unlessRefused}
+use Rattle.rules.specs.Outcomes.{Heap, Answer, Outcome, onlyRefusal, leavesWith, unlessRefused}
 use Rattle.rules.specs.Refusals.{firstOf}
 use Rattle.rules.specs.Calls.{init, placing, allocate, free, Way, stay, shrink, grow, move, noWay, along, reallocate, collecting, collect, survey, load, store}
 use Rattle.rules.specs.Runs.{Call, Init, Allocate, Free, Reallocate, Collect, Survey, Load, Store, step, Turn, after, answers}
-use Rattle.rules.specs.Memory.{Memory, memory, Sound, heapIn, holding, Result, result, AcceptedIn, stackFor, readsTable, testsIn, orRefused, perform, turnIn, afterIn, answersIn}
+use Rattle.rules.specs.Memory.{Memory, lengthsFit, SameBeside, Sound, heapIn, holding, doneIn, Result, result, AcceptedIn, stackFor, readsTable, testsIn, orRefused, perform, turnIn, afterIn, answersIn}
 use Rattle.rules.specs.Meaning.{AllBytes}
-use Rattle.rules.proofs.Entries.{length-entriesOf, entriesOf-lt, tableOf-entriesOf, entriesOf-tableOf, entriesOf-injective}
+use Rattle.rules.proofs.Entries.{length-entriesOf, length-tableOf, entriesOf-lt, tableOf-entriesOf, entriesOf-tableOf, entriesOf-injective}
 use Rattle.rules.proofs.Refusals.{both-false, not-false}
 use Rattle.rules.proofs.Sizes.{Kept, step-keeps}
 
@@ -52,7 +53,7 @@ step-ended (Store base k i w) stack h = ended-unless _ h [] (accepted refl)
 -- ---- the tests on memory
 
 -- the number that the call on the heap gives, where the form adds no refusal of its own
-pub tests-own : (f : Form) (c : Call) (m : Memory) (r : ℕ) → f .fits (m .table) ≡ true → both (readsTable c) (not (f .clean (m .table))) ≡ false
+pub tests-own : (f : Form) (c : Call) (m : Memory) (r : ℕ) → lengthsFit f m ≡ true → both (readsTable c) (not (f .clean (m .table))) ≡ false
     → firstOf (testsIn f c m r) ≡ r
 unfolding firstOf
 tests-own f c m r fits clean = rw (fits, clean) (go (eqb r 1) (eqb r 2) (eqb r 0) refl refl refl)
@@ -77,26 +78,44 @@ none-holds false false true false r z = (refl, refl, go (eqb r 0) refl z)
 
 -- then neither the form nor the call on the heap refuses
 pub record Passes (f : Form) (c : Call) (m : Memory) (r : ℕ) : Type 0 where
-  pub fits : f .fits (m .table) ≡ true
+  pub fits : lengthsFit f m ≡ true
   pub clean : both (readsTable c) (not (f .clean (m .table))) ≡ false
   pub own : r ≡ 0
 
 pub tests-passed : (f : Form) (c : Call) (m : Memory) (r : ℕ) → firstOf (testsIn f c m r) ≡ 0 → Passes f c m r
 unfolding firstOf
 tests-passed f c m r z =
-    let n = none-holds (eqb r 1) (eqb r 2) (f .fits (m .table)) (both (readsTable c) (not (f .clean (m .table)))) r z in
+    let n = none-holds (eqb r 1) (eqb r 2) (lengthsFit f m) (both (readsTable c) (not (f .clean (m .table)))) r z in
     record { fits = n .0; clean = n .1; own = n .2 }
+
+-- ---- lengths
+
+pub table-fits : (f : Form) (m : Memory) → lengthsFit f m ≡ true → f .fits (m .table) ≡ true
+table-fits f m fit = fit
+
+-- no call changes them
+pub still-fit : (f : Form) → Faithful f → (c : Call) (m : Memory) (h : Heap) → lengthsFit f m ≡ true → length (h .entries) ≡ length (f .read (m .table))
+    → lengthsFit f (holding f c m h) ≡ true
+still-fit f faithful c m h fit long = faithful .write-fits (m .table) (h .entries) (table-fits f m fit) long
+
+-- which are what all but the pool decides, as is whether the table is clean
+pub sound-beside : (f : Form) (m m′ : Memory) → SameBeside m m′ → Sound f m → Sound f m′
+sound-beside f m m′ b s = record { fits = rw (← b .table) (s .fits); clean = rw (← b .table) (s .clean) }
+
+-- every packed table is as its form asks
+pub packed-sound : (m : Memory) → lengthsFit packed m ≡ true → Sound packed m
+packed-sound m fit = record { fits = fit; clean = refl }
 
 -- ---- a call on memory to which the form adds no refusal
 
-module _ (f : Form) (c : Call) (stack : List ℕ) (m : Memory) (fits : f .fits (m .table) ≡ true) (clean : both (readsTable c) (not (f .clean (m .table))) ≡ false) where
+module _ (f : Form) (c : Call) (stack : List ℕ) (m : Memory) (fits : lengthsFit f m ≡ true) (clean : both (readsTable c) (not (f .clean (m .table))) ≡ false) where
   abbrev o : Outcome
   o = step c stack (heapIn f m)
 
   number : firstOf (testsIn f c m (o .answer .refusal)) ≡ o .answer .refusal
   number = tests-own f c m (o .answer .refusal) fits clean
 
-  pub perform-accepted : o .answer .refusal ≡ 0 → perform f c stack m ≡ result (o .answer) (holding f m (o .heap)) (o .stack)
+  pub perform-accepted : o .answer .refusal ≡ 0 → perform f c stack m ≡ doneIn f c stack m
   unfolding perform orRefused
   perform-accepted z = rw (number ∙ z)
 
@@ -113,7 +132,7 @@ passes-in f c stack m x = tests-passed f c m (o .answer .refusal) (go (firstOf (
     o : Outcome
     o = step c stack (heapIn f m)
 
-    go : (n : ℕ) → AcceptedIn (orRefused n m (stackFor c stack) (result (o .answer) (holding f m (o .heap)) (o .stack))) → n ≡ 0
+    go : (n : ℕ) → AcceptedIn (orRefused n m (stackFor c stack) (doneIn f c stack m)) → n ≡ 0
     go zero a = refl
     go (suc r) a = a
 
@@ -132,6 +151,7 @@ packed-faithful = record {
   write-read = λ t bytes _ _. tableOf-entriesOf t bytes;
   read-write = λ t es _ long small. entriesOf-tableOf es (omega (arith, long, length-entriesOf t)) small;
   write-fits = λ t es _ _. refl;
+  write-long = λ t es _ long. omega (arith, long, length-entriesOf t, length-tableOf es (omega (arith, long, length-entriesOf t)));
   write-clean = λ t es _ _. refl;
 }
 
@@ -147,7 +167,7 @@ pub record Follows (f : Form) (r : Result) (o : Outcome) : Type 0 where
   pub sound : AcceptedIn r → Sound f (r .memory)
   pub written : AcceptedIn r → Written f (r .memory)
 
-module _ (f : Form) (faithful : Faithful f) (c : Call) (stack : List ℕ) (m : Memory) (fits : f .fits (m .table) ≡ true)
+module _ (f : Form) (faithful : Faithful f) (c : Call) (stack : List ℕ) (m : Memory) (fits : lengthsFit f m ≡ true)
     (clean : both (readsTable c) (not (f .clean (m .table))) ≡ false) where
   abbrev there : Outcome
   there = step c stack (heapIn f m)
@@ -159,7 +179,7 @@ module _ (f : Form) (faithful : Faithful f) (c : Call) (stack : List ℕ) (m : M
       kept = step-keeps c stack (heapIn f m) .entries
 
       back : f .read (f .write (there .heap .entries)) ≡ there .heap .entries
-      back = faithful .read-write (m .table) (there .heap .entries) fits (kept .long) (kept .small (faithful .small (m .table)))
+      back = faithful .read-write (m .table) (there .heap .entries) (table-fits f m fits) (kept .long) (kept .small (faithful .small (m .table)))
 
       go : Ended (heapIn f m) (stackFor c stack) there → Follows f (perform f c stack m) there
       go (accepted z) =
@@ -168,7 +188,7 @@ module _ (f : Form) (faithful : Faithful f) (c : Call) (stack : List ℕ) (m : M
           (record {
             answer = refl;
             heap = rw back refl;
-            sound = λ _. record { fits = faithful .write-fits (m .table) _ fits (kept .long); clean = faithful .write-clean (m .table) _ fits (kept .long) };
+            sound = λ _. record { fits = still-fit f faithful c m (there .heap) fits (kept .long); clean = faithful .write-clean (m .table) _ (table-fits f m fits) (kept .long) };
             written = λ _. rw back refl;
           })
       go (refused r q) =
@@ -193,7 +213,7 @@ performed f c stack m = go (firstOf (testsIn f c m (o .answer .refusal))) refl
     o = step c stack (heapIn f m)
 
     go : (n : ℕ) → firstOf (testsIn f c m (o .answer .refusal)) ≡ n
-        → Performed m (stackFor c stack) (orRefused n m (stackFor c stack) (result (o .answer) (holding f m (o .heap)) (o .stack)))
+        → Performed m (stackFor c stack) (orRefused n m (stackFor c stack) (doneIn f c stack m))
     go zero e = acted (tests-passed f c m (o .answer .refusal) e .own)
     go (suc r) e = left r refl
 
@@ -205,7 +225,7 @@ none-filled f c stack m = go (firstOf (testsIn f c m (o .answer .refusal)))
     o : Outcome
     o = step c stack (heapIn f m)
 
-    go : (n : ℕ) → orRefused n m (stackFor c stack) (result (o .answer) (holding f m (o .heap)) (o .stack)) .filled ≡ []
+    go : (n : ℕ) → orRefused n m (stackFor c stack) (doneIn f c stack m) .filled ≡ []
     go zero = refl
     go (suc r) = refl
 
@@ -255,17 +275,17 @@ module _ (f : Form) (faithful : Faithful f) where
 -- ---- what the code leaves, in bytes
 
 -- A call whose answer and heap are those of the rules leaves the bytes of the packed form that memory's rules give: tables with the same entries are the same.
-pub in-bytes : (c : Call) (stack pool table pool′ table′ stack′ : List ℕ) (a : Answer) → AllBytes table → AllBytes table′
-    → leavesWith a (heapOf pool′ table′) stack′ ≡ step c stack (heapOf pool table) → result a (memory pool′ table′) stack′ ≡ perform packed c stack (memory pool table)
-in-bytes c stack pool table pool′ table′ stack′ a small small′ e = go (step-ended c stack (heapOf pool table))
+pub in-bytes : (c : Call) (stack : List ℕ) (m m′ : Memory) (stack′ : List ℕ) (a : Answer) → AllBytes (m .table) → AllBytes (m′ .table) → lengthsFit packed m ≡ true
+    → leavesWith a (heapIn packed m′) stack′ ≡ step c stack (heapIn packed m) → result a m′ stack′ ≡ perform packed c stack m
+in-bytes c stack m m′ stack′ a small small′ fit e = go (step-ended c stack (heapIn packed m))
   where
     unread : both (readsTable c) false ≡ false
     unread = both-false (readsTable c)
 
-    go : Ended (heapOf pool table) (stackFor c stack) (step c stack (heapOf pool table)) → result a (memory pool′ table′) stack′ ≡ perform packed c stack (memory pool table)
-    go (accepted z) = rw (perform-accepted packed c stack (memory pool table) refl unread z, ← e, tableOf-entriesOf table′ small′)
+    go : Ended (heapIn packed m) (stackFor c stack) (step c stack (heapIn packed m)) → result a m′ stack′ ≡ perform packed c stack m
+    go (accepted z) = rw (perform-accepted packed c stack m fit unread z, ← e, tableOf-entriesOf (m′ .table) small′)
     go (refused r q) =
         let d = e ∙ q in
-        let t : table′ ≡ table = entriesOf-injective table′ table small′ small (ap (λ (x : Outcome). x .heap .entries) d) in
-        let p : pool′ ≡ pool = ap (λ (x : Outcome). x .heap .pool) d in
-        rw (perform-refused packed c stack (memory pool table) refl unread r q, t, p, ap (λ (x : Outcome). x .answer) d, ap (λ (x : Outcome). x .stack) d)
+        let t : m′ .table ≡ m .table = entriesOf-injective (m′ .table) (m .table) small′ small (ap (λ (x : Outcome). x .heap .entries) d) in
+        let p : m′ .pool ≡ m .pool = ap (λ (x : Outcome). x .heap .pool) d in
+        rw (perform-refused packed c stack m fit unread r q, t, p, ap (λ (x : Outcome). x .answer) d, ap (λ (x : Outcome). x .stack) d)

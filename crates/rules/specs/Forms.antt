@@ -35,4 +35,5 @@ pub record Faithful (f : Form) : Type 0 where
   -- as many entries as a table has that fits are written as bytes that fit and are clean, and are read from them again
   pub read-write : (t es : List ℕ) → f .fits t ≡ true → length es ≡ length (f .read t) → Small es → f .read (f .write es) ≡ es
   pub write-fits : (t es : List ℕ) → f .fits t ≡ true → length es ≡ length (f .read t) → f .fits (f .write es) ≡ true
+  pub write-long : (t es : List ℕ) → f .fits t ≡ true → length es ≡ length (f .read t) → length (f .write es) ≡ length t
   pub write-clean : (t es : List ℕ) → f .fits t ≡ true → length es ≡ length (f .read t) → f .clean (f .write es) ≡ true

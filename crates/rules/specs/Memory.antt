@@ -25,14 +25,22 @@ memory pool table = record { pool = pool; table = table }
 abbrev pub heapIn : Form → Memory → Heap
 heapIn f m = record { pool = m .pool; entries = f .read (m .table) }
 
--- its table is as the form asks
+-- the lengths fit: else it is refusal 1
+abbrev pub lengthsFit : Form → Memory → Bool
+lengthsFit f m = f .fits (m .table)
+
+-- the two memories hold the same but for the pool
+pub record SameBeside (m m′ : Memory) : Type 0 where
+  pub table : m .table ≡ m′ .table
+
+-- its lengths fit, and its table is as the form asks
 pub record Sound (f : Form) (m : Memory) : Type 0 where
-  pub fits : f .fits (m .table) ≡ true
+  pub fits : lengthsFit f m ≡ true
   pub clean : f .clean (m .table) ≡ true
 
--- the memory with another heap in it
-abbrev pub holding : Form → Memory → Heap → Memory
-holding f m h = memory (h .pool) (f .write (h .entries))
+-- the memory that an accepted call leaves, with this heap in it. What is lent beside pool and table is worked out here, from the call and from what was there
+abbrev pub holding : Form → Call → Memory → Heap → Memory
+holding f c m h = memory (h .pool) (f .write (h .entries))
 
 -- the answer, and what all that was lent then holds
 pub record Result : Type 0 where
@@ -76,7 +84,7 @@ readsTable (Store base k i w) = true
 -- adds to them, then the call's own. What is tested last comes after these.
 abbrev pub testsIn : Form → Call → Memory → ℕ → List Test
 testsIn f c m r =
-    test 1 (either (eqb r 1) (not (f .fits (m .table))))
+    test 1 (either (eqb r 1) (not (lengthsFit f m)))
     ∷ test 2 (either (eqb r 2) (both (readsTable c) (not (f .clean (m .table)))))
     ∷ test r (not (eqb r 0))
     ∷ []
@@ -86,11 +94,16 @@ unfoldable pub orRefused : ℕ → Memory → List ℕ → Result → Result
 orRefused zero m stack done = done
 orRefused (suc r) m stack done = result (onlyRefusal (suc r)) m stack
 
+-- what an accepted call gives
+abbrev pub doneIn : Form → Call → List ℕ → Memory → Result
+doneIn f c stack m =
+    let o : Outcome = step c stack (heapIn f m) in
+    result (o .answer) (holding f c m (o .heap)) (o .stack)
+
 -- a call on lent memory, with the mark stack that is lent for it
 unfoldable pub perform : Form → Call → List ℕ → Memory → Result
 perform f c stack m =
-    let o : Outcome = step c stack (heapIn f m) in
-    orRefused (firstOf (testsIn f c m (o .answer .refusal))) m (stackFor c stack) (result (o .answer) (holding f m (o .heap)) (o .stack))
+    orRefused (firstOf (testsIn f c m (step c stack (heapIn f m) .answer .refusal))) m (stackFor c stack) (doneIn f c stack m)
 
 -- ---- lists of calls, each on the memory as the one before left it
 

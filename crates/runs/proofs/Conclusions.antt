@@ -98,7 +98,7 @@ module _ {f : Form} {ts us : List Turn} {m m′ : Memory} (same : Indistinct f t
 
   -- the bytes of the tables
   pub same-tables : afterIn f ts m .table ≡ afterIn f us m′ .table
-  same-tables = same .same-table
+  same-tables = same .same-beside .table
 
   -- the four words of an allocated block
   pub same-words : (k : ℕ) → entryAt (f .read (afterIn f ts m .table)) k ≢ FREE → (i : ℕ) → i < 4

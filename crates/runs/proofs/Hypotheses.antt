@@ -14,7 +14,7 @@ use Rattle.rules.specs.Reach.{Reachable}
 use Rattle.rules.specs.Calls.{collecting, collect}
 use Rattle.rules.specs.Runs.{Call, Collect, step, Turn}
 use Rattle.rules.specs.Meaning.{Accepted}
-use Rattle.rules.specs.Memory.{memory, AcceptedIn, perform}
+use Rattle.rules.specs.Memory.{Memory, SameBeside, AcceptedIn, perform}
 use Rattle.rules.proofs.Refusals.{accepts, accepted-none}
 use Rattle.rules.proofs.Twice.{heap, shape-same}
 use Rattle.keeping.specs.Keeping.{Agree}
@@ -22,7 +22,7 @@ use Rattle.keeping.proofs.Collections.{acted, collect-from}
 use Rattle.runs.specs.Noninterference.{SameStacks, equally-long, both-good, turn, Alike, done, next}
 use Rattle.runs.specs.Unseen.{callsOf, stackLengths}
 use Rattle.runs.proofs.Collections.{stacks-whole, stacks-short}
-use Rattle.rules.proofs.Memory.{accepted-sound, refusal-in}
+use Rattle.rules.proofs.Memory.{sound-beside, accepted-sound, refusal-in}
 
 -- ---- mark stacks
 
@@ -92,14 +92,12 @@ also-collected base roots es p q stack stack′ l s x =
     let z′ : firstOf (collectionTests base h′ roots stack′) ≡ 0 = rw (← shape-same base es p q l, ← stacks-whole s, ← stacks-short s) z in
     rw (collect-from base h′ roots stack′, accepts h′ stack′ (acted base h′ roots stack′) z′) refl
 
--- and so is one of memories with the same table
-pub also-accepted : (f : Form) → Faithful f → (base : ℕ) (table roots pool pool′ stack stack′ : List ℕ) → length pool ≡ length pool′ → SameStacks stack stack′
-    → AcceptedIn (perform f (Collect base roots) stack (memory pool table)) → AcceptedIn (perform f (Collect base roots) stack′ (memory pool′ table))
+-- and so is one of memories that are the same but for the pools
+pub also-accepted : (f : Form) → Faithful f → (base : ℕ) (roots stack stack′ : List ℕ) (m m′ : Memory) → length (m .pool) ≡ length (m′ .pool) → SameBeside m m′
+    → SameStacks stack stack′ → AcceptedIn (perform f (Collect base roots) stack m) → AcceptedIn (perform f (Collect base roots) stack′ m′)
 unfolding step
-also-accepted f faithful base table roots pool pool′ stack stack′ l s x =
+also-accepted f faithful base roots stack stack′ m m′ l b s x =
     let c = Collect base roots in
-    let m = memory pool table in
-    let m′ = memory pool′ table in
     let w = accepted-sound f c stack m refl x in
     let y = sym (refusal-in f faithful c stack m w) ∙ x in
-    refusal-in f faithful c stack′ m′ (record { fits = w .fits; clean = w .clean }) ∙ also-collected base roots (f .read table) pool pool′ stack stack′ l s y
+    refusal-in f faithful c stack′ m′ (sound-beside f m m′ b w) ∙ rw (← b .table) (also-collected base roots (f .read (m .table)) (m .pool) (m′ .pool) stack stack′ l s y)

@@ -6,7 +6,7 @@ use mathlib.Core.List.{List, _∷_}
 use Rattle.rules.specs.Forms.{Form, Faithful}
 use Rattle.rules.specs.Outcomes.{Heap}
 use Rattle.rules.specs.Runs.{Collect, Turn, after}
-use Rattle.rules.specs.Memory.{Memory, memory, heapIn, Sound, AcceptedIn, perform, turnIn, afterIn, filledIn}
+use Rattle.rules.specs.Memory.{Memory, heapIn, Sound, AcceptedIn, perform, turnIn, afterIn, filledIn}
 use Rattle.rules.proofs.Memory.{Written, follows-sound, answers-in, after-in, after-written, accepted-sound, refusal-in, none-filled}
 use Rattle.runs.specs.Noninterference.{Alike, done, next, Indistinct, Noninterference}
 use Rattle.runs.proofs.Heaps.{SameUsed, SameHeaps, heaps-same}
@@ -33,7 +33,7 @@ module _ (f : Form) (faithful : Faithful f) where
       record {
         same-answers = rw (answers-in f faithful (t ∷ ts) m s, answers-in f faithful (u ∷ us) m′ s′) (same .same-answers);
         same-filled = buffers-same f alike m m′;
-        same-table = tables;
+        same-beside = record { table = tables };
         same-bytes = used;
       }
     where
@@ -53,12 +53,12 @@ module _ (f : Form) (faithful : Faithful f) where
       used = subst (λ (h : Heap). SameUsed h (heapIn f (afterIn f (u ∷ us) m′))) (sym e) (subst (SameUsed (after (t ∷ ts) (heapIn f m))) (sym e′) (same .same-used))
 
 pub noninterference : Noninterference
-noninterference f faithful base table roots pool pool′ stack stack′ ts us agree alike x x′ =
-    let m = memory pool table in
-    let m′ = memory pool′ table in
+noninterference f faithful base roots stack stack′ m m′ ts us beside agree alike x x′ =
     let c = Collect base roots in
     let s = accepted-sound f c stack m refl x in
     let s′ = accepted-sound f c stack′ m′ refl x′ in
     let y = sym (refusal-in f faithful c stack m s) ∙ x in
     let y′ = sym (refusal-in f faithful c stack′ m′ s′) ∙ x′ in
-    memories-same f faithful s s′ alike x x′ (heaps-same base roots (f .read table) pool pool′ stack stack′ (faithful .small table) agree alike y y′)
+    memories-same f faithful s s′ alike x x′
+    (rw (← beside .table)
+    (heaps-same base roots (f .read (m .table)) (m .pool) (m′ .pool) stack stack′ (faithful .small (m .table)) (rw (← beside .table) at agree) alike y (rw (← beside .table) at y′)))

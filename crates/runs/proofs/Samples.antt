@@ -30,7 +30,7 @@ use Rattle.keeping.proofs.Owners.{reachable-head}
 use Rattle.keeping.proofs.Kept.{collected-kept}
 use Rattle.runs.specs.Noninterference.{SameStacks, Alike, done, next, SameAnswers, Indistinct}
 use Rattle.runs.specs.Unseen.{stackLengths}
-use Rattle.runs.specs.Samples.{sampleBase, sampleTable, sampleRoots, firstPool, secondPool, thirdPool, firstMemory, secondMemory, thirdMemory, earlierCalls, firstCalls, secondCalls, loadingCalls}
+use Rattle.runs.specs.Samples.{sampleBase, sampleRoots, firstPool, secondPool, firstMemory, secondMemory, thirdMemory, earlierCalls, firstCalls, secondCalls, loadingCalls}
 use Rattle.runs.proofs.Noninterference.{noninterference}
 use Rattle.runs.proofs.Conclusions.{answer-but-rescans, answers-later, answers-joined, same-tables, same-words}
 use Rattle.runs.proofs.Hypotheses.{stacks-long, stacks-good, alike-next, alike-long, agree-of, also-accepted}
@@ -159,8 +159,8 @@ first-second-agree = agree-tested sampleBase firstHeap secondHeap (wordsOf sampl
 pub first-second-indistinct : Indistinct packed firstCalls secondCalls firstMemory secondMemory
 first-second-indistinct =
     let x = accepted _ _ firstMemory _ _ (computed .first-answers) refl in
-    noninterference packed packed-faithful sampleBase sampleTable sampleRoots firstPool secondPool [] (replicate 12 9) _ _ first-second-agree samples-alike
-    x (also-accepted packed packed-faithful sampleBase sampleTable sampleRoots firstPool secondPool [] (replicate 12 9) (computed .long) samples-stacks x)
+    noninterference packed packed-faithful sampleBase sampleRoots [] (replicate 12 9) firstMemory secondMemory _ _ (record { table = refl }) first-second-agree samples-alike
+    x (also-accepted packed packed-faithful sampleBase sampleRoots [] (replicate 12 9) firstMemory secondMemory (computed .long) (record { table = refl }) samples-stacks x)
 
 -- equal parts of a list
 joined-same : {xs xs′ ys ys′ zs : List Answer} → zs ≡ xs ++ ys → xs ≡ xs′ → ys ≡ ys′ → zs ≡ xs′ ++ ys′
@@ -211,5 +211,5 @@ first-third-distinct same =
 pub first-third-disagree : Agree sampleBase (wordsOf sampleRoots) firstHeap thirdHeap → ⊥
 first-third-disagree agree =
     first-third-distinct
-    (noninterference packed packed-faithful sampleBase sampleTable sampleRoots firstPool thirdPool [] [] _ _ agree (alike-long _ _ refl refl)
+    (noninterference packed packed-faithful sampleBase sampleRoots [] [] firstMemory thirdMemory _ _ (record { table = refl }) agree (alike-long _ _ refl refl)
     (accepted _ _ firstMemory _ _ (computed .first-loads) refl) (accepted _ _ thirdMemory _ _ (computed .third-loads) refl))

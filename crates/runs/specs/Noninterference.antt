@@ -14,7 +14,7 @@ use Rattle.rules.specs.Tables.{entryAt}
 use Rattle.rules.specs.Forms.{Form, Faithful}
 use Rattle.rules.specs.Outcomes.{Answer}
 use Rattle.rules.specs.Runs.{Call, Collect, Turn}
-use Rattle.rules.specs.Memory.{Memory, memory, heapIn, AcceptedIn, perform, afterIn, answersIn, filledIn}
+use Rattle.rules.specs.Memory.{Memory, heapIn, SameBeside, AcceptedIn, perform, afterIn, answersIn, filledIn}
 use Rattle.keeping.specs.Keeping.{Agree, butRescans, GoodStack}
 
 -- ---- calls that are made alike
@@ -56,8 +56,8 @@ pub record Indistinct (f : Form) (ts us : List Turn) (m m′ : Memory) : Type 0 
   pub same-answers : SameAnswers ts us (answersIn f ts m) (answersIn f us m′)
   -- and so is what the calls wrote into buffers that were lent for it
   pub same-filled : filledIn f ts m ≡ filledIn f us m′
-  -- after the list the tables are the same, byte by byte
-  pub same-table : afterIn f ts m .table ≡ afterIn f us m′ .table
+  -- after the list all that is lent but the pools is the same, byte by byte
+  pub same-beside : SameBeside (afterIn f ts m) (afterIn f us m′)
   -- and so is every byte of an allocated block
   pub same-bytes : (k : ℕ) → entryAt (f .read (afterIn f ts m .table)) k ≢ FREE → (j : ℕ) → j < 16
       → getD (afterIn f ts m .pool) (16 * k + j) 0 ≡ getD (afterIn f us m′ .pool) (16 * k + j) 0
@@ -68,12 +68,12 @@ abbrev pub Noninterference : Type 0
 Noninterference =
     -- the form of the tables: any in which bytes and entries say the same
     (f : Form) → Faithful f →
-    -- one base, one table and one root list, in bytes, for both heaps; for each heap a pool, a mark stack for the collection, and the calls that follow it
-    (base : ℕ) (table roots pool pool′ stack stack′ : List ℕ) (ts us : List Turn) →
-    let m : Memory = memory pool table in
-    let m′ : Memory = memory pool′ table in
+    -- one base and one root list, in bytes, for both heaps; for each heap its memory, a mark stack for the collection, and the calls that follow it
+    (base : ℕ) (roots stack stack′ : List ℕ) (m m′ : Memory) (ts us : List Turn) →
     let first : Turn = turn (Collect base roots) stack in
     let first′ : Turn = turn (Collect base roots) stack′ in
+    -- all that is lent but the pools is the same
+    SameBeside m m′ →
     -- the heaps are equal in every byte of the objects reachable from the root list, whatever their other bytes hold
     Agree base (wordsOf roots) (heapIn f m) (heapIn f m′)
     -- both are collected from that list, and then called alike, by any calls on any bases, refused ones included

@@ -12,7 +12,7 @@ use Rattle.rules.specs.Entries.{FREE}
 use Rattle.rules.specs.Tables.{entryAt}
 use Rattle.rules.specs.Forms.{Form, Faithful}
 use Rattle.rules.specs.Runs.{Call, Init, Allocate, Free, Reallocate, Collect, Survey, Load, Store, Turn}
-use Rattle.rules.specs.Memory.{Memory, memory, heapIn, AcceptedIn, perform, afterIn, answersIn, filledIn}
+use Rattle.rules.specs.Memory.{Memory, heapIn, SameBeside, AcceptedIn, perform, afterIn, answersIn, filledIn}
 use Rattle.keeping.specs.Keeping.{Agree}
 use Rattle.runs.specs.Noninterference.{turn}
 
@@ -43,8 +43,8 @@ pub record SeenAlike (f : Form) (ts us : List Turn) (m m′ : Memory) : Type 0 w
   pub lists : answersIn f ts m ≡ answersIn f us m′
   -- what the calls wrote into buffers
   pub buffers : filledIn f ts m ≡ filledIn f us m′
-  -- every byte of the table
-  pub tables : afterIn f ts m .table ≡ afterIn f us m′ .table
+  -- every byte that is lent but for the pool
+  pub beside : SameBeside (afterIn f ts m) (afterIn f us m′)
   -- each of the four words of an allocated block
   pub words : (k : ℕ) → entryAt (f .read (afterIn f ts m .table)) k ≢ FREE → (i : ℕ) → i < 4
       → wordAt (afterIn f ts m .pool) (4 * k + i) ≡ wordAt (afterIn f us m′ .pool) (4 * k + i)
@@ -53,13 +53,12 @@ abbrev pub Unseen : Type 0
 Unseen =
     -- the form of the tables
     (f : Form) → Faithful f →
-    (base : ℕ) (table roots pool pool′ stack stack′ : List ℕ) (ts us : List Turn) →
-    let m : Memory = memory pool table in
-    let m′ : Memory = memory pool′ table in
+    (base : ℕ) (roots stack stack′ : List ℕ) (m m′ : Memory) (ts us : List Turn) →
     let first : Turn = turn (Collect base roots) stack in
     let first′ : Turn = turn (Collect base roots) stack′ in
     -- two pools of one length, equal in every byte of the reachable objects
-    length pool ≡ length pool′
+    length (m .pool) ≡ length (m′ .pool)
+    → SameBeside m m′
     → Agree base (wordsOf roots) (heapIn f m) (heapIn f m′)
     -- the same calls, with mark stacks of the same lengths, whatever these hold
     → callsOf (first ∷ ts) ≡ callsOf (first′ ∷ us)

@@ -1,4 +1,5 @@
 -- `blockheap::blockheap_collect` meets its contract: the numbers go on as they came. Assumes nothing.
+use mathlib.Core.Path.{refl}
 use borrow.Author.Needs.{needs}
 use mir.Syntax.{w32}
 use mir.ValLaws.{toZ-ofZ}
@@ -22,7 +23,7 @@ same-length-2 c = search needs
 returns : tie.Need-returns
 unfolding step
 returns c =
-    in-bytes (Collect _ _) _ _ _ _ _ _ _ (λ i. c .before .before .before .before .before .before .before .before .before .before .before .slice-known .given i .fits) (λ i. c .before .before .before .slice-known3 .given i .fits)
+    in-bytes (Collect _ _) _ _ _ _ _ (λ i. c .before .before .before .before .before .before .before .before .before .before .before .slice-known .given i .fits) (λ i. c .before .before .before .slice-known3 .given i .fits) refl
     (rw (toZ-ofZ w32 (c .before .before .before .before .before .collect .result .change) (search (needs, c .struct-told .given)))
     (rw (c .before .before .before .before .before .before .before .before .of-number .ensures) at (c .before .before .before .before .before .collect .ensures)))
 

@@ -1,5 +1,6 @@
 -- `blockheap::blockheap_free` meets its contract: the numbers go on as they came. Assumes nothing.
 use mathlib.Core.List.{[]}
+use mathlib.Core.Path.{refl}
 use borrow.Author.Needs.{needs}
 use mir.Syntax.{w32}
 use mir.ValLaws.{toZ-ofZ}
@@ -23,7 +24,7 @@ same-length c = search needs
 returns : tie.Need-returns
 unfolding step
 returns c =
-    in-bytes (Free _ _) [] _ _ _ _ [] _ (λ i. c .before .before .before .before .before .before .before .slice-known .given i .fits) (λ i. c .before .slice-known2 .given i .fits)
+    in-bytes (Free _ _) [] _ _ [] _ (λ i. c .before .before .before .before .before .before .before .slice-known .given i .fits) (λ i. c .before .slice-known2 .given i .fits) refl
     (rw (toZ-ofZ w32 (c .before .before .before .free .result .change) (search (needs, c .struct-told .given)))
     (rw (c .before .before .before .before .before .before .of-number .ensures, c .before .before .before .before .of-number2 .ensures) at (c .before .before .before .free .ensures)))
 

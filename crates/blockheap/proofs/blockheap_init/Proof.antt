@@ -1,5 +1,6 @@
 -- `blockheap::blockheap_init` meets its contract: the numbers go on as they came. Assumes nothing.
 use mathlib.Core.List.{[]}
+use mathlib.Core.Path.{refl}
 use borrow.Author.Needs.{needs}
 use Rattle.rules.specs.Runs.{Init, step}
 use Rattle.rules.proofs.Memory.{in-bytes}
@@ -18,7 +19,7 @@ same-length c = search needs
 returns : tie.Need-returns
 unfolding step
 returns c =
-    in-bytes (Init _) [] _ _ _ _ [] _ (λ i. c .before .before .before .before .before .slice-known .given i .fits) (λ i. c .slice-known2 .given i .fits)
+    in-bytes (Init _) [] _ _ [] _ (λ i. c .before .before .before .before .before .slice-known .given i .fits) (λ i. c .slice-known2 .given i .fits) refl
     (rw (c .before .before .before .before .of-number .ensures) at (c .before .before .init .ensures))
 
 pub blockheap-init-spec : {M : Type 1} → statement M

@@ -1,6 +1,7 @@
 -- `blockheap::blockheap_reallocate` meets its contract: the block fits 32 bits, being a block of the table. Assumes nothing.
 use native.Mathlib.Omega.{arith}
 use mathlib.Core.List.{[]}
+use mathlib.Core.Path.{refl}
 use borrow.Author.Needs.{needs}
 use mir.Syntax.{w32}
 use mir.ValLaws.{toZ-ofZ}
@@ -38,7 +39,7 @@ returns : tie.Need-returns
 unfolding step
 returns c =
     rw (c .before .number .ensures)
-    (in-bytes (Reallocate _ _ _) [] _ _ _ _ [] _ (λ i. c .before .before .before .before .before .before .before .before .before .before .before .before .slice-known2 .given i .fits) (λ i. c .before .before .slice-known4 .given i .fits)
+    (in-bytes (Reallocate _ _ _) [] _ _ [] _ (λ i. c .before .before .before .before .before .before .before .before .before .before .before .before .slice-known2 .given i .fits) (λ i. c .before .before .slice-known4 .given i .fits) refl
     (rw (toZ-ofZ w32 (c .before .before .before .before .before .before .reallocate .result .change) (search (needs, c .struct-told .given)))
     (rw (c .before .before .before .before .before .before .before .before .before .before .before .of-number .ensures, c .before .before .before .before .before .before .before .before .of-number2 .ensures, c .before .before .before .before .before .before .before .of-number3 .ensures) at (c .before .before .before .before .before .before .reallocate .ensures))))
 
