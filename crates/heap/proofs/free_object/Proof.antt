@@ -4,6 +4,8 @@ use Prim.Native.Nat.{ℕ}
 use native.Mathlib.Omega.{arith}
 use lib.IntN.{negℤ, pos}
 use borrow.Author.Needs.{needs}
+use Rattle.rules.specs.Entries.{entriesOf}
+use Rattle.rules.specs.Tables.{released}
 use Rattle.rules.proofs.Entries.{length-entriesOf}
 use Rattle.heap.proofs.Ends.{signed}
 use Rattle.heap.proofs.free_object.Statement.{statement}
@@ -26,8 +28,9 @@ same-length c = search needs
 
 returns : tie.Need-returns
 returns c =
+    let s = c .before .before .before .before .before .before .before .before in
     let count = c .before .before .before .before .before .block-count .ensures .0 in
-    (rw count at (c .before .before .before .release .ensures), signed _ (c .negated .ok) ∙ c .negated .ensures ∙ ap (λ (n : ℕ). negℤ (pos n)) count)
+    (c .before .before .before .release .ensures ∙ ap (released (entriesOf (s .args .table .now)) (s .args .k .0)) count, signed _ (c .negated .ok) ∙ c .negated .ensures ∙ ap (λ (n : ℕ). negℤ (pos n)) count)
 
 pub free-object-spec : {M : Type 1} → statement M
 free-object-spec = tie.close (tie.spec block-count-requires release-requires negated-requires same-length returns)

@@ -1,6 +1,8 @@
 -- `Address::is_base` takes the rule's three tests in order; a base above the address space ends there too.
 -- Assumes nothing.
-use Prim.Native.Nat.{_+_, _*_, _<_}
+use mathlib.Core.Path.{_≡_}
+use mathlib.Core.Logic.{_≢_}
+use Prim.Native.Nat.{_+_, _*_, _%_, _<_}
 use native.Mathlib.Omega.{arith}
 use borrow.Author.Needs.{needs}
 use borrow.Author.Tests.{le-leb, lt-leb, eq-eqb, ne-eqb}
@@ -10,11 +12,15 @@ use Rattle.memory.proofs.Address.is_base.Tie as tie
 
 returns : tie.Need-returns
 unfolding goodBase
-returns c = simp (ne-eqb _ _ (c .if1 .taken))
+returns c =
+    let off : c .before .args .self .0 % 16 ≢ 0 = λ e. c .if1 .taken (omega arith) in
+    simp (ne-eqb _ _ off)
 
 returns-2 : tie.Need-returns-2
 unfolding goodBase
-returns-2 c = simp (eq-eqb _ _ (c .before .if1 .left), lt-leb _ _ (c .if2 .taken))
+returns-2 c =
+    let on : c .before .before .args .self .0 % 16 ≡ 0 = omega (arith, c .before .if1 .left) in
+    simp (eq-eqb _ _ on, lt-leb _ _ (c .if2 .taken))
 
 returns-3 : tie.Need-returns-3
 unfolding goodBase addressOf
