@@ -1,7 +1,7 @@
 -- Of packed tables the statement says as much of the heaps: every packed table is as its form asks, so the calls on memory are those on the heap in it,
 -- and equal bytes are equal entries.
 -- Assumes nothing.
-use mathlib.Core.Path.{_≡_, refl, sym, ap, subst, _∙_}
+use mathlib.Core.Path.{_≡_, sym, ap, subst, _∙_}
 use mathlib.Core.List.{List, _∷_}
 use Prim.Native.Nat.{ℕ}
 use Rattle.rules.specs.Words.{wordsOf}
