@@ -7,8 +7,8 @@ use borrow.Author.Needs.{needs}
 use Rattle.rules.specs.Entries.{entriesOf}
 use Rattle.entries.specs.Starts.{NoStart}
 use Rattle.entries.proofs.Starts.{no-start-join}
-use Rattle.entries.proofs.pass_by_16.Statement.{statement}
-use Rattle.entries.proofs.pass_by_16.Tie as tie
+use Rattle.entries.proofs.runs.pass_by_16.Statement.{statement}
+use Rattle.entries.proofs.runs.pass_by_16.Tie as tie
 
 abbrev Inv-loop : tie.InvT-loop
 Inv-loop table i count n at₀ at = (at ≤ length table) × ((i ≤ at) × NoStart (entriesOf table) count (4 * i) (4 * at))

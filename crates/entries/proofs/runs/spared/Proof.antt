@@ -4,8 +4,8 @@ use mathlib.Core.Bool.{Bool}
 use mathlib.Core.Path.{sym, ap}
 use borrow.Author.Tests.{lt-ltb, le-ltb}
 use Rattle.rules.specs.Tests.{pick}
-use Rattle.entries.proofs.spared.Statement.{statement}
-use Rattle.entries.proofs.spared.Tie as tie
+use Rattle.entries.proofs.runs.spared.Statement.{statement}
+use Rattle.entries.proofs.runs.spared.Tie as tie
 
 returns : tie.Need-returns
 returns c = sym (ap (λ (t : Bool). pick t 0 255) (lt-ltb _ _ (c .if1 .taken)))

@@ -2,8 +2,8 @@
 -- Assumes nothing.
 use borrow.Author.Needs.{needs}
 use Rattle.entries.proofs.Starts.{no-start}
-use Rattle.entries.proofs.may_start.Statement.{statement}
-use Rattle.entries.proofs.may_start.Tie as tie
+use Rattle.entries.proofs.runs.may_start.Statement.{statement}
+use Rattle.entries.proofs.runs.may_start.Tie as tie
 
 shared-slice-read-a : tie.Need-shared-slice-read-a
 shared-slice-read-a c = search needs

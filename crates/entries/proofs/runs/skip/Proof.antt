@@ -10,8 +10,8 @@ use Rattle.rules.specs.Entries.{entriesOf}
 use Rattle.rules.proofs.Entries.{length-entriesOf}
 use Rattle.entries.specs.Starts.{NoStart}
 use Rattle.entries.proofs.Starts.{no-start-join}
-use Rattle.entries.proofs.skip.Statement.{statement}
-use Rattle.entries.proofs.skip.Tie as tie
+use Rattle.entries.proofs.runs.skip.Statement.{statement}
+use Rattle.entries.proofs.runs.skip.Tie as tie
 
 -- no run starts before `end`, and the answer is the block with this number
 answered : (es : List ℕ) (count : ℕ) {from first block : ℕ} (end : ℕ) → end ≤ length es → first ≡ from → block ≡ end → (first ≤ end) × NoStart es count first end

@@ -8,8 +8,8 @@ use borrow.Author.Needs.{needs}
 use Rattle.rules.specs.Entries.{entriesOf}
 use Rattle.entries.specs.Starts.{NoStart}
 use Rattle.entries.proofs.Starts.{no-start-join}
-use Rattle.entries.proofs.may_start_in_16.Statement.{statement}
-use Rattle.entries.proofs.may_start_in_16.Tie as tie
+use Rattle.entries.proofs.runs.may_start_in_16.Statement.{statement}
+use Rattle.entries.proofs.runs.may_start_in_16.Tie as tie
 
 abbrev Inv-loop : tie.InvT-loop
 Inv-loop table i count any₀ j₀ any j = (j ≤ 16) × (any ≡ 0 → NoStart (entriesOf table) count (4 * i) (4 * (i + j)))
