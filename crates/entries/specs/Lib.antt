@@ -1,2 +1,4 @@
 pub mod Carry
+pub mod Rows
+pub mod Scans
 pub mod Starts

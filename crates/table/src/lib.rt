@@ -4,7 +4,7 @@ ghost use Prim.Native.Nat.{_+_, _≤_, _<_};
 ghost use lib.Dec.{leb};
 ghost use lib.ListN.{length};
 ghost use Rattle.rules.specs.Entries.{entriesOf};
-ghost use Rattle.rules.specs.Tables.{blockCount, freeFrom, firstRun, placed, released, extended, longest as longestOf};
+ghost use Rattle.rules.specs.Tables.{blockCount, freeFrom, firstRun, placed, released, extended};
 ghost use Rattle.memory.specs.Places.{found};
 use memory::Block;
 use memory::Found;
@@ -87,27 +87,4 @@ pub fn extend(table: &mut [u8], k: Block, count: usize)
     ensures { λ _. ⌜ entriesOf (now (table .exit)) ≡ extended (entriesOf (now (table .entry))) (k .0) count ⌝ }
 {
     entries::set_run(table, k, count, entries::TAIL);
-}
-
-// The longest run of FREE blocks.
-pub fn longest(table: &[u8]) -> usize
-    requires { ⌜ length (now table) ≤ 1024 ⌝ }
-    ensures { λ r. ⌜ r ≡ longestOf (entriesOf (now (table .entry))) ⌝ }
-{
-    let n = entries::blocks(table);
-    let mut best = 0;
-    let mut run = 0;
-    let mut k = Block::first();
-    while k.is_below(n) {
-        if entries::entry(table, k) == entries::FREE {
-            run += 1;
-        } else {
-            run = 0;
-        }
-        if best < run {
-            best = run;
-        }
-        k = k.plus(1);
-    }
-    best
 }
