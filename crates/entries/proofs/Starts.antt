@@ -2,6 +2,7 @@
 -- FREE entries of each byte, and bits that are all clear leave no place for a run's first blocks.
 -- Assumes nothing.
 use mathlib.Core.Path.{_≡_, ap, _∙_}
+use mathlib.Core.Logic.{_≢_}
 use mathlib.Core.Bool.{Bool, true, false, not}
 use mathlib.Core.List.{List}
 use Prim.Native.Nat.{ℕ, zero, suc, _+_, _-_, _*_, _/_, _%_, _^_, _≤_, _<_}
@@ -18,7 +19,9 @@ use Rattle.rules.specs.Meaning.{Run}
 use Rattle.rules.proofs.Below.{allBelow, below}
 use Rattle.rules.proofs.Lists.{one}
 use Rattle.rules.proofs.Entries.{getD-entriesOf}
-use Rattle.entries.specs.Starts.{NoStart}
+use Rattle.entries.specs.Rows.{Zeros}
+use Rattle.entries.specs.Starts.{NoStart, MayStart}
+use Rattle.entries.proofs.Rows.{entry-zero, all-zero}
 
 -- the FREE entries of the byte b, a bit for each: 1, 4, 16 and 64
 abbrev pub freeBits : ℕ → ℕ
@@ -84,13 +87,12 @@ flag x y k = pick (ltb k 4) (x / 2 ^ k % 2) (y / 2 ^ (k - 4) % 2)
 abbrev row : ℕ → ℕ → ℕ → ℕ → Bool
 row x y c j = allBelow (suc c) (λ (d : ℕ). eqb (flag x y (j + d)) 1)
 
--- if nothing is left, there is no such row
-left-right : ℕ → ℕ → ℕ → Bool
-left-right x y c =
-    either (not (eqb (left (spread x) (spread y) (sparedOf (suc c))) 0)) (allBelow 4 (λ (j : ℕ). not (row x y c j)))
+-- if nothing is left of entry j, there is no such row
+left-right : ℕ → ℕ → ℕ → ℕ → Bool
+left-right x y c j = either (not (eqb (entryOf (left (spread x) (spread y) (sparedOf (suc c))) j) 0)) (not (row x y c j))
 
-all-left : T (allBelow 16 (λ (x : ℕ). allBelow 16 (λ (y : ℕ). allBelow 5 (left-right x y))))
-unfolding left-right
+all-left : T (allBelow 16 (λ (x : ℕ). allBelow 16 (λ (y : ℕ). allBelow 5 (λ (c : ℕ). allBelow 4 (left-right x y c)))))
+unfolding left-right entryOf
 all-left = tt
 
 all-of : (n : ℕ) (f : ℕ → Bool) → ((k : ℕ) → k < n → T (f k)) → T (allBelow n f)
@@ -110,15 +112,17 @@ not-T : (a : Bool) → T (not a) → T a → ⊥
 not-T true t u = t
 not-T false t u = u
 
-no-row : (x y c j : ℕ) → x < 16 → y < 16 → c < 5 → j < 4 → left (spread x) (spread y) (sparedOf (suc c)) ≡ 0
+no-row : (x y c j : ℕ) → x < 16 → y < 16 → c < 5 → j < 4 → entryOf (left (spread x) (spread y) (sparedOf (suc c))) j ≡ 0
     → ((d : ℕ) → d ≤ c → flag x y (j + d) ≡ 1) → ⊥
 unfolding left-right
 no-row x y c j hx hy hc hj none all =
-    let t = below 5 (left-right x y) (below 16 (λ (y : ℕ). allBelow 5 (left-right x y)) (below 16 (λ (x : ℕ). allBelow 16 (λ (y : ℕ). allBelow 5 (left-right x y))) all-left x hx) y hy) c hc in
-    let l : ℕ = left (spread x) (spread y) (sparedOf (suc c)) in
-    let e : not (eqb l 0) ≡ false = ap not (eq-eqb l 0 none) in
+    let t = below 4 (left-right x y c)
+    (below 5 (λ (c : ℕ). allBelow 4 (left-right x y c))
+    (below 16 (λ (y : ℕ). allBelow 5 (λ (c : ℕ). allBelow 4 (left-right x y c)))
+    (below 16 (λ (x : ℕ). allBelow 16 (λ (y : ℕ). allBelow 5 (λ (c : ℕ). allBelow 4 (left-right x y c)))) all-left x hx) y hy) c hc) j hj in
+    let l : ℕ = entryOf (left (spread x) (spread y) (sparedOf (suc c))) j in
     not-T (row x y c j)
-    (below 4 (λ (j : ℕ). not (row x y c j)) (either-T (not (eqb l 0)) (allBelow 4 (λ (j : ℕ). not (row x y c j))) e t) j hj)
+    (either-T (not (eqb l 0)) (not (row x y c j)) (ap not (eq-eqb l 0 none)) t)
     (all-of (suc c) (λ (d : ℕ). eqb (flag x y (j + d)) 1) (λ d h. rw (all d (omega arith)) tt))
 
 -- ---- the table
@@ -137,26 +141,43 @@ flag-at t i k small h free = go (decLt k 4)
         let m : (4 * i + k) % 4 ≡ k - 4 = omega arith in
         rw (le-ltb k 4 (omega arith)) (quad-at (getD t (i + 1) 0) (k - 4) (small (i + 1)) (omega arith) (rw (getD-entriesOf t (4 * i + k), d, m) at free))
 
--- a run of more than c blocks has no place in byte i
-no-place : (t : List ℕ) (i count c q : ℕ) → ((i : ℕ) → getD t i 0 < 256) → c < 5 → c < count → 4 * i ≤ q → q < 4 * i + 4
-    → left (freeBits (getD t i 0)) (freeBits (getD t (i + 1) 0)) (sparedOf (suc c)) ≡ 0 → Run (entriesOf t) count q → ⊥
-no-place t i count c q small hc l h k none r =
-    no-row (quad (getD t i 0)) (quad (getD t (i + 1) 0)) c (q - 4 * i) (quad-lt (getD t i 0)) (quad-lt (getD t (i + 1) 0)) hc (omega arith)
+-- where nothing is left of entry j, no run of more than c blocks starts there
+no-place : (t : List ℕ) (i count c j : ℕ) → ((i : ℕ) → getD t i 0 < 256) → c < 5 → c < count → j < 4
+    → entryOf (left (freeBits (getD t i 0)) (freeBits (getD t (i + 1) 0)) (sparedOf (suc c))) j ≡ 0 → Run (entriesOf t) count (4 * i + j) → ⊥
+no-place t i count c j small hc l h none r =
+    no-row (quad (getD t i 0)) (quad (getD t (i + 1) 0)) c j (quad-lt (getD t i 0)) (quad-lt (getD t (i + 1) 0)) hc h
     (rw (free-bits (getD t i 0) (small i), free-bits (getD t (i + 1) 0) (small (i + 1))) at none)
-    (λ d m. let e : q + d ≡ 4 * i + (q - 4 * i + d) = omega arith in
-    flag-at t i (q - 4 * i + d) small (omega arith) (rw e at (r .free d (omega arith))))
+    (λ d m. let e : 4 * i + j + d ≡ 4 * i + (j + d) = omega arith in flag-at t i (j + d) small (omega arith) (rw e at (r .free d (omega arith))))
 
-pub no-start : (t : List ℕ) (i count : ℕ) → ((i : ℕ) → getD t i 0 < 256) → 0 < count
-    → left (freeBits (getD t i 0)) (freeBits (getD t (i + 1) 0)) (sparedOf count) ≡ 0 → NoStart (entriesOf t) count (4 * i) (4 * i + 4)
-no-start t i count small h none q l k r = go (decLt count 5)
+pub may-start : (t : List ℕ) (i count : ℕ) → ((i : ℕ) → getD t i 0 < 256) → 0 < count
+    → MayStart (entriesOf t) count i (left (freeBits (getD t i 0)) (freeBits (getD t (i + 1) 0)) (sparedOf count))
+may-start t i count small h j l none r = go (decLt count 5)
   where
     go : Dec (count < 5) → ⊥
     go (yes m) =
         let e : suc (count - 1) ≡ count = omega arith in
-        no-place t i count (count - 1) q small (omega arith) (omega arith) l k (rw e none) r
+        no-place t i count (count - 1) j small (omega arith) (omega arith) l (rw e none) r
     go (no m) =
-        no-place t i count 4 q small (omega arith) (omega arith) l k
+        no-place t i count 4 j small (omega arith) (omega arith) l
         (rw (lt-ltb 1 count (omega arith), lt-ltb 2 count (omega arith), lt-ltb 3 count (omega arith), lt-ltb 4 count (omega arith)) at none) r
+
+-- no run starts in byte i before entry n, if no entry before it has a bit
+pub none-before : (es : List ℕ) (b i r n : ℕ) → n ≤ 4 → MayStart es b i r → ((j : ℕ) → j < n → entryOf r j ≡ 0) → NoStart es b (4 * i) (4 * i + n)
+none-before es b i r n h may none q l m run =
+    let e : 4 * i + (q - 4 * i) ≡ q = omega arith in
+    may (q - 4 * i) (omega arith) (none (q - 4 * i) (omega arith)) (rw e run)
+
+-- nor in all of it, if there is no bit at all
+pub none-at-all : (es : List ℕ) (b i r : ℕ) → MayStart es b i r → r ≡ 0 → NoStart es b (4 * i) (4 * i + 4)
+none-at-all es b i r may z = none-before es b i r 4 (omega arith) may (λ j l. rw z (entry-zero j))
+
+-- the first bit of a byte is in one of its four entries
+pub first-lt : (r n : ℕ) → r < 256 → r ≢ 0 → Zeros (λ (j : ℕ). entryOf r j) n → n < 4
+first-lt r n small some z = go (decLt n 4)
+  where
+    go : Dec (n < 4) → n < 4
+    go (yes l) = l
+    go (no l) = absurd (some (all-zero 4 r small (λ j m. z .before j (omega arith))))
 
 -- no start in two parts that join is no start in both
 pub no-start-join : (es : List ℕ) (b s m e : ℕ) → NoStart es b s m → NoStart es b m e → NoStart es b s e

@@ -9,11 +9,18 @@ ghost use Rattle.rules.specs.Tables.{isFree, longest as longestOf};
 ghost use Rattle.rules.specs.Tests.{pick};
 ghost use Rattle.entries.specs.Rows.{Holds, LowerBits, Picks, Zeros, RowStarts, LongestRow};
 ghost use Rattle.entries.specs.Scans.{ReadOn};
-ghost use Rattle.entries.specs.Starts.{NoStart};
+ghost use Rattle.entries.specs.Starts.{NoStart, MayStart};
 use memory::Block;
 
 // The lower bit of each of 32 entries.
 const BITS: u64 = 0x5555555555555555;
+
+// The first of 32 entries of which a bit is set, by the zeros below it; 32 if there is none.
+fn first(bits: u64) -> usize
+    ensures { λ r. ⌜ Zeros (λ (j : ℕ). entryOf bits j) r ⌝ }
+{
+    (u64::trailing_zeros(bits) / 2) as usize
+}
 
 // What the test of block i of a run is joined with: 255 passes where a run of count blocks has no such block.
 fn spared(i: usize, count: usize) -> u8
@@ -25,10 +32,11 @@ fn spared(i: usize, count: usize) -> u8
     255
 }
 
-// Zero if no run of count blocks starts in byte i. Up to five blocks of a run are looked at, which lie in this byte and the next.
+// A bit for each entry of byte i at which a run of count blocks may start. Up to five blocks of a run are looked at, which lie in this byte
+// and the next.
 fn may_start(table: &[u8], i: usize, count: usize) -> u8
     requires { ⌜ (i + 1 < length (now table)) × (0 < count) ⌝ }
-    ensures { λ r. ⌜ (r ≡ 0 → NoStart (entriesOf (now (table .entry))) count (4 * i) (4 * i + 4)) ⌝ }
+    ensures { λ r. ⌜ MayStart (entriesOf (now (table .entry))) count i r ⌝ }
 {
     let a = table[i];
     let b = table[i + 1];
@@ -76,12 +84,12 @@ pub fn skip(table: &[u8], from: Block, count: usize) -> Block
     requires { ⌜ (length (now table) ≤ 1024) × ((from .0 ≤ length (entriesOf (now table))) × (0 < count)) ⌝ }
     ensures { λ r. ⌜ (r .0 ≤ length (entriesOf (now (table .entry)))) × ((from .0 ≤ r .0) × NoStart (entriesOf (now (table .entry))) count (from .0) (r .0)) ⌝ }
 {
-    let first = from.index();
-    if first % 4 != 0 {
+    let at = from.index();
+    if at % 4 != 0 {
         return from;
     }
     let n = table.len();
-    let byte = first / 4;
+    let byte = at / 4;
     if n - byte < 2 {
         return from;
     }
@@ -90,19 +98,13 @@ pub fn skip(table: &[u8], from: Block, count: usize) -> Block
     }
     let mut i = pass_by_16(table, byte + 1, count);
     while 1 < n - i {
-        if may_start(table, i, count) != 0 {
-            return Block::first().plus(4 * i);
+        let starts = may_start(table, i, count);
+        if starts != 0 {
+            return Block::first().plus(4 * i + first(starts as u64));
         }
         i += 1;
     }
     Block::first().plus(4 * i)
-}
-
-// The first of 32 entries of which a bit is set, by the zeros below it; 32 if there is none.
-fn first(bits: u64) -> usize
-    ensures { λ r. ⌜ Zeros (λ (j : ℕ). entryOf bits j) r ⌝ }
-{
-    (u64::trailing_zeros(bits) / 2) as usize
 }
 
 // How many of 32 entries stand above the last of which a bit is set, by the zeros above it; 32 if there is none.

@@ -1,7 +1,7 @@
 -- `may_start`: the bits that are left are those of the law.
 -- Assumes nothing.
 use borrow.Author.Needs.{needs}
-use Rattle.entries.proofs.Starts.{no-start}
+use Rattle.entries.proofs.Starts.{may-start}
 use Rattle.entries.proofs.runs.may_start.Statement.{statement}
 use Rattle.entries.proofs.runs.may_start.Tie as tie
 
@@ -30,7 +30,7 @@ returns : tie.Need-returns
 returns c =
     let s = c .before .before .before .before .before .before .before in
     rw (c .before .before .before .spared .ensures, c .before .before .spared2 .ensures, c .before .spared3 .ensures, c .spared4 .ensures)
-    (no-start (s .args .table .now) (s .args .i) (s .args .count) (λ k. c .before .before .before .before .shared-slice-known3 .given k .fits) (s .pre .1))
+    (may-start (s .args .table .now) (s .args .i) (s .args .count) (λ k. c .before .before .before .before .shared-slice-known3 .given k .fits) (s .pre .1))
 
 pub may-start-spec : {M : Type 1} → statement M
 may-start-spec =

@@ -7,7 +7,7 @@ use lib.Bits.{bitOr, or-add-and, and-le-l, and-le-r}
 use borrow.Author.Needs.{needs}
 use Rattle.rules.specs.Entries.{entriesOf}
 use Rattle.entries.specs.Starts.{NoStart}
-use Rattle.entries.proofs.Starts.{no-start-join}
+use Rattle.entries.proofs.Starts.{no-start-join, none-at-all}
 use Rattle.entries.proofs.runs.may_start_in_16.Statement.{statement}
 use Rattle.entries.proofs.runs.may_start_in_16.Tie as tie
 
@@ -42,7 +42,7 @@ loop-again c =
     let both = or-none (l .any) (c .may-start .result) in (
       omega arith,
       λ z. no-start-join (entriesOf (a .table .now)) (a .count) (4 * a .i) (4 * (a .i + l .j)) (4 * (a .i + (l .j + 1))) (l .inv .1 (both z .0))
-          (λ q h k. c .may-start .ensures (both z .1) q h (omega arith)),
+          (λ q h k. none-at-all (entriesOf (a .table .now)) (a .count) (a .i + l .j) (c .may-start .result) (c .may-start .ensures) (both z .1) q h (omega arith)),
     )
 
 returns : tie.Need-returns Inv-loop μ-loop

@@ -1,15 +1,16 @@
--- `skip`: no run starts from `from` to before byte i. The first byte is passed alone, those after it by sixteens and then one by one.
+-- `skip`: no run starts from `from` to before byte i, nor in that byte before its first bit. The first byte is passed alone, those after
+-- it by sixteens and then one by one.
 -- Assumes nothing.
 use mathlib.Core.Path.{_≡_}
 use mathlib.Core.List.{List}
-use Prim.Native.Nat.{ℕ, _+_, _-_, _*_, _/_, _≤_}
+use Prim.Native.Nat.{ℕ, _+_, _-_, _*_, _/_, _≤_, _<_}
 use native.Mathlib.Omega.{arith}
 use lib.ListN.{length}
 use borrow.Author.Needs.{needs}
 use Rattle.rules.specs.Entries.{entriesOf}
 use Rattle.rules.proofs.Entries.{length-entriesOf}
 use Rattle.entries.specs.Starts.{NoStart}
-use Rattle.entries.proofs.Starts.{no-start-join}
+use Rattle.entries.proofs.Starts.{no-start-join, none-before, none-at-all, first-lt}
 use Rattle.entries.proofs.runs.skip.Statement.{statement}
 use Rattle.entries.proofs.runs.skip.Tie as tie
 
@@ -19,10 +20,10 @@ answered : (es : List ℕ) (count : ℕ) {from first block : ℕ} (end : ℕ) �
 answered es count end room f b known = rw (b, ← f) (room, known)
 
 abbrev Inv-loop : tie.InvT-loop
-Inv-loop table count first n byte i₀ i = (i ≤ length table) × ((first ≤ 4 * i) × NoStart (entriesOf table) count first (4 * i))
+Inv-loop table count at n byte i₀ i = (i ≤ length table) × ((at ≤ 4 * i) × NoStart (entriesOf table) count at (4 * i))
 
 abbrev μ-loop : tie.MeasureT-loop
-μ-loop table count first n byte i₀ i = length table - i
+μ-loop table count at n byte i₀ i = length table - i
 
 index-requires : tie.Need-index-requires Inv-loop μ-loop
 index-requires c κs = search needs
@@ -51,13 +52,14 @@ pass-by-16-requires c κs = search needs
 loop-holds : tie.Need-loop-holds Inv-loop μ-loop
 loop-holds c =
     let a = c .before .before .before .before .before .before .before .args in
-    let first = c .before .before .before .before .before .index .result in
-    let r = c .pass-by-16 .ensures in (
+    let at = c .before .before .before .before .before .index .result in
+    let r = c .pass-by-16 .ensures in
+    let may = c .before .before .may-start in (
       r .0,
       (
         omega arith,
-        no-start-join (entriesOf (a .table .now)) (a .count) first (4 * (first / 4 + 1)) (4 * c .pass-by-16 .result)
-            (λ q h k. c .before .before .may-start .ensures (c .before .if3 .left) q (omega arith) (omega arith)) (r .1 .1),
+        no-start-join (entriesOf (a .table .now)) (a .count) at (4 * (at / 4 + 1)) (4 * c .pass-by-16 .result)
+            (λ q h k. none-at-all (entriesOf (a .table .now)) (a .count) (at / 4) (may .result) (may .ensures) (c .before .if3 .left) q (omega arith) (omega arith)) (r .1 .1),
       ),
     )
 
@@ -73,14 +75,37 @@ first-requires c κs = search needs
 mul-plus : tie.Need-mul-plus Inv-loop μ-loop
 mul-plus c = search needs
 
+cast-first : tie.Need-cast-first Inv-loop μ-loop
+cast-first c = search needs
+
+first-requires-2 : tie.Need-first-requires-2 Inv-loop μ-loop
+first-requires-2 c κs = search needs
+
+-- the first bit is one of the byte's
+first-of-byte : (c : tie.After-first2 Inv-loop μ-loop) → c .first2 .result < 4
+first-of-byte c =
+    let starts = c .before .before .before .may-start2 .result in
+    first-lt starts (c .first2 .result) (omega arith) (c .before .before .if4 .taken) (c .first2 .ensures)
+
+add-plus : tie.Need-add-plus Inv-loop μ-loop
+add-plus c = omega (arith, first-of-byte c)
+
 plus-requires : tie.Need-plus-requires Inv-loop μ-loop
-plus-requires c κs = search needs
+plus-requires c κs = omega (arith, first-of-byte c)
 
 returns-4 : tie.Need-returns-4 Inv-loop μ-loop
 returns-4 c =
-    let l = c .before .before .before .before .before in
+    let l = c .before .before .before .before .before .before in
+    let index = l .before .before .before .before .before .before .index in
     let a = l .before .before .before .before .before .before .before .before .args in
-    answered (entriesOf (a .table .now)) (a .count) (4 * l .loop .i) (omega (arith, length-entriesOf (a .table .now))) (l .before .before .before .before .before .before .index .ensures) (omega (arith, c .plus .ensures, c .before .first .ensures)) (l .loop .inv .1)
+    let es = entriesOf (a .table .now) in
+    let may = c .before .before .before .before .may-start2 in
+    let n = c .before .first2 .result in
+    let few = first-of-byte (c .before) in
+    let end : ℕ = 4 * l .loop .i + n in
+    let none = none-before es (a .count) (l .loop .i) (may .result) n (omega arith) (may .ensures) (c .before .first2 .ensures .before) in
+    answered es (a .count) end (omega (arith, length-entriesOf (a .table .now))) (index .ensures) (omega (arith, c .plus .ensures, c .before .before .first .ensures))
+    (omega arith, no-start-join es (a .count) (index .result) (4 * l .loop .i) end (l .loop .inv .1 .1) none)
 
 add-i : tie.Need-add-i Inv-loop μ-loop
 add-i c = search needs
@@ -96,12 +121,12 @@ loop-again c =
       (
         omega arith,
         no-start-join (entriesOf (a .table .now)) (a .count) (c .before .before .before .before .before .before .before .before .before .index .result) (4 * l .i) (4 * (l .i + 1)) (l .inv .1 .1)
-            (λ q h k. c .before .may-start2 .ensures (c .if4 .left) q h (omega arith)),
+            (λ q h k. none-at-all (entriesOf (a .table .now)) (a .count) (l .i) (c .before .may-start2 .result) (c .before .may-start2 .ensures) (c .if4 .left) q h (omega arith)),
       ),
     )
 
-first-requires-2 : tie.Need-first-requires-2 Inv-loop μ-loop
-first-requires-2 c κs = search needs
+first-requires-3 : tie.Need-first-requires-3 Inv-loop μ-loop
+first-requires-3 c κs = search needs
 
 mul-plus-2 : tie.Need-mul-plus-2 Inv-loop μ-loop
 mul-plus-2 c = search needs
@@ -113,7 +138,7 @@ returns-5 : tie.Need-returns-5 Inv-loop μ-loop
 returns-5 c =
     let l = c .before .before .before in
     let a = l .before .before .before .before .before .before .before .before .args in
-    answered (entriesOf (a .table .now)) (a .count) (4 * l .loop .i) (omega (arith, length-entriesOf (a .table .now))) (l .before .before .before .before .before .before .index .ensures) (omega (arith, c .plus2 .ensures, c .before .first2 .ensures)) (l .loop .inv .1)
+    answered (entriesOf (a .table .now)) (a .count) (4 * l .loop .i) (omega (arith, length-entriesOf (a .table .now))) (l .before .before .before .before .before .before .index .ensures) (omega (arith, c .plus2 .ensures, c .before .first3 .ensures)) (l .loop .inv .1)
 
 pub skip-spec : {M : Type 1} → statement M
 skip-spec =
@@ -134,12 +159,15 @@ skip-spec =
     may-start-requires-2
     first-requires
     mul-plus
+    cast-first
+    first-requires-2
+    add-plus
     plus-requires
     returns-4
     add-i
     loop-less
     loop-again
-    first-requires-2
+    first-requires-3
     mul-plus-2
     plus-requires-2
     returns-5)
