@@ -15,7 +15,7 @@ use Rattle.rules.specs.Tests.{pick}
 use Rattle.rules.specs.Entries.{entryOf}
 use Rattle.rules.specs.Tables.{isFree}
 use Rattle.rules.proofs.Below.{allBelow, below}
-use Rattle.entries.specs.Rows.{LowerBits, Picks, Zeros, Row, RowStarts}
+use Rattle.entries.specs.Rows.{LowerBits, inUse, Picks, Zeros, Row, RowStarts}
 
 -- ---- one entry
 
@@ -193,9 +193,6 @@ bits-inside j h = eqb→eq (entryOf BITS j) 1 (below 32 (λ (j : ℕ). eqb (entr
 
 bits-outside : (j : ℕ) → 32 ≤ j → entryOf BITS j ≡ 0
 bits-outside j h = entry-none BITS j (rw (four-pow j) (lt-of-lt-of-le (lit< {m = BITS} {n = 2 ^ 64} tt) (pow-mono {i = 64} (omega arith))))
-
-abbrev pub inUse : ℕ → Bool
-inUse e = not (isFree e)
 
 -- an entry's two bits combined, computed for the entry and the lower bit of the next
 combined : ℕ → Bool

@@ -14,10 +14,10 @@ use Rattle.rules.specs.Tables.{entryAt, isFree}
 use Rattle.rules.specs.Meaning.{Run, Longest}
 use Rattle.rules.proofs.Lists.{one}
 use Rattle.rules.proofs.Tables.{run-shorter}
-use Rattle.entries.specs.Rows.{Holds, Picks, Zeros, Row, LongestRow}
+use Rattle.entries.specs.Rows.{Holds, inUse, Picks, Zeros, Row, LongestRow}
 use Rattle.entries.specs.Scans.{Scanned}
 use Rattle.entries.proofs.Pieces.{getD-inside}
-use Rattle.entries.proofs.Rows.{inUse, entry-zero, all-zero, picks-set, picks-clear, picks-free}
+use Rattle.entries.proofs.Rows.{entry-zero, all-zero, picks-set, picks-clear, picks-free}
 
 -- ---- runs, read with HEADs past the end of the table
 

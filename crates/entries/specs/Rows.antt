@@ -2,12 +2,13 @@
 -- Assumes nothing.
 use mathlib.Core.Path.{_≡_}
 use mathlib.Core.Logic.{_≢_, _⊎_}
-use mathlib.Core.Bool.{Bool}
+use mathlib.Core.Bool.{Bool, not}
 use mathlib.Core.List.{List}
 use Prim.Native.Nat.{ℕ, _+_, _≤_, _<_}
 use lib.ListN.{getD}
 use Rattle.rules.specs.Tests.{pick}
 use Rattle.rules.specs.Entries.{HEAD, entryOf}
+use Rattle.rules.specs.Tables.{isFree}
 
 -- the number b holds the 32 entries from block p on. Past the end of the table it holds HEADs
 abbrev pub Holds : List ℕ → ℕ → ℕ → Type 0
@@ -16,6 +17,10 @@ Holds es p b = (j : ℕ) → j < 32 → entryOf b j ≡ getD es (p + j) HEAD
 -- no entry has another bit than its lower one
 abbrev pub LowerBits : ℕ → Type 0
 LowerBits bits = (j : ℕ) → entryOf bits j < 2
+
+-- an entry that is not FREE
+abbrev pub inUse : ℕ → Bool
+inUse e = not (isFree e)
 
 -- r has the bit of each of the 32 entries of b that passes the test, and no other
 pub record Picks (test : ℕ → Bool) (b r : ℕ) : Type 0 where

@@ -1,13 +1,12 @@
 // Runs of FREE blocks: where the next may start, up to sixteen bytes at a time, and how long the longest is, 32 entries at a time.
 ghost use mathlib.Core.Path.{_≡_};
-ghost use mathlib.Core.Bool.{not};
 ghost use Prim.Native.Nat.{ℕ, _+_, _-_, _*_, _^_, _≤_, _<_};
 ghost use lib.Dec.{ltb};
 ghost use lib.ListN.{length};
 ghost use Rattle.rules.specs.Entries.{entryOf, entriesOf};
-ghost use Rattle.rules.specs.Tables.{isFree, longest as longestOf};
+ghost use Rattle.rules.specs.Tables.{longest as longestOf};
 ghost use Rattle.rules.specs.Tests.{pick};
-ghost use Rattle.entries.specs.Rows.{Holds, LowerBits, Picks, Zeros, RowStarts, LongestRow};
+ghost use Rattle.entries.specs.Rows.{Holds, LowerBits, inUse, Picks, Zeros, RowStarts, LongestRow};
 ghost use Rattle.entries.specs.Scans.{ReadOn};
 ghost use Rattle.entries.specs.Starts.{NoStart, MayStart};
 use memory::Block;
@@ -116,7 +115,7 @@ fn above_last(bits: u64) -> usize
 
 // The bit of each of 32 entries that is not FREE: its two bits combined.
 fn used_bits(b: u64) -> u64
-    ensures { λ r. ⌜ Picks (λ (e : ℕ). not (isFree e)) b r ⌝ }
+    ensures { λ r. ⌜ Picks inUse b r ⌝ }
 {
     (b | (b >> 1)) & BITS
 }

@@ -1,11 +1,26 @@
 // The whole table at once: sixteen entries to a word or four to a byte, with no early exit.
 ghost use mathlib.Core.Path.{_≡_};
+ghost use mathlib.Core.List.{[], _∷_};
 ghost use Prim.Native.Nat.{_≤_, _<_};
 ghost use lib.ListN.{length};
 ghost use Rattle.rules.specs.Entries.{entriesOf};
 ghost use Rattle.rules.specs.Tables.{used, objects};
 ghost use Rattle.rules.specs.Marking.{sweep as sweepOf};
 ghost use Rattle.entries.specs.Carry.{carried, swept};
+
+// How many of the four entries of a byte are not FREE: the ones of their two bits combined.
+fn used_in(b: u8) -> u16
+    ensures { λ r. ⌜ r ≡ used (entriesOf (b ∷ [])) ⌝ }
+{
+    u8::count_ones((b | (b >> 1)) & 0x55) as u16
+}
+
+// How many of them are HEAD: the ones of the lower bits without an upper one.
+fn heads_in(b: u8) -> u16
+    ensures { λ r. ⌜ r ≡ objects (entriesOf (b ∷ [])) ⌝ }
+{
+    u8::count_ones(b & !(b >> 1) & 0x55) as u16
+}
 
 // How many blocks are not FREE, and how many objects there are.
 pub struct Counts {
@@ -21,10 +36,8 @@ pub fn count(table: &[u8]) -> Counts
     let mut heads: u16 = 0;
     let mut i = 0;
     while i < table.len() {
-        let b = table[i];
-        let high = b >> 1;
-        used += u8::count_ones((b | high) & 0x55) as u16;
-        heads += u8::count_ones(b & !high & 0x55) as u16;
+        used += used_in(table[i]);
+        heads += heads_in(table[i]);
         i += 1;
     }
     Counts {
