@@ -2,7 +2,7 @@
 -- Assumes nothing.
 use mathlib.Core.Path.{_≡_, refl, sym, _∙_}
 use mathlib.Core.Logic.{_≢_, _⊎_, inl, inr, ⊎-elim}
-use mathlib.Core.Bool.{Bool, true, false, not}
+use mathlib.Core.Bool.{Bool, true, false}
 use mathlib.Core.List.{List, [], _∷_}
 use Prim.Native.Nat.{ℕ, suc, _+_, _≤_}
 use native.Mathlib.Omega.{arith}
@@ -10,7 +10,7 @@ use native.Mathlib.Decide.{ℕ-discrete}
 use lib.ListN.{length}
 use Rattle.rules.specs.Tests.{count}
 use Rattle.rules.specs.Entries.{FREE, HEAD, MARK}
-use Rattle.rules.specs.Tables.{entryAt, isFree, isHead, wellFormed, used, objects}
+use Rattle.rules.specs.Tables.{entryAt, isUsed, isHead, wellFormed, used, objects}
 use Rattle.rules.specs.Outcomes.{Heap}
 use Rattle.rules.specs.Marking.{sweptEntry, freeingAfter, sweepFrom, sweep}
 use Rattle.rules.proofs.Lists.{one, count-cons}
@@ -87,10 +87,10 @@ module _ (base : ℕ) (h : Heap) (roots : List ℕ) (room : ℕ) (well : wellFor
   pub used-less : used (collected base h roots room) ≤ used (h .entries)
   unfolding used
   used-less =
-      count-mono (λ (e : ℕ). not (isFree e)) (collected base h roots room) (h .entries) (collected-length base h roots room well)
+      count-mono isUsed (collected base h roots room) (h .entries) (collected-length base h roots room well)
       (λ k t. go k (ℕ-discrete (entryAt (collected base h roots room) k) FREE) t)
     where
-      go : (k : ℕ) → Dec (entryAt (collected base h roots room) k ≡ FREE) → not (isFree (entryAt (collected base h roots room) k)) ≡ true
-          → not (isFree (entryAt (h .entries) k)) ≡ true
+      go : (k : ℕ) → Dec (entryAt (collected base h roots room) k ≡ FREE) → isUsed (entryAt (collected base h roots room) k) ≡ true
+          → isUsed (entryAt (h .entries) k) ≡ true
       go k (yes q) t = let z : false ≡ true = rw q at t in let y : _≡_ {A = ℕ} 0 1 = cc in absurd (omega arith)
       go k (no q) t = rw (← collected-used base h roots room well k q) t

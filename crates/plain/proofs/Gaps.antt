@@ -2,7 +2,7 @@
 -- Assumes nothing.
 use mathlib.Core.Path.{_≡_, refl, sym, _∙_}
 use mathlib.Core.Logic.{_≢_}
-use mathlib.Core.Bool.{Bool, true, false, not}
+use mathlib.Core.Bool.{Bool, true, false}
 use mathlib.Core.List.{List, _∷_}
 use mathlib.Core.Option.{some, none}
 use Prim.Native.Nat.{ℕ, zero, suc, _+_, _-_, _≤_, _<_, max}
@@ -15,7 +15,7 @@ use lib.Seq.{drop-cons, getD-drop, drop-length}
 use borrow.Author.Tests.{eq-eqb, ne-eqb, lt-ltb, le-ltb, leb-true, leb-false}
 use Rattle.rules.specs.Tests.{pick, count, leading}
 use Rattle.rules.specs.Entries.{FREE}
-use Rattle.rules.specs.Tables.{entryAt, isFree, isHead, freeFrom, firstRun, used, objects, longest}
+use Rattle.rules.specs.Tables.{entryAt, isFree, isUsed, isHead, freeFrom, firstRun, used, objects, longest}
 use Rattle.rules.specs.Meaning.{Run, Lowest}
 use Rattle.rules.proofs.Lists.{count-cons, leading-is}
 use Rattle.rules.proofs.Tables.{run-le, run-longest, first-is}
@@ -135,16 +135,16 @@ module _ (f : ℕ → Bool) (es : List ℕ) where
       rw (e, drop-cons es a FREE (omega arith), count-cons f (entryAt es a) (drop (suc a) es), g a (omega arith) (omega arith)) (omega arith)
 
 module _ {pool es : List ℕ} where
-  used-from : {from : ℕ} {os : List Object} → Laid pool es from os → count (λ (e : ℕ). not (isFree e)) (drop from es) ≡ total os
+  used-from : {from : ℕ} {os : List Object} → Laid pool es from os → count isUsed (drop from es) ≡ total os
   unfolding total count
   used-from {from} (done r g) =
       let e : from + (length es - from) ≡ length es = omega arith in
-      let i = count-none-from (λ (e : ℕ). not (isFree e)) es from (length es - from) (omega arith) (λ k l u. rw (g k l (omega arith))) in
+      let i = count-none-from isUsed es from (length es - from) (omega arith) (λ k l u. rw (g k l (omega arith))) in
       i ∙ rw (e, drop-length es)
   used-from {from} (next {o = o} l g y e r) =
       let p : from + (o .start - from) ≡ o .start = omega arith in
-      let i = count-none-from (λ (e : ℕ). not (isFree e)) es from (o .start - from) (omega arith) (λ k l u. rw (g k l (omega arith))) in
-      let j = count-all-from (λ (e : ℕ). not (isFree e)) es (o .start) (o .blocks) e (λ k l u. rw (ne-eqb (entryAt es k) FREE (lies-used y k l u))) in
+      let i = count-none-from isUsed es from (o .start - from) (omega arith) (λ k l u. rw (g k l (omega arith))) in
+      let j = count-all-from isUsed es (o .start) (o .blocks) e (λ k l u. rw (ne-eqb (entryAt es k) FREE (lies-used y k l u))) in
       omega (arith, rw p at i, used-from r)
 
   pub laid-used : {os : List Object} → Laid pool es 0 os → used es ≡ total os

@@ -11,7 +11,7 @@ use lib.ListN.{length, replicate}
 use native.Mathlib.Omega.{arith}
 use borrow.Author.Tests.{eq-eqb, ne-eqb}
 use Rattle.rules.specs.Tests.{pick, both}
-use Rattle.rules.specs.Tables.{used, isFree}
+use Rattle.rules.specs.Tables.{used, isUsed}
 use Rattle.rules.specs.Entries.{FREE}
 use Rattle.rules.specs.Forms.{Form, Faithful}
 use Rattle.rules.specs.Outcomes.{Heap, Answer, Outcome, onlyRefusal, changeFrom, unlessRefused}
@@ -58,7 +58,7 @@ accounted-along noWay h k b c = accounted-same h (along noWay h k b c) refl refl
 
 none-used : (n : ℕ) → used (replicate n FREE) ≡ 0
 unfolding used
-none-used n = count-none (λ (e : ℕ). not (isFree e)) n FREE refl
+none-used n = count-none isUsed n FREE refl
 
 -- a call that does not start the sum anew answers the change that it makes
 step-accounted : (c : Call) (stack : List ℕ) (h : Heap) → startsAnew c ≡ false → Accounted h (step c stack h)

@@ -1,13 +1,12 @@
 -- An accepted init: every block is FREE.
 -- Assumes nothing.
 use mathlib.Core.Path.{_≡_, refl}
-use mathlib.Core.Bool.{not}
 use mathlib.Core.List.{List, []}
 use Prim.Native.Nat.{ℕ, zero, suc}
 use native.Mathlib.Omega.{arith}
 use lib.ListN.{length, replicate, length-replicate}
 use Rattle.rules.specs.Entries.{FREE}
-use Rattle.rules.specs.Tables.{entryAt, isFree, used}
+use Rattle.rules.specs.Tables.{entryAt, isUsed, used}
 use Rattle.rules.specs.Outcomes.{Heap}
 use Rattle.rules.specs.Refusals.{goodShape, badShape}
 use Rattle.rules.specs.Calls.{init}
@@ -50,7 +49,7 @@ module _ (base : ℕ) (h : Heap) where
       rw (acts (init-checked base h) accepted)
       (record {
         free = all-free (length (h .entries));
-        none-used = count-none (λ (e : ℕ). not (isFree e)) (length (h .entries)) FREE refl;
+        none-used = count-none isUsed (length (h .entries)) FREE refl;
         bytes = refl;
         good = cleared-good (shape-true base h (not-false (goodShape base h) (a .0)));
       })

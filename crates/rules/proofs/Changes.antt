@@ -3,7 +3,7 @@
 -- Assumes nothing.
 use mathlib.Core.Path.{_≡_, refl, _∙_}
 use mathlib.Core.Logic.{_≢_, ⊎-elim}
-use mathlib.Core.Bool.{Bool, true, false, not}
+use mathlib.Core.Bool.{Bool, true, false}
 use mathlib.Core.List.{List, [], _∷_}
 use Prim.Native.Nat.{ℕ, zero, suc, _+_, _-_, _≤_, _<_}
 use native.Mathlib.Decide.{ℕ-discrete, decLt}
@@ -12,7 +12,7 @@ use lib.ListN.{length, replicate, length-replicate, getD-replicate}
 use lib.Seq.{sets, length-sets}
 use borrow.Author.Tests.{ne-eqb}
 use Rattle.rules.specs.Entries.{FREE, HEAD, TAIL}
-use Rattle.rules.specs.Tables.{entryAt, isFree, mayFollow, wellAfter, wellFormed, blockCount, placed, released, extended, used}
+use Rattle.rules.specs.Tables.{entryAt, isUsed, mayFollow, wellAfter, wellFormed, blockCount, placed, released, extended, used}
 use Rattle.rules.specs.Meaning.{Extent, Run}
 use Rattle.rules.proofs.Refusals.{both-left, both-right}
 use Rattle.rules.proofs.Lists.{sets-out, sets-in, sets-cons, count-all, count-cons, count-sets-fresh, count-sets-gone}
@@ -145,9 +145,6 @@ extended-well es k b w h r =
     sets-well FREE es (suc k) (replicate b TAIL) (omega arith) w (tails-well (entryAt es k) b h) (λ _. tails-last (entryAt es k) b h)
 
 -- ---- used blocks and objects
-
-abbrev isUsed : ℕ → Bool
-isUsed e = not (isFree e)
 
 free-unused : (e : ℕ) → e ≡ FREE → isUsed e ≡ false
 free-unused e h = rw h

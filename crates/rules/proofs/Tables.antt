@@ -15,7 +15,7 @@ use lib.Seq.{drop-nil, getD-drop}
 use borrow.Author.Tests.{eqb-true, eqb-false, eq-eqb, ne-eqb, leb-true, le-leb}
 use Rattle.rules.specs.Tests.{both, leading}
 use Rattle.rules.specs.Entries.{FREE, HEAD, TAIL, MARK}
-use Rattle.rules.specs.Tables.{entryAt, isFree, isHead, isTail, mayFollow, wellAfter, wellFormed, blockCount, freeFrom, fits, firstFrom, firstRun, used, objects, longest}
+use Rattle.rules.specs.Tables.{entryAt, isFree, isUsed, isHead, isTail, mayFollow, wellAfter, wellFormed, blockCount, freeFrom, fits, firstFrom, firstRun, used, objects, longest}
 use Rattle.rules.specs.Meaning.{Well, Extent, Run, Lowest, Longest}
 use Rattle.rules.proofs.Refusals.{true-not-false, both-left, both-right}
 use Rattle.rules.proofs.Lists.{count-le, leading-le, leading-pass, leading-stop, leading-more}
@@ -294,7 +294,7 @@ longest-one es l m x y = omega (arith, x .most m (y .start) (y .run), y .most l 
 
 pub used-le : (es : List ℕ) → used es ≤ length es
 unfolding used
-used-le es = count-le (λ (e : ℕ). not (isFree e)) es
+used-le es = count-le isUsed es
 
 pub objects-le : (es : List ℕ) → objects es ≤ length es
 unfolding objects

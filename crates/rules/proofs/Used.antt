@@ -1,14 +1,14 @@
 -- Marking leaves as many blocks used as there were: a HEAD that becomes MARK stays used.
 -- Assumes nothing.
 use mathlib.Core.Path.{_≡_, refl, _∙_}
-use mathlib.Core.Bool.{not, false}
+use mathlib.Core.Bool.{false}
 use mathlib.Core.List.{List, [], _∷_}
 use Prim.Native.Nat.{ℕ, _+_, _*_}
 use native.Mathlib.Omega.{arith}
 use lib.ListN.{length, set}
 use Rattle.rules.specs.Words.{wordAt}
 use Rattle.rules.specs.Entries.{FREE, HEAD, MARK}
-use Rattle.rules.specs.Tables.{entryAt, isFree, used}
+use Rattle.rules.specs.Tables.{entryAt, isUsed, used}
 use Rattle.rules.specs.Marking.{Context, State, state, marked, walk, trace, markRoot, markRoots, pass, markAll}
 use Rattle.rules.proofs.Lists.{one, count-set}
 use Rattle.rules.proofs.Marking.{head-inside, Visits, stays, pushes, loses, visits, Rooted, idle, takes, rooted, Passed, skips, walks, passed, walk-keeps, drain-keeps, pass-keeps, rescan-keeps}
@@ -16,8 +16,8 @@ use Rattle.rules.proofs.Marking.{head-inside, Visits, stays, pushes, lo
 pub used-mark : (es : List ℕ) (k : ℕ) → entryAt es k ≡ HEAD → used (set es k MARK) ≡ used es
 unfolding used
 used-mark es k h =
-    let was : one (not (isFree (entryAt es k))) ≡ 1 = rw h in
-    omega (arith, count-set (λ (e : ℕ). not (isFree e)) es k MARK FREE (head-inside es k h))
+    let was : one (isUsed (entryAt es k)) ≡ 1 = rw h in
+    omega (arith, count-set isUsed es k MARK FREE (head-inside es k h))
 
 module _ (c : Context) (n : ℕ) where
   visits-used : {w : ℕ} {s z : State} → Visits c w s z → used (s .entries) ≡ n → used (z .entries) ≡ n

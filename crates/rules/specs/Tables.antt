@@ -17,6 +17,9 @@ entryAt es k = getD es k FREE
 abbrev pub isFree : ℕ → Bool
 isFree e = eqb e FREE
 
+abbrev pub isUsed : ℕ → Bool
+isUsed e = not (isFree e)
+
 abbrev pub isHead : ℕ → Bool
 isHead e = eqb e HEAD
 
@@ -71,7 +74,7 @@ extended es s b = sets es s (replicate b TAIL)
 
 -- used blocks: those that are not FREE
 unfoldable pub used : List ℕ → ℕ
-used es = count (λ (e : ℕ). not (isFree e)) es
+used es = count isUsed es
 
 -- the number of objects: each has one HEAD
 unfoldable pub objects : List ℕ → ℕ
