@@ -1,7 +1,3 @@
 pub mod Carries
 pub mod Counts
 pub mod Masks
-pub mod Pieces
-pub mod Rows
-pub mod Scans
-pub mod Starts

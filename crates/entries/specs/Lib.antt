@@ -1,4 +1,1 @@
 pub mod Carry
-pub mod Rows
-pub mod Scans
-pub mod Starts

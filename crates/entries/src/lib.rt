@@ -7,7 +7,6 @@ ghost use Rattle.rules.specs.Entries.{entriesOf};
 ghost use Rattle.rules.specs.Tables.{entryAt, wellFormed};
 use memory::Block;
 
-pub mod runs;
 pub mod whole;
 
 pub const FREE: u8 = 0;

@@ -233,7 +233,7 @@ pub fn survey(base: Address, pool: &[u8], table: &[u8]) -> Surveyed
         refusal: 0,
         used: counts.used as u32,
         objects: counts.objects as u32,
-        longest: entries::runs::longest(table) as u32,
+        longest: freeruns::longest(table) as u32,
     }
 }
 

@@ -49,12 +49,12 @@ pub fn first_run(table: &[u8], count: usize) -> Found
     ensures { λ r. ⌜ found r ≡ firstRun (entriesOf (now (table .entry))) count ⌝ }
 {
     let n = entries::blocks(table);
-    let mut start = entries::runs::skip(table, Block::first(), count);
+    let mut start = freeruns::skip(table, Block::first(), count);
     'starts: while count <= start.until(n) {
         let mut i = 0;
         while i < count {
             if entries::entry(table, start.plus(i)) != entries::FREE {
-                start = entries::runs::skip(table, start.plus(i + 1), count);
+                start = freeruns::skip(table, start.plus(i + 1), count);
                 continue 'starts;
             }
             i += 1;

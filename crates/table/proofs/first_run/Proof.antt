@@ -12,7 +12,7 @@ use Rattle.rules.specs.Tables.{entryAt}
 use Rattle.rules.specs.Meaning.{Run, Lowest}
 use Rattle.rules.proofs.Entries.{length-entriesOf}
 use Rattle.rules.proofs.Tables.{first-is, none-first, run-skip}
-use Rattle.entries.proofs.Starts.{no-start-join}
+use Rattle.freeruns.proofs.Starts.{no-start-join}
 use Rattle.table.proofs.first_run.Statement.{statement}
 use Rattle.table.proofs.first_run.Tie as tie
 

@@ -4,14 +4,13 @@ use Prim.Native.Nat.{_+_, _-_, _≤_}
 use native.Mathlib.Omega.{arith}
 use lib.ListN.{length}
 use borrow.Author.Needs.{needs}
-use Rattle.rules.specs.Tables.{isHead, used, objects}
-use Rattle.entries.specs.Rows.{inUse}
+use Rattle.rules.specs.Tables.{isUsed, isHead, used, objects}
 use Rattle.entries.proofs.Counts.{Counted, count-turn, count-few, count-all}
 use Rattle.entries.proofs.whole.count.Statement.{statement}
 use Rattle.entries.proofs.whole.count.Tie as tie
 
 abbrev Inv-loop : tie.InvT-loop
-Inv-loop table used₀ heads₀ i₀ n h i = (i ≤ length table) × Counted inUse table n i × Counted isHead table h i
+Inv-loop table used₀ heads₀ i₀ n h i = (i ≤ length table) × Counted isUsed table n i × Counted isHead table h i
 
 abbrev μ-loop : tie.MeasureT-loop
 μ-loop table used₀ heads₀ i₀ n h i = length table - i
@@ -28,16 +27,16 @@ used-in-requires c κs = search needs
 -- the used entries after the turn
 used-turn : (c : tie.After-used-in Inv-loop μ-loop) →
     let l = c .before .before .before in
-    Counted inUse (l .before .before .args .table .now) (l .loop .used + c .used-in .result) (l .loop .i + 1)
+    Counted isUsed (l .before .before .args .table .now) (l .loop .used + c .used-in .result) (l .loop .i + 1)
 unfolding used
 used-turn c =
     let l = c .before .before .before in
-    rw (c .used-in .ensures) (count-turn inUse (l .before .before .args .table .now) (l .loop .used) (l .loop .i) (omega arith) (l .loop .inv .1))
+    rw (c .used-in .ensures) (count-turn isUsed (l .before .before .args .table .now) (l .loop .used) (l .loop .i) (omega arith) (l .loop .inv .1))
 
 add-used : tie.Need-add-used Inv-loop μ-loop
 add-used c =
     let l = c .before .before .before in
-    record { fits = omega (arith, count-few inUse (l .before .before .args .table .now) _ (l .loop .i + 1) (used-turn c), l .before .before .pre) }
+    record { fits = omega (arith, count-few isUsed (l .before .before .args .table .now) _ (l .loop .i + 1) (used-turn c), l .before .before .pre) }
 
 shared-slice-read-heads-in : tie.Need-shared-slice-read-heads-in Inv-loop μ-loop
 shared-slice-read-heads-in c = search needs
@@ -69,7 +68,7 @@ loop-again : tie.Need-loop-again Inv-loop μ-loop
 loop-again c = (omega arith, used-turn (c .before .before), heads-turn c)
 
 cast-t11 : tie.Need-cast-t11 Inv-loop μ-loop
-cast-t11 c = record { fits = omega (arith, count-few inUse (c .before .before .before .args .table .now) _ (c .before .loop .i) (c .before .loop .inv .1), c .before .before .before .pre) }
+cast-t11 c = record { fits = omega (arith, count-few isUsed (c .before .before .before .args .table .now) _ (c .before .loop .i) (c .before .loop .inv .1), c .before .before .before .pre) }
 
 cast-t12 : tie.Need-cast-t12 Inv-loop μ-loop
 cast-t12 c = record { fits = omega (arith, count-few isHead (c .before .before .before .args .table .now) _ (c .before .loop .i) (c .before .loop .inv .2), c .before .before .before .pre) }
@@ -79,7 +78,7 @@ unfolding used objects
 returns c =
     let t = c .before .before .before .args .table .now in
     let l = c .before .loop in
-    (count-all inUse t (l .used) (l .i) (omega arith) (l .inv .1), count-all isHead t (l .heads) (l .i) (omega arith) (l .inv .2))
+    (count-all isUsed t (l .used) (l .i) (omega arith) (l .inv .1), count-all isHead t (l .heads) (l .i) (omega arith) (l .inv .2))
 
 pub count-spec : {M : Type 1} → statement M
 count-spec =

@@ -1,0 +1,4 @@
+pub mod Pieces
+pub mod Rows
+pub mod Scans
+pub mod Starts

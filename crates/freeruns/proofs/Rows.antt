@@ -1,0 +1,262 @@
+-- Entries of a number: what and, or, xor and shifts make of each, the zeros at both ends, and rows of bits.
+-- Assumes nothing.
+use mathlib.Core.Path.{_≡_, refl, sym, ap, _∙_}
+use mathlib.Core.Logic.{_≢_}
+use mathlib.Core.Bool.{Bool, true, false, not}
+use Prim.Native.Nat.{ℕ, zero, suc, _+_, _-_, _*_, _/_, _%_, _^_, _≤_, _<_}
+use native.Mathlib.Nat.{le-trans, lt-of-lt-of-le, mul-comm, pow-suc, pow-succ', one-le-pow, div-div-eq-div-mul, zero-div, div-eq-of-lt, le-div-iff-mul-le, div-lt-iff-lt-mul}
+use native.Mathlib.Decide.{ℕ-discrete, decLt}
+use native.Mathlib.Omega.{arith}
+use lib.Dec.{T, eqb, eqb→eq, lit<}
+use lib.Bits.{bitAnd, bitOr, bitXor, and-shr, or-shr, xor-shr, and-le-l, and-le-r, and-zero-r, and-mod, or-mod, xor-mod}
+use lib.Count.{trailingZeros, leadingZeros, leading-of-zero, leading-top}
+use lib.Pow.{pow-add, pow-mono}
+use Rattle.rules.specs.Tests.{pick}
+use Rattle.rules.specs.Entries.{entryOf}
+use Rattle.rules.specs.Tables.{isFree, isUsed}
+use Rattle.rules.proofs.Below.{allBelow, below}
+use Rattle.freeruns.specs.Rows.{LowerBits, Picks, Zeros, Row, RowStarts}
+
+-- ---- one entry
+
+pub four-pow : (j : ℕ) → 4 ^ j ≡ 2 ^ (2 * j)
+four-pow zero = refl
+four-pow (suc j) =
+    let e : 2 * suc j ≡ suc (suc (2 * j)) = omega arith in
+    rw (e, pow-suc 4 j, pow-suc 2 (suc (2 * j)), pow-suc 2 (2 * j), four-pow j) (omega arith)
+
+pow-pos : (j : ℕ) → 0 < 4 ^ j
+pow-pos j = one-le-pow j 4 (omega arith)
+
+pub entry-and : (a b j : ℕ) → entryOf (bitAnd a b) j ≡ bitAnd (entryOf a j) (entryOf b j)
+unfolding entryOf
+entry-and a b j = rw (four-pow j, and-shr a b (2 * j)) (and-mod (a / 2 ^ (2 * j)) (b / 2 ^ (2 * j)) 2)
+
+pub entry-or : (a b j : ℕ) → entryOf (bitOr a b) j ≡ bitOr (entryOf a j) (entryOf b j)
+unfolding entryOf
+entry-or a b j = rw (four-pow j, or-shr a b (2 * j)) (or-mod (a / 2 ^ (2 * j)) (b / 2 ^ (2 * j)) 2)
+
+pub entry-xor : (a b j : ℕ) → entryOf (bitXor a b) j ≡ bitXor (entryOf a j) (entryOf b j)
+unfolding entryOf
+entry-xor a b j = rw (four-pow j, xor-shr a b (2 * j)) (xor-mod (a / 2 ^ (2 * j)) (b / 2 ^ (2 * j)) 2)
+
+-- a shift by s entries
+pub entry-shr : (a s j : ℕ) → entryOf (a / 2 ^ (2 * s)) j ≡ entryOf a (s + j)
+unfolding entryOf
+entry-shr a s j = rw (← four-pow s, div-div-eq-div-mul a (4 ^ s) (4 ^ j), pow-add 4 s j)
+
+-- the entries above the first
+pub entry-suc : (a j : ℕ) → entryOf a (suc j) ≡ entryOf (a / 4) j
+unfolding entryOf
+entry-suc a j = rw (pow-succ' 4 j, div-div-eq-div-mul a 4 (4 ^ j))
+
+pub entry-zero : (j : ℕ) → entryOf 0 j ≡ 0
+unfolding entryOf
+entry-zero j = rw (zero-div (4 ^ j))
+
+-- above a number's digits each entry is 0
+entry-none : (a j : ℕ) → a < 4 ^ j → entryOf a j ≡ 0
+unfolding entryOf
+entry-none a j h = rw (div-eq-of-lt h)
+
+-- the entry of its highest set digit is not
+entry-top : (a j : ℕ) → 4 ^ j ≤ a → a < 4 ^ suc j → entryOf a j ≢ 0
+unfolding entryOf
+entry-top a j l h z =
+    let some : 1 ≤ a / 4 ^ j = le-div-iff-mul-le (pow-pos j) .1 (omega (arith, l)) in
+    let few : a / 4 ^ j < 4 = div-lt-iff-lt-mul (pow-pos j) .1 (rw (pow-succ' 4 j) at h) in
+    omega (arith, some, few, z)
+
+-- a number with no entry but 0 is 0
+pub all-zero : (k a : ℕ) → a < 4 ^ k → ((j : ℕ) → j < k → entryOf a j ≡ 0) → a ≡ 0
+unfolding entryOf
+all-zero zero a h z = omega arith
+all-zero (suc k) a h z =
+    let l : a < 4 ^ k * 4 = rw (pow-suc 4 k) at h in
+    let up = all-zero k (a / 4) (omega arith) (λ j m. rw (← entry-suc a j) (z (suc j) (omega arith))) in
+    omega (arith, z 0 (omega arith))
+
+-- ---- the zeros at both ends of a number of 64 digits
+
+record Trailing (k a n : ℕ) : Type 0 where
+  few : n ≤ k
+  before : (j : ℕ) → j < n → entryOf a j ≡ 0
+  next : n < k → entryOf a n ≢ 0
+
+lower-digit : (a x : ℕ) → a % 2 ≡ suc x → a / 1 % 4 ≡ 0 → ⊥
+lower-digit a x p z = omega arith
+
+upper-digit : (a y : ℕ) → a / 2 % 2 ≡ suc y → a / 1 % 4 ≡ 0 → ⊥
+upper-digit a y q z = omega arith
+
+-- the zeros below the lowest set digit, by pairs
+trailing : (k a : ℕ) → Trailing k a (trailingZeros (2 * k) a / 2)
+unfolding trailingZeros entryOf
+trailing zero a = record { few = omega arith; before = λ j l. absurd (omega arith); next = λ l. absurd (omega arith) }
+trailing (suc k) a =
+    let e : 2 * suc k ≡ suc (suc (2 * k)) = omega arith in
+    rw e (go (a % 2) (a / 2 % 2) refl refl (trailing k (a / 4)))
+  where
+    half : a / 2 / 2 ≡ a / 4
+    half = omega arith
+
+    go : (x y : ℕ) → a % 2 ≡ x → a / 2 % 2 ≡ y → Trailing k (a / 4) (trailingZeros (2 * k) (a / 4) / 2)
+        → Trailing (suc k) a (lib.Count.under x (lib.Count.under y (trailingZeros (2 * k) (a / 2 / 2))) / 2)
+    go (suc x) y p q r = record { few = omega arith; before = λ j l. absurd (omega arith); next = λ l z. lower-digit a x p z }
+    go zero (suc y) p q r = record { few = omega arith; before = λ j l. absurd (omega arith); next = λ l z. upper-digit a y q z }
+    go zero zero p q r =
+        let t : ℕ = trailingZeros (2 * k) (a / 4) in
+        let e : suc (suc t) / 2 ≡ suc (t / 2) = omega arith in
+        rw (half, e) record {
+          few = omega (arith, r .few);
+          before = λ j l. go-before (t / 2) (λ i m. rw (entry-suc a i) (r .before i m)) (omega arith) j l;
+          next = λ l. rw (entry-suc a (t / 2)) (r .next (omega arith));
+        }
+      where
+        go-before : (n : ℕ) → ((i : ℕ) → i < n → entryOf a (suc i) ≡ 0) → a % 4 ≡ 0 → (j : ℕ) → j < suc n → entryOf a j ≡ 0
+        go-before n up z zero l = omega (arith, z)
+        go-before n up z (suc i) l = up i (omega arith)
+
+pub zeros-below : (a : ℕ) → Zeros (λ (j : ℕ). entryOf a j) (trailingZeros 64 a / 2)
+zeros-below a = let t = trailing 32 a in record { few = t .few; before = t .before; next = t .next }
+
+pub zeros-above : (a : ℕ) → a < 2 ^ 64 → Zeros (λ (j : ℕ). entryOf a (31 - j)) (leadingZeros 64 a / 2)
+zeros-above a h = go (ℕ-discrete a 0)
+  where
+    go : Dec (a ≡ 0) → Zeros (λ (j : ℕ). entryOf a (31 - j)) (leadingZeros 64 a / 2)
+    go (yes z) = rw (z, leading-of-zero 64) record { few = omega arith; before = λ j l. entry-zero (31 - j); next = λ l. absurd (omega arith) }
+    go (no some) =
+        let top = leading-top 64 a (omega arith) h in
+        let n : ℕ = leadingZeros 64 a / 2 in
+        let t : ℕ = 31 - n in
+        let reach : (i : ℕ) → suc (top .0) ≤ 2 * i → a < 4 ^ i = λ i m. rw (four-pow i) (lt-of-lt-of-le (top .3) (pow-mono m)) in
+        record {
+          few = omega (arith, top .1);
+          before = λ j l. entry-none a (31 - j) (reach (31 - j) (omega (arith, top .1)));
+          next = λ l. entry-top a t (rw (four-pow t) (le-trans (pow-mono (omega (arith, top .1))) (top .2))) (reach (suc t) (omega (arith, top .1)));
+        }
+
+-- a number of 64 digits that is not 0 has an entry that is not
+pub some-entry : (a : ℕ) → a < 2 ^ 64 → a ≢ 0 → (j : ℕ) × entryOf a j ≢ 0
+some-entry a h some = go (zeros-below a) (decLt (trailingZeros 64 a / 2) 32)
+  where
+    go : Zeros (λ (j : ℕ). entryOf a j) (trailingZeros 64 a / 2) → Dec (trailingZeros 64 a / 2 < 32) → (j : ℕ) × entryOf a j ≢ 0
+    go z (yes l) = (trailingZeros 64 a / 2, z .next l)
+    go z (no l) = absurd (some (all-zero 32 a h (λ j m. z .before j (omega arith))))
+
+-- ---- rows of bits
+
+-- where an entry has its lower bit at most, those that are not 0 are rows of one
+pub row-one : (bits : ℕ) → ((j : ℕ) → entryOf bits j < 2) → RowStarts bits 1 bits
+row-one bits low = record {
+  set = λ j row. let e : j + 0 ≡ j = omega arith in rw e at (row 0 (omega arith));
+  only = λ j some d l. let e : j + d ≡ j = omega arith in rw e (omega (arith, low j));
+}
+
+-- rows that start at j and at s after j make one that is s longer
+pub row-join : (bits n s x : ℕ) → s ≤ n → RowStarts bits n x → RowStarts bits (n + s) (bitAnd x (x / 2 ^ (2 * s)))
+row-join bits n s x h r = record {
+  set = λ j row. entry-joined j ∙ rw (r .set j (λ d l. row d (omega arith)), r .set (s + j) (λ d l. let e : s + j + d ≡ j + (s + d) = omega arith in rw e (row (s + d) (omega arith))));
+  only = λ j some d l. go j some d l (decLt d n);
+}
+  where
+    entry-joined : (j : ℕ) → entryOf (bitAnd x (x / 2 ^ (2 * s))) j ≡ bitAnd (entryOf x j) (entryOf x (s + j))
+    entry-joined j = entry-and x (x / 2 ^ (2 * s)) j ∙ rw (entry-shr x s j)
+
+    go : (j : ℕ) → entryOf (bitAnd x (x / 2 ^ (2 * s))) j ≢ 0 → (d : ℕ) → d < n + s → Dec (d < n) → entryOf bits (j + d) ≡ 1
+    go j some d l (yes m) = r .only j (λ z. some (omega (arith, entry-joined j, and-le-l (entryOf x j) (entryOf x (s + j)), z))) d m
+    go j some d l (no m) =
+        let e : j + d ≡ s + j + (d - s) = omega arith in
+        rw e (r .only (s + j) (λ z. some (omega (arith, entry-joined j, and-le-r (entryOf x j) (entryOf x (s + j)), z))) (d - s) (omega arith))
+
+-- where no row of n + 1 bits starts, none is longer than n
+pub none-longer : (bits n r : ℕ) → RowStarts bits (n + 1) r → r ≡ 0 → (count j : ℕ) → Row bits count j → count ≤ n
+none-longer bits n r starts z count j row = go (decLt n count)
+  where
+    go : Dec (n < count) → count ≤ n
+    go (yes l) =
+        let e : entryOf 0 j ≡ 1 = rw z at (starts .set j (λ d m. row d (omega arith))) in
+        absurd (omega (arith, e, entry-zero j))
+    go (no l) = omega arith
+
+-- ---- the bits of the entries that pass a test
+
+abbrev pub BITS : ℕ
+BITS = 0x5555_5555_5555_5555
+
+bits-right : T (allBelow 32 (λ (j : ℕ). eqb (entryOf BITS j) 1))
+unfolding entryOf
+bits-right = tt
+
+pub bits-inside : (j : ℕ) → j < 32 → entryOf BITS j ≡ 1
+bits-inside j h = eqb→eq (entryOf BITS j) 1 (below 32 (λ (j : ℕ). eqb (entryOf BITS j) 1) bits-right j h)
+
+bits-outside : (j : ℕ) → 32 ≤ j → entryOf BITS j ≡ 0
+bits-outside j h = entry-none BITS j (rw (four-pow j) (lt-of-lt-of-le (lit< {m = BITS} {n = 2 ^ 64} tt) (pow-mono {i = 64} (omega arith))))
+
+-- an entry's two bits combined, computed for the entry and the lower bit of the next
+combined : ℕ → Bool
+combined z = eqb (bitAnd (bitOr (z % 4) (z / 2 % 4)) 1) (pick (isUsed (z % 4)) 1 0)
+
+all-combined : T (allBelow 8 combined)
+unfolding combined
+all-combined = tt
+
+combine : (y : ℕ) → bitAnd (bitOr (y % 4) (y / 2 % 4)) 1 ≡ pick (isUsed (y % 4)) 1 0
+unfolding combined
+combine y =
+    let a : y % 8 % 4 ≡ y % 4 = omega arith in
+    let b : y % 8 / 2 % 4 ≡ y / 2 % 4 = omega arith in
+    rw (a, b) at (eqb→eq (bitAnd (bitOr (y % 8 % 4) (y % 8 / 2 % 4)) 1) (pick (isUsed (y % 8 % 4)) 1 0) (below 8 combined all-combined (y % 8) (omega arith)))
+
+entry-half : (a j : ℕ) → entryOf (a / 2) j ≡ a / 4 ^ j / 2 % 4
+unfolding entryOf
+entry-half a j = ap (λ (x : ℕ). x % 4) (div-div-eq-div-mul a 2 (4 ^ j) ∙ ap (λ (x : ℕ). a / x) (mul-comm 2 (4 ^ j)) ∙ sym (div-div-eq-div-mul a (4 ^ j) 2))
+
+pub picks-used : (b : ℕ) → Picks isUsed b (bitAnd (bitOr b (b / 2)) BITS)
+unfolding entryOf
+picks-used b = record {
+  inside = λ j l. entry-and (bitOr b (b / 2)) BITS j ∙ rw (bits-inside j l, entry-or b (b / 2) j, entry-half b j) (combine (b / 4 ^ j));
+  outside = λ j l. entry-and (bitOr b (b / 2)) BITS j ∙ rw (bits-outside j l) (and-zero-r (entryOf (bitOr b (b / 2)) j));
+}
+
+-- the bits of all others
+pub picks-free : (b u : ℕ) → Picks isUsed b u → Picks isFree b (bitXor u BITS)
+picks-free b u p = record {
+  inside = λ j l. entry-xor u BITS j ∙ rw (bits-inside j l, p .inside j l) (flip (isFree (entryOf b j)));
+  outside = λ j l. entry-xor u BITS j ∙ rw (bits-outside j l, p .outside j l);
+}
+  where
+    flip : (f : Bool) → bitXor (pick (not f) 1 0) 1 ≡ pick f 1 0
+    flip true = refl
+    flip false = refl
+
+pub picks-lower : (test : ℕ → Bool) (b r : ℕ) → Picks test b r → LowerBits r
+picks-lower test b r p j = go (decLt j 32)
+  where
+    few : (f : Bool) → pick f 1 0 < 2
+    few true = omega arith
+    few false = omega arith
+
+    go : Dec (j < 32) → entryOf r j < 2
+    go (yes l) = rw (p .inside j l) (few (test (entryOf b j)))
+    go (no l) = omega (arith, p .outside j (omega arith))
+
+-- an entry whose bit is set passes the test, and one that passes has its bit set
+pub picks-set : (test : ℕ → Bool) (b r j : ℕ) → Picks test b r → entryOf r j ≢ 0 → (j < 32) × (test (entryOf b j) ≡ true)
+picks-set test b r j p some = go (decLt j 32)
+  where
+    yields : (f : Bool) → _≢_ {A = ℕ} (pick f 1 0) 0 → f ≡ true
+    yields true s = refl
+    yields false s = absurd (s refl)
+
+    go : Dec (j < 32) → (j < 32) × (test (entryOf b j) ≡ true)
+    go (yes l) = (l, yields (test (entryOf b j)) (λ z. some (p .inside j l ∙ z)))
+    go (no l) = absurd (some (p .outside j (omega arith)))
+
+pub picks-clear : (test : ℕ → Bool) (b r j : ℕ) → Picks test b r → j < 32 → entryOf r j ≡ 0 → test (entryOf b j) ≡ false
+picks-clear test b r j p l z = go (test (entryOf b j)) (sym (p .inside j l) ∙ z)
+  where
+    go : (f : Bool) → _≡_ {A = ℕ} (pick f 1 0) 0 → f ≡ false
+    go true e = absurd (omega (arith, e))
+    go false e = refl

@@ -1,0 +1,63 @@
+-- `may_start_in_16`: as long as nothing is found, no run starts in the bytes passed.
+-- Assumes nothing.
+use mathlib.Core.Path.{_≡_}
+use Prim.Native.Nat.{ℕ, _+_, _-_, _*_, _≤_}
+use native.Mathlib.Omega.{arith}
+use lib.Bits.{bitOr, or-add-and, and-le-l, and-le-r}
+use borrow.Author.Needs.{needs}
+use Rattle.rules.specs.Entries.{entriesOf}
+use Rattle.freeruns.specs.Starts.{NoStart}
+use Rattle.freeruns.proofs.Starts.{no-start-join, none-at-all}
+use Rattle.freeruns.proofs.may_start_in_16.Statement.{statement}
+use Rattle.freeruns.proofs.may_start_in_16.Tie as tie
+
+abbrev Inv-loop : tie.InvT-loop
+Inv-loop table i count any₀ j₀ any j = (j ≤ 16) × (any ≡ 0 → NoStart (entriesOf table) count (4 * i) (4 * (i + j)))
+
+abbrev μ-loop : tie.MeasureT-loop
+μ-loop table i count any₀ j₀ any j = 16 - j
+
+or-none : (a b : ℕ) → bitOr a b ≡ 0 → (a ≡ 0) × (b ≡ 0)
+or-none a b z = omega (arith, or-add-and a b, and-le-l a b, and-le-r a b)
+
+loop-holds : tie.Need-loop-holds Inv-loop μ-loop
+loop-holds c = (search needs, λ z q l h r. omega arith)
+
+add-may-start : tie.Need-add-may-start Inv-loop μ-loop
+add-may-start c = search needs
+
+may-start-requires : tie.Need-may-start-requires Inv-loop μ-loop
+may-start-requires c κs = search needs
+
+add-j : tie.Need-add-j Inv-loop μ-loop
+add-j c = search needs
+
+loop-less : tie.Need-loop-less Inv-loop μ-loop
+loop-less c = search needs
+
+loop-again : tie.Need-loop-again Inv-loop μ-loop
+loop-again c =
+    let a = c .before .before .before .before .args in
+    let l = c .before .before .loop in
+    let both = or-none (l .any) (c .may-start .result) in (
+      omega arith,
+      λ z. no-start-join (entriesOf (a .table .now)) (a .count) (4 * a .i) (4 * (a .i + l .j)) (4 * (a .i + (l .j + 1))) (l .inv .1 (both z .0))
+          (λ q h k. none-at-all (entriesOf (a .table .now)) (a .count) (a .i + l .j) (c .may-start .result) (c .may-start .ensures) (both z .1) q h (omega arith)),
+    )
+
+returns : tie.Need-returns Inv-loop μ-loop
+returns c = λ z q h k. c .before .loop .inv .1 z q h (omega arith)
+
+pub may-start-in-16-spec : {M : Type 1} → statement M
+may-start-in-16-spec =
+    tie.close
+    (tie.spec
+    Inv-loop
+    μ-loop
+    loop-holds
+    add-may-start
+    may-start-requires
+    add-j
+    loop-less
+    loop-again
+    returns)

@@ -1,0 +1,24 @@
+-- What is known of the runs of FREE blocks when the table is read from its front as far as block p.
+-- Assumes nothing.
+use mathlib.Core.Path.{_≡_}
+use mathlib.Core.List.{List}
+use Prim.Native.Nat.{ℕ, _+_, _≤_, _<_}
+use lib.ListN.{getD}
+use Rattle.rules.specs.Entries.{FREE, HEAD}
+use Rattle.rules.specs.Meaning.{Run}
+use Rattle.freeruns.specs.Rows.{Holds}
+
+pub record Scanned (es : List ℕ) (p longest ending : ℕ) : Type 0 where
+  -- there is a run of `longest` blocks
+  pub start : ℕ
+  pub run : Run es longest start
+  -- the last `ending` blocks before p are FREE
+  pub room : ending ≤ p
+  pub free : (k : ℕ) → p ≤ k + ending → k < p → getD es k HEAD ≡ FREE
+  -- no run that starts before them is longer
+  pub most : (b s : ℕ) → s + ending < p → Run es b s → b ≤ longest
+
+-- whatever table was read as far as the 32 entries of b: with longest and ending before, it is read as far as behind them with the others
+abbrev pub ReadOn : ℕ → ℕ → ℕ → ℕ → ℕ → Type 0
+ReadOn b longest ending longest′ ending′ =
+    (es : List ℕ) (p : ℕ) → Holds es p b → Scanned es p longest ending → Scanned es (p + 32) longest′ ending′

@@ -1,0 +1,219 @@
+// Runs of FREE blocks: where the next may start, up to sixteen bytes at a time, and how long the longest is, 32 entries at a time.
+ghost use mathlib.Core.Path.{_≡_};
+ghost use Prim.Native.Nat.{ℕ, _+_, _-_, _*_, _^_, _≤_, _<_};
+ghost use lib.Dec.{ltb};
+ghost use lib.ListN.{length};
+ghost use Rattle.rules.specs.Entries.{entryOf, entriesOf};
+ghost use Rattle.rules.specs.Tables.{isUsed, longest as longestOf};
+ghost use Rattle.rules.specs.Tests.{pick};
+ghost use Rattle.freeruns.specs.Rows.{Holds, LowerBits, Picks, Zeros, RowStarts, LongestRow};
+ghost use Rattle.freeruns.specs.Scans.{ReadOn};
+ghost use Rattle.freeruns.specs.Starts.{NoStart, MayStart};
+use memory::Block;
+
+// The lower bit of each of 32 entries.
+const BITS: u64 = 0x5555555555555555;
+
+// The first of 32 entries of which a bit is set, by the zeros below it; 32 if there is none.
+fn first(bits: u64) -> usize
+    ensures { λ r. ⌜ Zeros (λ (j : ℕ). entryOf bits j) r ⌝ }
+{
+    (u64::trailing_zeros(bits) / 2) as usize
+}
+
+// What the test of block i of a run is joined with: 255 passes where a run of count blocks has no such block.
+fn spared(i: usize, count: usize) -> u8
+    ensures { λ r. ⌜ r ≡ pick (ltb i count) 0 255 ⌝ }
+{
+    if i < count {
+        return 0;
+    }
+    255
+}
+
+// A bit for each entry of byte i at which a run of count blocks may start. Up to five blocks of a run are looked at, which lie in this byte
+// and the next.
+fn may_start(table: &[u8], i: usize, count: usize) -> u8
+    requires { ⌜ (i + 1 < length (now table)) × (0 < count) ⌝ }
+    ensures { λ r. ⌜ MayStart (entriesOf (now (table .entry))) count i r ⌝ }
+{
+    let a = table[i];
+    let b = table[i + 1];
+    let free = !(a | (a >> 1)) & 0x55;
+    let next = !(b | (b >> 1)) & 0x55;
+    free
+        & ((free >> 2) | (next << 6) | spared(1, count))
+        & ((free >> 4) | (next << 4) | spared(2, count))
+        & ((free >> 6) | (next << 2) | spared(3, count))
+        & (next | spared(4, count))
+}
+
+// Zero if no run of count blocks starts in the 16 bytes from byte i on. No early exit.
+fn may_start_in_16(table: &[u8], i: usize, count: usize) -> u8
+    requires { ⌜ (i + 16 < length (now table)) × (0 < count) ⌝ }
+    ensures { λ r. ⌜ (r ≡ 0 → NoStart (entriesOf (now (table .entry))) count (4 * i) (4 * i + 64)) ⌝ }
+{
+    let mut any: u8 = 0;
+    let mut j = 0;
+    while j < 16 {
+        any = any | may_start(table, i + j, count);
+        j += 1;
+    }
+    any
+}
+
+// A byte from byte i on with no run of count blocks starting before it, found sixteen bytes at a time.
+fn pass_by_16(table: &[u8], i: usize, count: usize) -> usize
+    requires { ⌜ (i ≤ length (now table)) × (0 < count) ⌝ }
+    ensures { λ r. ⌜ (r ≤ length (now (table .entry))) × ((i ≤ r) × NoStart (entriesOf (now (table .entry))) count (4 * i) (4 * r)) ⌝ }
+{
+    let n = table.len();
+    let mut at = i;
+    while 16 < n - at {
+        if may_start_in_16(table, at, count) != 0 {
+            return at;
+        }
+        at += 16;
+    }
+    at
+}
+
+// A block from `from` on with no run of count blocks starting before it. Only whole bytes are passed: a block inside a byte is its own answer.
+pub fn skip(table: &[u8], from: Block, count: usize) -> Block
+    requires { ⌜ (length (now table) ≤ 1024) × ((from .0 ≤ length (entriesOf (now table))) × (0 < count)) ⌝ }
+    ensures { λ r. ⌜ (r .0 ≤ length (entriesOf (now (table .entry)))) × ((from .0 ≤ r .0) × NoStart (entriesOf (now (table .entry))) count (from .0) (r .0)) ⌝ }
+{
+    let at = from.index();
+    if at % 4 != 0 {
+        return from;
+    }
+    let n = table.len();
+    let byte = at / 4;
+    if n - byte < 2 {
+        return from;
+    }
+    if may_start(table, byte, count) != 0 {
+        return from;
+    }
+    let mut i = pass_by_16(table, byte + 1, count);
+    while 1 < n - i {
+        let starts = may_start(table, i, count);
+        if starts != 0 {
+            return Block::first().plus(4 * i + first(starts as u64));
+        }
+        i += 1;
+    }
+    Block::first().plus(4 * i)
+}
+
+// How many of 32 entries stand above the last of which a bit is set, by the zeros above it; 32 if there is none.
+fn above_last(bits: u64) -> usize
+    ensures { λ r. ⌜ Zeros (λ (j : ℕ). entryOf bits (31 - j)) r ⌝ }
+{
+    (u64::leading_zeros(bits) / 2) as usize
+}
+
+// The bit of each of 32 entries that is not FREE: its two bits combined.
+fn used_bits(b: u64) -> u64
+    ensures { λ r. ⌜ Picks isUsed b r ⌝ }
+{
+    (b | (b >> 1)) & BITS
+}
+
+// The bit of each entry at which a row of count bits starts. Each turn makes the rows twice as long.
+fn row_starts(bits: u64, count: usize) -> u64
+    requires { ⌜ LowerBits bits × ((0 < count) × (count ≤ 32)) ⌝ }
+    ensures { λ r. ⌜ RowStarts bits count r ⌝ }
+{
+    let mut starts = bits;
+    let mut length = 1;
+    while length < count - length {
+        starts = starts & (starts >> (2 * length));
+        length = 2 * length;
+    }
+    starts & (starts >> (2 * (count - length)))
+}
+
+// The length of the longest row of bits, or n if none is longer.
+fn longest_row(bits: u64, n: usize) -> usize
+    requires { ⌜ LowerBits bits ⌝ }
+    ensures { λ r. ⌜ LongestRow bits n r ⌝ }
+{
+    let mut best = n;
+    while best < 32 {
+        if row_starts(bits, best + 1) == 0 {
+            return best;
+        }
+        best += 1;
+    }
+    best
+}
+
+// The longest run in the blocks read so far, but for the one at their end, and how many blocks that has.
+struct Scan {
+    longest: usize,
+    ending: usize,
+}
+
+// The same when the 32 entries of b are read too.
+fn read_on(before: Scan, b: u64) -> Scan
+    requires { ⌜ before .ending ≤ 4096 ⌝ }
+    ensures { λ r. ⌜ ReadOn b (before .longest) (before .ending) (r .longest) (r .ending) ⌝ }
+{
+    let used = used_bits(b);
+    if used == 0 {
+        return Scan {
+            longest: before.longest,
+            ending: before.ending + 32,
+        };
+    }
+    let closed = before.ending + first(used);
+    let mut longest = before.longest;
+    if longest < closed {
+        longest = closed;
+    }
+    Scan {
+        longest: longest_row(used ^ BITS, longest),
+        ending: above_last(used),
+    }
+}
+
+// The 32 entries from byte 8 i on.
+fn entries_at(table: &[u8], i: usize) -> u64
+    requires { ⌜ 8 * i + 8 ≤ length (now table) ⌝ }
+    ensures { λ r. ⌜ Holds (entriesOf (now (table .entry))) (32 * i) r ⌝ }
+{
+    memory::word(table, 2 * i) as u64 + 4294967296 * (memory::word(table, 2 * i + 1) as u64)
+}
+
+// The entries from byte i on, which are fewer than 32, and HEADs after them.
+fn last_entries(table: &[u8], i: usize) -> u64
+    requires { ⌜ (i ≤ length (now table)) × (length (now table) ≤ i + 7) ⌝ }
+    ensures { λ r. ⌜ Holds (entriesOf (now (table .entry))) (4 * i) r ⌝ }
+{
+    let mut b = BITS;
+    let mut at = table.len();
+    while i < at {
+        at -= 1;
+        b = (b << 8) | (table[at] as u64);
+    }
+    b
+}
+
+// The longest run of FREE blocks.
+pub fn longest(table: &[u8]) -> usize
+    requires { ⌜ length (now table) ≤ 1024 ⌝ }
+    ensures { λ r. ⌜ r ≡ longestOf (entriesOf (now (table .entry))) ⌝ }
+{
+    let whole = table.len() / 8;
+    let mut read = Scan {
+        longest: 0,
+        ending: 0,
+    };
+    let mut i = 0;
+    while i < whole {
+        read = read_on(read, entries_at(table, i));
+        i += 1;
+    }
+    read_on(read, last_entries(table, 8 * whole)).longest
+}
