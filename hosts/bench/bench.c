@@ -89,6 +89,19 @@ static void fill(void)
         must(blockheap_allocate(HEAP, 1 + random_below(48), &live[at], &change));
 }
 
+/* An object in every 31st block: of many patterns tried, the one whose survey takes the library longest. */
+static void fill_every_31st(void)
+{
+    uint32_t object;
+    int32_t change;
+    must(blockheap_init(HEAP));
+    for (size_t block = 0; block < blocks; block++)
+        must(blockheap_allocate(HEAP, 1, &object, &change));
+    for (size_t block = 0; block < blocks; block++)
+        if (block % 31)
+            must(blockheap_free(HEAP, block, &change));
+}
+
 static void churn(void)
 {
     int32_t change;
@@ -177,6 +190,7 @@ static const struct work {
     {"reallocate", "give a random object of such a heap a new size of 1 to 48 bytes", fill, reallocate},
     {"load and store", "read a word of a random object of such a heap, and write it", fill, load_and_store},
     {"survey", "count used blocks, objects and the longest free run of such a heap", fill, survey},
+    {"survey, holes of 30 blocks", "the same with an object in every 31st block, the worst case known", fill_every_31st, survey},
     {"collect, nothing reachable", "an object in each block and no roots: all are freed", only_heads, collect},
     {"collect, a chain", "each object leads to the next: all are kept", chain, collect},
     {"collect, a binary tree", "each object leads to two others: all are kept", tree, collect},

@@ -78,7 +78,8 @@ fn pass_by_16(table: &[u8], i: usize, count: usize) -> usize
     at
 }
 
-// A block from `from` on with no run of count blocks starting before it. Only whole bytes are passed: a block inside a byte is its own answer.
+// A block from `from` on with no run of count blocks starting before it. A block inside a byte is its own answer; behind bytes that are
+// passed it is the first at which a run may start.
 pub fn skip(table: &[u8], from: Block, count: usize) -> Block
     requires { ⌜ (length (now table) ≤ 1024) × ((from .0 ≤ length (entriesOf (now table))) × (0 < count)) ⌝ }
     ensures { λ r. ⌜ (r .0 ≤ length (entriesOf (now (table .entry)))) × ((from .0 ≤ r .0) × NoStart (entriesOf (now (table .entry))) count (from .0) (r .0)) ⌝ }

@@ -18,7 +18,7 @@ abbrev μ-loop : tie.MeasureT-loop
 μ-loop table i b₀ at₀ b at = at
 
 loop-holds : tie.Need-loop-holds Inv-loop μ-loop
-loop-holds c = (search needs, (search needs, held-end (c .args .table .now) (length (c .args .table .now)) (omega arith)))
+loop-holds c = (search needs, (search needs, held-end (c .args .table .now) _ (omega arith)))
 
 sub-at : tie.Need-sub-at Inv-loop μ-loop
 sub-at c = search needs

@@ -8,7 +8,7 @@ use std::fmt::Write;
 /// Situations of an accepted call: which call, what it is called, and whether a reply shows it.
 type Situation = (&'static str, &'static str, fn(&Call, &Reply) -> bool);
 
-const SITUATIONS: [Situation; 10] = [
+const SITUATIONS: [Situation; 11] = [
     ("reallocate", "as many blocks", |_, reply| reply.parts["change"] == 0),
     ("reallocate", "fewer blocks", |_, reply| reply.parts["change"] < 0),
     ("reallocate", "grown in place", |call, reply| grown(reply) && !moved(call, reply)),
@@ -19,6 +19,7 @@ const SITUATIONS: [Situation; 10] = [
     ("collect", "one rescan", |_, reply| reply.parts["rescans"] == 1),
     ("collect", "two or more rescans", |_, reply| reply.parts["rescans"] > 1),
     ("survey", "no free block", |_, reply| reply.parts["longest"] == 0),
+    ("survey", "more than 32 in a row", |_, reply| reply.parts["longest"] > 32),
 ];
 
 fn grown(reply: &Reply) -> bool {

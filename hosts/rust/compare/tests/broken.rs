@@ -96,6 +96,8 @@ each! { must_be_noticed:
     frees_tails_of_kept_objects
     counts_addresses_inside_blocks
     misses_the_lowest_start
+    cuts_runs_at_every_32_blocks
+    surveys_no_last_bytes
     cuts_numbers_to_32_bits
     tests_the_block_before_the_bytes
     takes_any_base
@@ -310,6 +312,36 @@ fn misses_the_lowest_start(call: &Call, lent: &mut Lent) -> Reply {
         reply.parts.insert("block", start.expect("a heap in order"));
     }
     reply
+}
+
+/// The longest run of free blocks that lies within one of the parts of a table.
+fn longest_in_parts(table: &[u8], part_bytes: usize) -> i64 {
+    let free_runs = |part: &[u8]| {
+        let blocks = 0..4 * part.len() as u64;
+        let free: Vec<bool> = blocks.map(|block| entry(part, block) == 0).collect();
+        free.split(|free| !free).map(<[bool]>::len).max().unwrap_or(0)
+    };
+    table.chunks(part_bytes).map(free_runs).max().unwrap_or(0) as i64
+}
+
+fn survey_by(call: &Call, lent: &mut Lent, longest: impl Fn(&[u8]) -> i64) -> Reply {
+    let mut reply = second(call, lent);
+    if let (0, Call::Survey) = (reply.refusal, call) {
+        reply.parts.insert("longest", longest(&lent[Table]));
+    }
+    reply
+}
+
+fn cuts_runs_at_every_32_blocks(call: &Call, lent: &mut Lent) -> Reply {
+    survey_by(call, lent, |table| longest_in_parts(table, 8))
+}
+
+/// Those after the last whole eight.
+fn surveys_no_last_bytes(call: &Call, lent: &mut Lent) -> Reply {
+    survey_by(call, lent, |table| {
+        let whole = &table[..table.len() / 8 * 8];
+        longest_in_parts(whole, whole.len().max(1))
+    })
 }
 
 fn cuts_numbers_to_32_bits(call: &Call, lent: &mut Lent) -> Reply {
