@@ -8,14 +8,14 @@ use native.Mathlib.Nat.{le-trans, lt-of-lt-of-le, mul-comm, pow-suc, pow-succ', 
 use native.Mathlib.Decide.{ℕ-discrete, decLt}
 use native.Mathlib.Omega.{arith}
 use lib.Dec.{T, eqb, eqb→eq, lit<}
-use lib.Bits.{bitAnd, bitOr, bitXor, and-shr, or-shr, xor-shr, and-le-l, and-le-r, and-zero-r, and-mod, or-mod, xor-mod}
+use lib.Bits.{bitAnd, bitOr, bitXor, and-shr, or-shr, xor-shr, and-le-l, and-le-r, and-zero-r, xor-lt, and-mod, or-mod, xor-mod}
 use lib.Count.{trailingZeros, leadingZeros, leading-of-zero, leading-top}
-use lib.Pow.{pow-add, pow-mono}
+use lib.Pow.{pow-add, pow-mono, shr-le}
 use Rattle.rules.specs.Tests.{pick}
 use Rattle.rules.specs.Entries.{entryOf}
 use Rattle.rules.specs.Tables.{isFree, isUsed}
 use Rattle.rules.proofs.Below.{allBelow, below}
-use Rattle.freeruns.specs.Rows.{LowerBits, Picks, Zeros, Row, RowStarts}
+use Rattle.freeruns.specs.Rows.{LowerBits, Picks, Zeros, Row, RowStarts, WholeRow}
 
 -- ---- one entry
 
@@ -136,13 +136,13 @@ zeros-above a h = go (ℕ-discrete a 0)
           next = λ l. entry-top a t (rw (four-pow t) (le-trans (pow-mono (omega (arith, top .1))) (top .2))) (reach (suc t) (omega (arith, top .1)));
         }
 
--- a number of 64 digits that is not 0 has an entry that is not
-pub some-entry : (a : ℕ) → a < 2 ^ 64 → a ≢ 0 → (j : ℕ) × entryOf a j ≢ 0
-some-entry a h some = go (zeros-below a) (decLt (trailingZeros 64 a / 2) 32)
+-- the first bit of a number of k entries is in one of them
+pub first-lt : (k a n : ℕ) → a < 4 ^ k → a ≢ 0 → Zeros (λ (j : ℕ). entryOf a j) n → n < k
+first-lt k a n h some z = go (decLt n k)
   where
-    go : Zeros (λ (j : ℕ). entryOf a j) (trailingZeros 64 a / 2) → Dec (trailingZeros 64 a / 2 < 32) → (j : ℕ) × entryOf a j ≢ 0
-    go z (yes l) = (trailingZeros 64 a / 2, z .next l)
-    go z (no l) = absurd (some (all-zero 32 a h (λ j m. z .before j (omega arith))))
+    go : Dec (n < k) → n < k
+    go (yes l) = l
+    go (no l) = absurd (some (all-zero k a h (λ j m. z .before j (omega arith))))
 
 -- ---- rows of bits
 
@@ -260,3 +260,65 @@ picks-clear test b r j p l z = go (test (entryOf b j)) (sym (p .inside j l) ∙ 
     go : (f : Bool) → _≡_ {A = ℕ} (pick f 1 0) 0 → f ≡ false
     go true e = absurd (omega (arith, e))
     go false e = refl
+
+-- ---- the whole row from an entry on
+
+-- the entries that are not set, from entry j on
+entry-clear : (bits j d : ℕ) → entryOf (bitXor bits BITS / 2 ^ (2 * j)) d ≡ bitXor (entryOf bits (j + d)) (entryOf BITS (j + d))
+entry-clear bits j d = entry-shr (bitXor bits BITS) j d ∙ entry-xor bits BITS (j + d)
+
+-- where an entry has its lower bit at most, it is set exactly if its bit is no longer set behind the xor
+flip-set : (e : ℕ) → e < 2 → bitXor e 1 ≡ 0 → e ≡ 1
+flip-set zero l z = absurd (omega (arith, z))
+flip-set (suc zero) l z = refl
+flip-set (suc (suc e)) l z = absurd (omega arith)
+
+flip-clear : (e : ℕ) → e < 2 → bitXor e 1 ≢ 0 → e ≢ 1
+flip-clear zero l s e = absurd (omega (arith, e))
+flip-clear (suc zero) l s e = s refl
+flip-clear (suc (suc e)) l s _ = omega arith
+
+module _ (bits j : ℕ) (low : LowerBits bits) (small : bits < 2 ^ 64) (few : j < 32) where
+  abbrev clear : ℕ
+  clear = bitXor bits BITS / 2 ^ (2 * j)
+
+  outside : (k : ℕ) → 32 ≤ k → entryOf bits k ≡ 0
+  outside k h = entry-none bits k (rw (four-pow k) (lt-of-lt-of-le small (pow-mono {i = 64} (omega arith))))
+
+  set-at : (d : ℕ) → j + d < 32 → entryOf clear d ≡ 0 → entryOf bits (j + d) ≡ 1
+  set-at d h z = flip-set (entryOf bits (j + d)) (low (j + d)) (rw (bits-inside (j + d) h) at (sym (entry-clear bits j d) ∙ z))
+
+  -- none is clear
+  pub to-the-end : clear ≡ 0 → WholeRow bits j (32 - j)
+  to-the-end z = record {
+    row = λ d l. set-at d (omega arith) (rw z (entry-zero d));
+    next = λ e. omega (arith, e, outside (j + (32 - j)) (omega arith));
+  }
+
+  -- the first that is clear ends it
+  pub to-the-first : (n : ℕ) → clear ≢ 0 → Zeros (λ (d : ℕ). entryOf clear d) n → WholeRow bits j n
+  to-the-first n some z =
+      let taken = z .next (first-lt 32 clear n clear-lt some z) in
+      let room = inside taken in
+      record {
+        row = λ d l. set-at d (omega arith) (z .before d l);
+        next = flip-clear (entryOf bits (j + n)) (low (j + n)) (λ e. taken (entry-clear bits j n ∙ rw (bits-inside (j + n) room) e));
+      }
+    where
+      clear-lt : clear < 2 ^ 64
+      clear-lt = omega (arith, shr-le (bitXor bits BITS) (2 * j), xor-lt 64 bits BITS small (lit< tt))
+
+      inside : entryOf clear n ≢ 0 → j + n < 32
+      inside taken = go (decLt (j + n) 32)
+        where
+          go : Dec (j + n < 32) → j + n < 32
+          go (yes l) = l
+          go (no l) = absurd (taken (entry-clear bits j n ∙ rw (outside (j + n) (omega arith), bits-outside (j + n) (omega arith))))
+
+-- where a row of n + 1 bits starts, the whole row is longer than n
+pub whole-longer : (bits n j count : ℕ) → Row bits (n + 1) j → WholeRow bits j count → n < count
+whole-longer bits n j count row whole = go (decLt n count)
+  where
+    go : Dec (n < count) → n < count
+    go (yes l) = l
+    go (no l) = absurd (whole .next (row count (omega arith)))

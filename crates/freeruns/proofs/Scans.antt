@@ -17,7 +17,7 @@ use Rattle.rules.proofs.Tables.{run-shorter}
 use Rattle.freeruns.specs.Rows.{Holds, Picks, Zeros, Row, LongestRow}
 use Rattle.freeruns.specs.Scans.{Scanned}
 use Rattle.freeruns.proofs.Pieces.{getD-inside}
-use Rattle.freeruns.proofs.Rows.{entry-zero, all-zero, picks-set, picks-clear, picks-free}
+use Rattle.freeruns.proofs.Rows.{entry-zero, first-lt, picks-set, picks-clear}
 
 -- ---- runs, read with HEADs past the end of the table
 
@@ -95,11 +95,7 @@ module _ (es : List ℕ) (p b used : ℕ) (holds : Holds es p b) (picks : Picks 
     module _ (some : used ≢ 0) (small : used < 2 ^ 64) (front back best : ℕ) (at-front : Zeros (λ (j : ℕ). entryOf used j) front)
         (at-back : Zeros (λ (j : ℕ). entryOf used (31 - j)) back) where
       front-lt : front < 32
-      front-lt = go (decLt front 32)
-        where
-          go : Dec (front < 32) → front < 32
-          go (yes l) = l
-          go (no l) = absurd (some (all-zero 32 used small (λ j m. at-front .before j (omega arith))))
+      front-lt = first-lt 32 used front small some at-front
 
       back-lt : back < 32
       back-lt = go (decLt back 32)

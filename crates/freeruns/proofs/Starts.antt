@@ -2,7 +2,6 @@
 -- FREE entries of each byte, and bits that are all clear leave no place for a run's first blocks.
 -- Assumes nothing.
 use mathlib.Core.Path.{_≡_, ap, _∙_}
-use mathlib.Core.Logic.{_≢_}
 use mathlib.Core.Bool.{Bool, true, false, not}
 use mathlib.Core.List.{List}
 use Prim.Native.Nat.{ℕ, zero, suc, _+_, _-_, _*_, _/_, _%_, _^_, _≤_, _<_}
@@ -19,9 +18,8 @@ use Rattle.rules.specs.Meaning.{Run}
 use Rattle.rules.proofs.Below.{allBelow, below}
 use Rattle.rules.proofs.Lists.{one}
 use Rattle.rules.proofs.Entries.{getD-entriesOf}
-use Rattle.freeruns.specs.Rows.{Zeros}
 use Rattle.freeruns.specs.Starts.{NoStart, MayStart}
-use Rattle.freeruns.proofs.Rows.{entry-zero, all-zero}
+use Rattle.freeruns.proofs.Rows.{entry-zero}
 
 -- the FREE entries of the byte b, a bit for each: 1, 4, 16 and 64
 abbrev pub freeBits : ℕ → ℕ
@@ -170,14 +168,6 @@ none-before es b i r n h may none q l m run =
 -- nor in all of it, if there is no bit at all
 pub none-at-all : (es : List ℕ) (b i r : ℕ) → MayStart es b i r → r ≡ 0 → NoStart es b (4 * i) (4 * i + 4)
 none-at-all es b i r may z = none-before es b i r 4 (omega arith) may (λ j l. rw z (entry-zero j))
-
--- the first bit of a byte is in one of its four entries
-pub first-lt : (r n : ℕ) → r < 256 → r ≢ 0 → Zeros (λ (j : ℕ). entryOf r j) n → n < 4
-first-lt r n small some z = go (decLt n 4)
-  where
-    go : Dec (n < 4) → n < 4
-    go (yes l) = l
-    go (no l) = absurd (some (all-zero 4 r small (λ j m. z .before j (omega arith))))
 
 -- no start in two parts that join is no start in both
 pub no-start-join : (es : List ℕ) (b s m e : ℕ) → NoStart es b s m → NoStart es b m e → NoStart es b s e

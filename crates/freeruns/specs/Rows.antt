@@ -37,6 +37,11 @@ pub record RowStarts (bits count r : ℕ) : Type 0 where
   pub set : (j : ℕ) → Row bits count j → entryOf r j ≡ 1
   pub only : (j : ℕ) → entryOf r j ≢ 0 → Row bits count j
 
+-- the whole row from entry j on: its count bits are set, and the next is not
+pub record WholeRow (bits j count : ℕ) : Type 0 where
+  pub row : Row bits count j
+  pub next : entryOf bits (j + count) ≢ 1
+
 -- r is the length of the longest row, or n if no row is longer than n
 pub record LongestRow (bits n r : ℕ) : Type 0 where
   pub least : n ≤ r

@@ -6,7 +6,7 @@ ghost use lib.ListN.{length};
 ghost use Rattle.rules.specs.Entries.{entryOf, entriesOf};
 ghost use Rattle.rules.specs.Tables.{isUsed, longest as longestOf};
 ghost use Rattle.rules.specs.Tests.{pick};
-ghost use Rattle.freeruns.specs.Rows.{Holds, LowerBits, Picks, Zeros, RowStarts, LongestRow};
+ghost use Rattle.freeruns.specs.Rows.{Holds, LowerBits, Picks, Zeros, RowStarts, WholeRow, LongestRow};
 ghost use Rattle.freeruns.specs.Scans.{ReadOn};
 ghost use Rattle.freeruns.specs.Starts.{NoStart, MayStart};
 use memory::Block;
@@ -135,6 +135,18 @@ fn row_starts(bits: u64, count: usize) -> u64
     starts & (starts >> (2 * (count - length)))
 }
 
+// How many bits are set from entry j on, up to the first that is not.
+fn row_from(bits: u64, j: usize) -> usize
+    requires { ⌜ LowerBits bits × (j < 32) ⌝ }
+    ensures { λ r. ⌜ WholeRow bits j r ⌝ }
+{
+    let clear = (bits ^ BITS) >> (2 * j);
+    if clear == 0 {
+        return 32 - j;
+    }
+    first(clear)
+}
+
 // The length of the longest row of bits, or n if none is longer.
 fn longest_row(bits: u64, n: usize) -> usize
     requires { ⌜ LowerBits bits ⌝ }
@@ -142,10 +154,11 @@ fn longest_row(bits: u64, n: usize) -> usize
 {
     let mut best = n;
     while best < 32 {
-        if row_starts(bits, best + 1) == 0 {
+        let starts = row_starts(bits, best + 1);
+        if starts == 0 {
             return best;
         }
-        best += 1;
+        best = row_from(bits, first(starts));
     }
     best
 }

@@ -1,4 +1,4 @@
--- `longest_row`: as long as a row of one bit more starts somewhere, there is a row of one bit more.
+-- `longest_row`: as long as a row of one bit more starts somewhere, the whole row there is the next length.
 -- Assumes nothing.
 use mathlib.Core.Path.{_≡_, refl}
 use mathlib.Core.Logic.{_⊎_, inl, inr}
@@ -6,7 +6,7 @@ use Prim.Native.Nat.{ℕ, _+_, _-_, _≤_, _<_}
 use native.Mathlib.Omega.{arith}
 use borrow.Author.Needs.{needs}
 use Rattle.freeruns.specs.Rows.{Row}
-use Rattle.freeruns.proofs.Rows.{some-entry, none-longer}
+use Rattle.freeruns.proofs.Rows.{first-lt, none-longer, whole-longer}
 use Rattle.freeruns.proofs.longest_row.Statement.{statement}
 use Rattle.freeruns.proofs.longest_row.Tie as tie
 
@@ -34,17 +34,28 @@ returns c =
       most = λ count j few row. none-longer (c .before .before .before .before .args .bits) (l .best) (c .before .row-starts .result) (c .before .row-starts .ensures) (c .if1 .taken) count j row;
     }
 
-add-best : tie.Need-add-best Inv-loop μ-loop
-add-best c = search needs
+first-requires : tie.Need-first-requires Inv-loop μ-loop
+first-requires c κs = search needs
+
+-- the first start is one of the 32 entries
+start-lt : (c : tie.After-first Inv-loop μ-loop) → c .first .result < 32
+start-lt c = first-lt 32 (c .before .before .row-starts .result) (c .first .result) (omega arith) (c .before .if1 .left) (c .first .ensures)
+
+row-from-requires : tie.Need-row-from-requires Inv-loop μ-loop
+row-from-requires c κs = (c .before .before .before .before .before .pre, start-lt c)
+
+-- the whole row there is longer than the best before
+longer : (c : tie.After-row-from Inv-loop μ-loop) → c .before .before .before .before .before .loop .best < c .row-from .result
+longer c =
+    let starts = c .before .before .before .row-starts in
+    let some = c .before .first .ensures .next (start-lt (c .before)) in
+    whole-longer (c .before .before .before .before .before .before .args .bits) _ (c .before .first .result) (c .row-from .result) (starts .ensures .only (c .before .first .result) some) (c .row-from .ensures)
 
 loop-less : tie.Need-loop-less Inv-loop μ-loop
-loop-less c = search needs
+loop-less c = omega (arith, longer c)
 
 loop-again : tie.Need-loop-again Inv-loop μ-loop
-loop-again c =
-    let starts = c .before .row-starts in
-    let one = some-entry (starts .result) (omega arith) (c .if1 .left) in
-    (omega arith, inr (one .0, starts .ensures .only (one .0) (one .1)))
+loop-again c = (omega (arith, longer c), inr (c .before .first .result, c .row-from .ensures .row))
 
 returns-2 : tie.Need-returns-2 Inv-loop μ-loop
 returns-2 c =
@@ -61,7 +72,8 @@ longest-row-spec =
     add-row-starts
     row-starts-requires
     returns
-    add-best
+    first-requires
+    row-from-requires
     loop-less
     loop-again
     returns-2)

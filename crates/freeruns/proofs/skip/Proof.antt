@@ -10,7 +10,8 @@ use borrow.Author.Needs.{needs}
 use Rattle.rules.specs.Entries.{entriesOf}
 use Rattle.rules.proofs.Entries.{length-entriesOf}
 use Rattle.freeruns.specs.Starts.{NoStart}
-use Rattle.freeruns.proofs.Starts.{no-start-join, none-before, none-at-all, first-lt}
+use Rattle.freeruns.proofs.Rows.{first-lt}
+use Rattle.freeruns.proofs.Starts.{no-start-join, none-before, none-at-all}
 use Rattle.freeruns.proofs.skip.Statement.{statement}
 use Rattle.freeruns.proofs.skip.Tie as tie
 
@@ -85,7 +86,7 @@ first-requires-2 c κs = search needs
 first-of-byte : (c : tie.After-first2 Inv-loop μ-loop) → c .first2 .result < 4
 first-of-byte c =
     let starts = c .before .before .before .may-start2 .result in
-    first-lt starts (c .first2 .result) (omega arith) (c .before .before .if4 .taken) (c .first2 .ensures)
+    first-lt 4 starts (c .first2 .result) (omega arith) (c .before .before .if4 .taken) (c .first2 .ensures)
 
 add-plus : tie.Need-add-plus Inv-loop μ-loop
 add-plus c = omega (arith, first-of-byte c)
