@@ -89,17 +89,20 @@ static void fill(void)
         must(blockheap_allocate(HEAP, 1 + random_below(48), &live[at], &change));
 }
 
-/* An object in every 31st block: of many patterns tried, the one whose survey takes the library longest. */
-static void fill_every_31st(void)
+/* An object in each block but for one hole in every 32 blocks, longer by a block each time as long as there is
+ * room for it: of many patterns tried, the one whose survey takes the library longest. */
+static void fill_with_rising_holes(void)
 {
     uint32_t object;
     int32_t change;
     must(blockheap_init(HEAP));
     for (size_t block = 0; block < blocks; block++)
         must(blockheap_allocate(HEAP, 1, &object, &change));
-    for (size_t block = 0; block < blocks; block++)
-        if (block % 31)
+    for (size_t block = 0; block < blocks; block++) {
+        size_t place = block % 32, hole = 1 + block / 32;
+        if (place >= 1 && place <= hole && place <= 30)
             must(blockheap_free(HEAP, block, &change));
+    }
 }
 
 static void churn(void)
@@ -190,7 +193,7 @@ static const struct work {
     {"reallocate", "give a random object of such a heap a new size of 1 to 48 bytes", fill, reallocate},
     {"load and store", "read a word of a random object of such a heap, and write it", fill, load_and_store},
     {"survey", "count used blocks, objects and the longest free run of such a heap", fill, survey},
-    {"survey, holes of 30 blocks", "the same with an object in every 31st block, the worst case known", fill_every_31st, survey},
+    {"survey, rising holes", "the same of the worst heap known", fill_with_rising_holes, survey},
     {"collect, nothing reachable", "an object in each block and no roots: all are freed", only_heads, collect},
     {"collect, a chain", "each object leads to the next: all are kept", chain, collect},
     {"collect, a binary tree", "each object leads to two others: all are kept", tree, collect},

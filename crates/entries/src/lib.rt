@@ -1,4 +1,5 @@
-// The allocation table: two bits for each block, four blocks to a byte. Only this crate knows how entries lie in bytes.
+// The allocation table: two bits for each block, four blocks to a byte. Only this crate and `freeruns` know how entries lie
+// in bytes.
 ghost use mathlib.Core.Path.{_≡_};
 ghost use Prim.Native.Nat.{_+_, _*_, _≤_, _<_};
 ghost use lib.ListN.{length, set, replicate};

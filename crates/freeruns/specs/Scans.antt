@@ -18,7 +18,7 @@ pub record Scanned (es : List ℕ) (p longest ending : ℕ) : Type 0 where
   -- no run that starts before them is longer
   pub most : (b s : ℕ) → s + ending < p → Run es b s → b ≤ longest
 
--- whatever table was read as far as the 32 entries of b: with longest and ending before, it is read as far as behind them with the others
+-- in every table that has the 32 entries of b at block p: what is known there of the first two numbers is known behind them of the others
 abbrev pub ReadOn : ℕ → ℕ → ℕ → ℕ → ℕ → Type 0
 ReadOn b longest ending longest′ ending′ =
     (es : List ℕ) (p : ℕ) → Holds es p b → Scanned es p longest ending → Scanned es (p + 32) longest′ ending′

@@ -1,4 +1,5 @@
-// Runs of FREE blocks: where the next may start, up to sixteen bytes at a time, and how long the longest is, 32 entries at a time.
+// Runs of FREE blocks: where the next may start, up to sixteen bytes at a time, and how long the longest is, 32 entries at a time. Beside
+// `entries` only this crate knows how entries lie in bytes.
 ghost use mathlib.Core.Path.{_≡_};
 ghost use Prim.Native.Nat.{ℕ, _+_, _-_, _*_, _^_, _≤_, _<_};
 ghost use lib.Dec.{ltb};
@@ -169,7 +170,8 @@ struct Scan {
     ending: usize,
 }
 
-// The same when the 32 entries of b are read too.
+// The same when the 32 entries of b are read too. The run at the end goes on as far as their first that is used, and another begins behind
+// their last one.
 fn read_on(before: Scan, b: u64) -> Scan
     requires { ⌜ before .ending ≤ 4096 ⌝ }
     ensures { λ r. ⌜ ReadOn b (before .longest) (before .ending) (r .longest) (r .ending) ⌝ }
@@ -192,7 +194,7 @@ fn read_on(before: Scan, b: u64) -> Scan
     }
 }
 
-// The 32 entries from byte 8 i on.
+// The 32 entries from byte 8 * i on.
 fn entries_at(table: &[u8], i: usize) -> u64
     requires { ⌜ 8 * i + 8 ≤ length (now table) ⌝ }
     ensures { λ r. ⌜ Holds (entriesOf (now (table .entry))) (32 * i) r ⌝ }
@@ -200,9 +202,9 @@ fn entries_at(table: &[u8], i: usize) -> u64
     memory::word(table, 2 * i) as u64 + 4294967296 * (memory::word(table, 2 * i + 1) as u64)
 }
 
-// The entries from byte i on, which are fewer than 32, and HEADs after them.
+// The same from byte i on, where fewer may be left: past the end of the table there are HEADs.
 fn last_entries(table: &[u8], i: usize) -> u64
-    requires { ⌜ (i ≤ length (now table)) × (length (now table) ≤ i + 7) ⌝ }
+    requires { ⌜ i ≤ length (now table) ⌝ }
     ensures { λ r. ⌜ Holds (entriesOf (now (table .entry))) (4 * i) r ⌝ }
 {
     let mut b = BITS;
@@ -214,7 +216,7 @@ fn last_entries(table: &[u8], i: usize) -> u64
     b
 }
 
-// The longest run of FREE blocks.
+// The longest run of FREE blocks. The HEADs past the end close the last one.
 pub fn longest(table: &[u8]) -> usize
     requires { ⌜ length (now table) ≤ 1024 ⌝ }
     ensures { λ r. ⌜ r ≡ longestOf (entriesOf (now (table .entry))) ⌝ }
