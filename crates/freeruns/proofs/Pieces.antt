@@ -12,9 +12,9 @@ use Rattle.rules.specs.Words.{number, wordAt}
 use Rattle.rules.specs.Entries.{HEAD, entryOf, entriesOf}
 use Rattle.rules.specs.Tables.{entryAt}
 use Rattle.rules.specs.Meaning.{AllBytes}
-use Rattle.rules.proofs.Entries.{four, getD-entriesOf, length-entriesOf}
+use Rattle.rules.proofs.Entries.{four, four-pow, entryOf-suc, getD-entriesOf, length-entriesOf}
 use Rattle.freeruns.specs.Rows.{Holds}
-use Rattle.freeruns.proofs.Rows.{BITS, four-pow, entry-suc, bits-inside}
+use Rattle.freeruns.proofs.Rows.{BITS, bits-inside}
 
 -- inside a list the default does not matter
 pub getD-inside : (es : List ℕ) (k d : ℕ) → k < length es → getD es k d ≡ entryAt es k
@@ -31,7 +31,7 @@ entry-high : (x y j : ℕ) → x < 256 → 4 ≤ j → entryOf (x + 256 * y) j �
 entry-high x y j hx hj =
     let e : j ≡ suc (suc (suc (suc (j - 4)))) = omega arith in
     let d : (x + 256 * y) / 4 / 4 / 4 / 4 ≡ y = omega arith in
-    ap-entry e ∙ rw (entry-suc (x + 256 * y) (suc (suc (suc (j - 4)))), entry-suc ((x + 256 * y) / 4) (suc (suc (j - 4))), entry-suc ((x + 256 * y) / 4 / 4) (suc (j - 4)), entry-suc ((x + 256 * y) / 4 / 4 / 4) (j - 4), d)
+    ap-entry e ∙ rw (entryOf-suc (x + 256 * y) (suc (suc (suc (j - 4)))), entryOf-suc ((x + 256 * y) / 4) (suc (suc (j - 4))), entryOf-suc ((x + 256 * y) / 4 / 4) (suc (j - 4)), entryOf-suc ((x + 256 * y) / 4 / 4 / 4) (j - 4), d)
   where
     ap-entry : {i k : ℕ} → i ≡ k → entryOf (x + 256 * y) i ≡ entryOf (x + 256 * y) k
     ap-entry e = rw e

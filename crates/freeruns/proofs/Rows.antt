@@ -1,80 +1,22 @@
--- Entries of a number: what and, or, xor and shifts make of each, the zeros at both ends, and rows of bits.
+-- 32 entries in a number: the zeros at both ends, the bits of those that pass a test, and rows of bits.
 -- Assumes nothing.
 use mathlib.Core.Path.{_≡_, refl, sym, ap, _∙_}
 use mathlib.Core.Logic.{_≢_}
 use mathlib.Core.Bool.{Bool, true, false, not}
 use Prim.Native.Nat.{ℕ, zero, suc, _+_, _-_, _*_, _/_, _%_, _^_, _≤_, _<_}
-use native.Mathlib.Nat.{le-trans, lt-of-lt-of-le, mul-comm, pow-suc, pow-succ', one-le-pow, div-div-eq-div-mul, zero-div, div-eq-of-lt, le-div-iff-mul-le, div-lt-iff-lt-mul}
+use native.Mathlib.Nat.{le-trans, lt-of-lt-of-le, mul-comm, div-div-eq-div-mul}
 use native.Mathlib.Decide.{ℕ-discrete, decLt}
 use native.Mathlib.Omega.{arith}
 use lib.Dec.{T, eqb, eqb→eq, lit<}
-use lib.Bits.{bitAnd, bitOr, bitXor, and-shr, or-shr, xor-shr, and-le-l, and-le-r, and-zero-r, xor-lt, and-mod, or-mod, xor-mod}
+use lib.Bits.{bitAnd, bitOr, bitXor, and-le-l, and-le-r, and-zero-r, xor-lt}
 use lib.Count.{trailingZeros, leadingZeros, leading-of-zero, leading-top}
-use lib.Pow.{pow-add, pow-mono, shr-le}
+use lib.Pow.{pow-mono, shr-le}
 use Rattle.rules.specs.Tests.{pick}
 use Rattle.rules.specs.Entries.{entryOf}
 use Rattle.rules.specs.Tables.{isFree, isUsed}
 use Rattle.rules.proofs.Below.{allBelow, below}
+use Rattle.rules.proofs.Entries.{four-pow, entryOf-and, entryOf-or, entryOf-xor, entryOf-shr, entryOf-suc, entryOf-zero, entryOf-above, entryOf-top, entries-zero}
 use Rattle.freeruns.specs.Rows.{LowerBits, Picks, Zeros, Row, RowStarts, WholeRow}
-
--- ---- one entry
-
-pub four-pow : (j : ℕ) → 4 ^ j ≡ 2 ^ (2 * j)
-four-pow zero = refl
-four-pow (suc j) =
-    let e : 2 * suc j ≡ suc (suc (2 * j)) = omega arith in
-    rw (e, pow-suc 4 j, pow-suc 2 (suc (2 * j)), pow-suc 2 (2 * j), four-pow j) (omega arith)
-
-pow-pos : (j : ℕ) → 0 < 4 ^ j
-pow-pos j = one-le-pow j 4 (omega arith)
-
-pub entry-and : (a b j : ℕ) → entryOf (bitAnd a b) j ≡ bitAnd (entryOf a j) (entryOf b j)
-unfolding entryOf
-entry-and a b j = rw (four-pow j, and-shr a b (2 * j)) (and-mod (a / 2 ^ (2 * j)) (b / 2 ^ (2 * j)) 2)
-
-pub entry-or : (a b j : ℕ) → entryOf (bitOr a b) j ≡ bitOr (entryOf a j) (entryOf b j)
-unfolding entryOf
-entry-or a b j = rw (four-pow j, or-shr a b (2 * j)) (or-mod (a / 2 ^ (2 * j)) (b / 2 ^ (2 * j)) 2)
-
-pub entry-xor : (a b j : ℕ) → entryOf (bitXor a b) j ≡ bitXor (entryOf a j) (entryOf b j)
-unfolding entryOf
-entry-xor a b j = rw (four-pow j, xor-shr a b (2 * j)) (xor-mod (a / 2 ^ (2 * j)) (b / 2 ^ (2 * j)) 2)
-
--- a shift by s entries
-pub entry-shr : (a s j : ℕ) → entryOf (a / 2 ^ (2 * s)) j ≡ entryOf a (s + j)
-unfolding entryOf
-entry-shr a s j = rw (← four-pow s, div-div-eq-div-mul a (4 ^ s) (4 ^ j), pow-add 4 s j)
-
--- the entries above the first
-pub entry-suc : (a j : ℕ) → entryOf a (suc j) ≡ entryOf (a / 4) j
-unfolding entryOf
-entry-suc a j = rw (pow-succ' 4 j, div-div-eq-div-mul a 4 (4 ^ j))
-
-pub entry-zero : (j : ℕ) → entryOf 0 j ≡ 0
-unfolding entryOf
-entry-zero j = rw (zero-div (4 ^ j))
-
--- above a number's digits each entry is 0
-entry-none : (a j : ℕ) → a < 4 ^ j → entryOf a j ≡ 0
-unfolding entryOf
-entry-none a j h = rw (div-eq-of-lt h)
-
--- the entry of its highest set digit is not
-entry-top : (a j : ℕ) → 4 ^ j ≤ a → a < 4 ^ suc j → entryOf a j ≢ 0
-unfolding entryOf
-entry-top a j l h z =
-    let some : 1 ≤ a / 4 ^ j = le-div-iff-mul-le (pow-pos j) .1 (omega (arith, l)) in
-    let few : a / 4 ^ j < 4 = div-lt-iff-lt-mul (pow-pos j) .1 (rw (pow-succ' 4 j) at h) in
-    omega (arith, some, few, z)
-
--- a number with no entry but 0 is 0
-pub all-zero : (k a : ℕ) → a < 4 ^ k → ((j : ℕ) → j < k → entryOf a j ≡ 0) → a ≡ 0
-unfolding entryOf
-all-zero zero a h z = omega arith
-all-zero (suc k) a h z =
-    let l : a < 4 ^ k * 4 = rw (pow-suc 4 k) at h in
-    let up = all-zero k (a / 4) (omega arith) (λ j m. rw (← entry-suc a j) (z (suc j) (omega arith))) in
-    omega (arith, z 0 (omega arith))
 
 -- ---- the zeros at both ends of a number of 64 digits
 
@@ -109,8 +51,8 @@ trailing (suc k) a =
         let e : suc (suc t) / 2 ≡ suc (t / 2) = omega arith in
         rw (half, e) record {
           few = omega (arith, r .few);
-          before = λ j l. go-before (t / 2) (λ i m. rw (entry-suc a i) (r .before i m)) (omega arith) j l;
-          next = λ l. rw (entry-suc a (t / 2)) (r .next (omega arith));
+          before = λ j l. go-before (t / 2) (λ i m. rw (entryOf-suc a i) (r .before i m)) (omega arith) j l;
+          next = λ l. rw (entryOf-suc a (t / 2)) (r .next (omega arith));
         }
       where
         go-before : (n : ℕ) → ((i : ℕ) → i < n → entryOf a (suc i) ≡ 0) → a % 4 ≡ 0 → (j : ℕ) → j < suc n → entryOf a j ≡ 0
@@ -124,7 +66,7 @@ pub zeros-above : (a : ℕ) → a < 2 ^ 64 → Zeros (λ (j : ℕ). entryOf a (3
 zeros-above a h = go (ℕ-discrete a 0)
   where
     go : Dec (a ≡ 0) → Zeros (λ (j : ℕ). entryOf a (31 - j)) (leadingZeros 64 a / 2)
-    go (yes z) = rw (z, leading-of-zero 64) record { few = omega arith; before = λ j l. entry-zero (31 - j); next = λ l. absurd (omega arith) }
+    go (yes z) = rw (z, leading-of-zero 64) record { few = omega arith; before = λ j l. entryOf-zero (31 - j); next = λ l. absurd (omega arith) }
     go (no some) =
         let top = leading-top 64 a (omega arith) h in
         let n : ℕ = leadingZeros 64 a / 2 in
@@ -132,8 +74,8 @@ zeros-above a h = go (ℕ-discrete a 0)
         let reach : (i : ℕ) → suc (top .0) ≤ 2 * i → a < 4 ^ i = λ i m. rw (four-pow i) (lt-of-lt-of-le (top .3) (pow-mono m)) in
         record {
           few = omega (arith, top .1);
-          before = λ j l. entry-none a (31 - j) (reach (31 - j) (omega (arith, top .1)));
-          next = λ l. entry-top a t (rw (four-pow t) (le-trans (pow-mono (omega (arith, top .1))) (top .2))) (reach (suc t) (omega (arith, top .1)));
+          before = λ j l. entryOf-above a (31 - j) (reach (31 - j) (omega (arith, top .1)));
+          next = λ l. entryOf-top a t (rw (four-pow t) (le-trans (pow-mono (omega (arith, top .1))) (top .2))) (reach (suc t) (omega (arith, top .1)));
         }
 
 -- the first bit of a number of k entries is in one of them
@@ -142,7 +84,7 @@ first-lt k a n h some z = go (decLt n k)
   where
     go : Dec (n < k) → n < k
     go (yes l) = l
-    go (no l) = absurd (some (all-zero k a h (λ j m. z .before j (omega arith))))
+    go (no l) = absurd (some (entries-zero k a h (λ j m. z .before j (omega arith))))
 
 -- ---- rows of bits
 
@@ -161,7 +103,7 @@ row-join bits n s x h r = record {
 }
   where
     entry-joined : (j : ℕ) → entryOf (bitAnd x (x / 2 ^ (2 * s))) j ≡ bitAnd (entryOf x j) (entryOf x (s + j))
-    entry-joined j = entry-and x (x / 2 ^ (2 * s)) j ∙ rw (entry-shr x s j)
+    entry-joined j = entryOf-and x (x / 2 ^ (2 * s)) j ∙ rw (entryOf-shr x s j)
 
     go : (j : ℕ) → entryOf (bitAnd x (x / 2 ^ (2 * s))) j ≢ 0 → (d : ℕ) → d < n + s → Dec (d < n) → entryOf bits (j + d) ≡ 1
     go j some d l (yes m) = r .only j (λ z. some (omega (arith, entry-joined j, and-le-l (entryOf x j) (entryOf x (s + j)), z))) d m
@@ -176,7 +118,7 @@ none-longer bits n r starts z count j row = go (decLt n count)
     go : Dec (n < count) → count ≤ n
     go (yes l) =
         let e : entryOf 0 j ≡ 1 = rw z at (starts .set j (λ d m. row d (omega arith))) in
-        absurd (omega (arith, e, entry-zero j))
+        absurd (omega (arith, e, entryOf-zero j))
     go (no l) = omega arith
 
 -- ---- the bits of the entries that pass a test
@@ -192,7 +134,7 @@ pub bits-inside : (j : ℕ) → j < 32 → entryOf BITS j ≡ 1
 bits-inside j h = eqb→eq (entryOf BITS j) 1 (below 32 (λ (j : ℕ). eqb (entryOf BITS j) 1) bits-right j h)
 
 bits-outside : (j : ℕ) → 32 ≤ j → entryOf BITS j ≡ 0
-bits-outside j h = entry-none BITS j (rw (four-pow j) (lt-of-lt-of-le (lit< {m = BITS} {n = 2 ^ 64} tt) (pow-mono {i = 64} (omega arith))))
+bits-outside j h = entryOf-above BITS j (rw (four-pow j) (lt-of-lt-of-le (lit< {m = BITS} {n = 2 ^ 64} tt) (pow-mono {i = 64} (omega arith))))
 
 -- an entry's two bits combined, computed for the entry and the lower bit of the next
 combined : ℕ → Bool
@@ -216,15 +158,15 @@ entry-half a j = ap (λ (x : ℕ). x % 4) (div-div-eq-div-mul a 2 (4 ^ j) ∙ ap
 pub picks-used : (b : ℕ) → Picks isUsed b (bitAnd (bitOr b (b / 2)) BITS)
 unfolding entryOf
 picks-used b = record {
-  inside = λ j l. entry-and (bitOr b (b / 2)) BITS j ∙ rw (bits-inside j l, entry-or b (b / 2) j, entry-half b j) (combine (b / 4 ^ j));
-  outside = λ j l. entry-and (bitOr b (b / 2)) BITS j ∙ rw (bits-outside j l) (and-zero-r (entryOf (bitOr b (b / 2)) j));
+  inside = λ j l. entryOf-and (bitOr b (b / 2)) BITS j ∙ rw (bits-inside j l, entryOf-or b (b / 2) j, entry-half b j) (combine (b / 4 ^ j));
+  outside = λ j l. entryOf-and (bitOr b (b / 2)) BITS j ∙ rw (bits-outside j l) (and-zero-r (entryOf (bitOr b (b / 2)) j));
 }
 
 -- the bits of all others
 pub picks-free : (b u : ℕ) → Picks isUsed b u → Picks isFree b (bitXor u BITS)
 picks-free b u p = record {
-  inside = λ j l. entry-xor u BITS j ∙ rw (bits-inside j l, p .inside j l) (flip (isFree (entryOf b j)));
-  outside = λ j l. entry-xor u BITS j ∙ rw (bits-outside j l, p .outside j l);
+  inside = λ j l. entryOf-xor u BITS j ∙ rw (bits-inside j l, p .inside j l) (flip (isFree (entryOf b j)));
+  outside = λ j l. entryOf-xor u BITS j ∙ rw (bits-outside j l, p .outside j l);
 }
   where
     flip : (f : Bool) → bitXor (pick (not f) 1 0) 1 ≡ pick f 1 0
@@ -265,7 +207,7 @@ picks-clear test b r j p l z = go (test (entryOf b j)) (sym (p .inside j l) ∙ 
 
 -- the entries that are not set, from entry j on
 entry-clear : (bits j d : ℕ) → entryOf (bitXor bits BITS / 2 ^ (2 * j)) d ≡ bitXor (entryOf bits (j + d)) (entryOf BITS (j + d))
-entry-clear bits j d = entry-shr (bitXor bits BITS) j d ∙ entry-xor bits BITS (j + d)
+entry-clear bits j d = entryOf-shr (bitXor bits BITS) j d ∙ entryOf-xor bits BITS (j + d)
 
 -- where an entry has its lower bit at most, it is set exactly if its bit is no longer set behind the xor
 flip-set : (e : ℕ) → e < 2 → bitXor e 1 ≡ 0 → e ≡ 1
@@ -283,7 +225,7 @@ module _ (bits j : ℕ) (low : LowerBits bits) (small : bits < 2 ^ 64) (few : j 
   clear = bitXor bits BITS / 2 ^ (2 * j)
 
   outside : (k : ℕ) → 32 ≤ k → entryOf bits k ≡ 0
-  outside k h = entry-none bits k (rw (four-pow k) (lt-of-lt-of-le small (pow-mono {i = 64} (omega arith))))
+  outside k h = entryOf-above bits k (rw (four-pow k) (lt-of-lt-of-le small (pow-mono {i = 64} (omega arith))))
 
   set-at : (d : ℕ) → j + d < 32 → entryOf clear d ≡ 0 → entryOf bits (j + d) ≡ 1
   set-at d h z = flip-set (entryOf bits (j + d)) (low (j + d)) (rw (bits-inside (j + d) h) at (sym (entry-clear bits j d) ∙ z))
@@ -291,7 +233,7 @@ module _ (bits j : ℕ) (low : LowerBits bits) (small : bits < 2 ^ 64) (few : j 
   -- none is clear
   pub to-the-end : clear ≡ 0 → WholeRow bits j (32 - j)
   to-the-end z = record {
-    row = λ d l. set-at d (omega arith) (rw z (entry-zero d));
+    row = λ d l. set-at d (omega arith) (rw z (entryOf-zero d));
     next = λ e. omega (arith, e, outside (j + (32 - j)) (omega arith));
   }
 

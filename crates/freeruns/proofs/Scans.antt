@@ -12,12 +12,13 @@ use borrow.Author.Tests.{eqb-true, eq-eqb, not-true, not-false}
 use Rattle.rules.specs.Entries.{FREE, HEAD, entryOf}
 use Rattle.rules.specs.Tables.{entryAt, isFree, isUsed}
 use Rattle.rules.specs.Meaning.{Run, Longest}
+use Rattle.rules.proofs.Entries.{entryOf-zero}
 use Rattle.rules.proofs.Lists.{one}
 use Rattle.rules.proofs.Tables.{run-shorter}
 use Rattle.freeruns.specs.Rows.{Holds, Picks, Zeros, Row, LongestRow}
 use Rattle.freeruns.specs.Scans.{Scanned}
 use Rattle.freeruns.proofs.Pieces.{getD-inside}
-use Rattle.freeruns.proofs.Rows.{entry-zero, first-lt, picks-set, picks-clear}
+use Rattle.freeruns.proofs.Rows.{first-lt, picks-set, picks-clear}
 
 -- ---- runs, read with HEADs past the end of the table
 
@@ -89,7 +90,7 @@ module _ (es : List ℕ) (p b used : ℕ) (holds : Holds es p b) (picks : Picks 
       where
         go : (k : ℕ) → p + 32 ≤ k + (ending + 32) → k < p + 32 → Dec (k < p) → getD es k HEAD ≡ FREE
         go k h l (yes m) = known .free k (omega arith) m
-        go k h l (no m) = free-at k (omega arith) l (rw z (entry-zero (k - p)))
+        go k h l (no m) = free-at k (omega arith) l (rw z (entryOf-zero (k - p)))
 
     -- some are not: the run at the end stops at the first of these, and a new one starts behind the last
     module _ (some : used ≢ 0) (small : used < 2 ^ 64) (front back best : ℕ) (at-front : Zeros (λ (j : ℕ). entryOf used j) front)

@@ -17,9 +17,8 @@ use Rattle.rules.specs.Tables.{entryAt, isFree}
 use Rattle.rules.specs.Meaning.{Run}
 use Rattle.rules.proofs.Below.{allBelow, below}
 use Rattle.rules.proofs.Lists.{one}
-use Rattle.rules.proofs.Entries.{getD-entriesOf}
+use Rattle.rules.proofs.Entries.{entryOf-zero, getD-entriesOf}
 use Rattle.freeruns.specs.Starts.{NoStart, MayStart}
-use Rattle.freeruns.proofs.Rows.{entry-zero}
 
 -- the FREE entries of the byte b, a bit for each: 1, 4, 16 and 64
 abbrev pub freeBits : ℕ → ℕ
@@ -167,7 +166,7 @@ none-before es b i r n h may none q l m run =
 
 -- nor in all of it, if there is no bit at all
 pub none-at-all : (es : List ℕ) (b i r : ℕ) → MayStart es b i r → r ≡ 0 → NoStart es b (4 * i) (4 * i + 4)
-none-at-all es b i r may z = none-before es b i r 4 (omega arith) may (λ j l. rw z (entry-zero j))
+none-at-all es b i r may z = none-before es b i r 4 (omega arith) may (λ j l. rw z (entryOf-zero j))
 
 -- no start in two parts that join is no start in both
 pub no-start-join : (es : List ℕ) (b s m e : ℕ) → NoStart es b s m → NoStart es b m e → NoStart es b s e

@@ -1,13 +1,16 @@
--- Laws of entries and table bytes: what each entry is, that a table and its entries say the same, and what changes with one byte or one entry.
+-- Laws of entries and table bytes: what each entry of a number is, that a table and its entries say the same, and what changes with one byte or one entry.
 -- Assumes nothing.
 use mathlib.Core.Path.{_≡_, refl, sym, ap, _∙_}
 use mathlib.Core.Logic.{_≢_}
 use mathlib.Core.List.{List, [], _∷_}
-use Prim.Native.Nat.{ℕ, zero, suc, _+_, _*_, _/_, _%_, _^_, _<_}
+use Prim.Native.Nat.{ℕ, zero, suc, _+_, _*_, _/_, _%_, _^_, _≤_, _<_}
+use native.Mathlib.Nat.{pow-suc, pow-succ', one-le-pow, div-div-eq-div-mul, zero-div, div-eq-of-lt, le-div-iff-mul-le, div-lt-iff-lt-mul}
 use native.Mathlib.Decide.{ℕ-discrete}
 use native.Mathlib.Omega.{arith}
 use lib.Dec.{eqb, eqb→eq}
+use lib.Bits.{bitAnd, bitOr, bitXor, and-shr, or-shr, xor-shr, and-mod, or-mod, xor-mod}
 use lib.ListN.{length, getD, set, replicate, length-set}
+use lib.Pow.{pow-add}
 use lib.Seq.{sets, ext-getD, getD-set-same, getD-set-other}
 use Rattle.rules.specs.Entries.{entryOf, entriesOf, tableOf}
 use Rattle.rules.specs.Meaning.{TableIsEntries}
@@ -21,15 +24,70 @@ four P a b c d (suc (suc zero)) h = c
 four P a b c d (suc (suc (suc zero))) h = d
 four P a b c d (suc (suc (suc (suc j)))) h = absurd (omega arith)
 
+-- ---- an entry of any number: what becomes of it
+
+pub four-pow : (j : ℕ) → 4 ^ j ≡ 2 ^ (2 * j)
+four-pow zero = refl
+four-pow (suc j) =
+    let e : 2 * suc j ≡ suc (suc (2 * j)) = omega arith in
+    rw (e, pow-suc 4 j, pow-suc 2 (suc (2 * j)), pow-suc 2 (2 * j), four-pow j) (omega arith)
+
+pow-pos : (j : ℕ) → 0 < 4 ^ j
+pow-pos j = one-le-pow j 4 (omega arith)
+
+pub entryOf-and : (a b j : ℕ) → entryOf (bitAnd a b) j ≡ bitAnd (entryOf a j) (entryOf b j)
+unfolding entryOf
+entryOf-and a b j = rw (four-pow j, and-shr a b (2 * j)) (and-mod (a / 2 ^ (2 * j)) (b / 2 ^ (2 * j)) 2)
+
+pub entryOf-or : (a b j : ℕ) → entryOf (bitOr a b) j ≡ bitOr (entryOf a j) (entryOf b j)
+unfolding entryOf
+entryOf-or a b j = rw (four-pow j, or-shr a b (2 * j)) (or-mod (a / 2 ^ (2 * j)) (b / 2 ^ (2 * j)) 2)
+
+pub entryOf-xor : (a b j : ℕ) → entryOf (bitXor a b) j ≡ bitXor (entryOf a j) (entryOf b j)
+unfolding entryOf
+entryOf-xor a b j = rw (four-pow j, xor-shr a b (2 * j)) (xor-mod (a / 2 ^ (2 * j)) (b / 2 ^ (2 * j)) 2)
+
+-- a shift by s entries
+pub entryOf-shr : (a s j : ℕ) → entryOf (a / 2 ^ (2 * s)) j ≡ entryOf a (s + j)
+unfolding entryOf
+entryOf-shr a s j = rw (← four-pow s, div-div-eq-div-mul a (4 ^ s) (4 ^ j), pow-add 4 s j)
+
+-- the entries above the first
+pub entryOf-suc : (a j : ℕ) → entryOf a (suc j) ≡ entryOf (a / 4) j
+unfolding entryOf
+entryOf-suc a j = rw (pow-succ' 4 j, div-div-eq-div-mul a 4 (4 ^ j))
+
+pub entryOf-zero : (j : ℕ) → entryOf 0 j ≡ 0
+unfolding entryOf
+entryOf-zero j = rw (zero-div (4 ^ j))
+
+-- above a number's digits each entry is 0
+pub entryOf-above : (a j : ℕ) → a < 4 ^ j → entryOf a j ≡ 0
+unfolding entryOf
+entryOf-above a j h = rw (div-eq-of-lt h)
+
+-- the entry of its highest set digit is not
+pub entryOf-top : (a j : ℕ) → 4 ^ j ≤ a → a < 4 ^ suc j → entryOf a j ≢ 0
+unfolding entryOf
+entryOf-top a j l h z =
+    let some : 1 ≤ a / 4 ^ j = le-div-iff-mul-le (pow-pos j) .1 (omega (arith, l)) in
+    let few : a / 4 ^ j < 4 = div-lt-iff-lt-mul (pow-pos j) .1 (rw (pow-succ' 4 j) at h) in
+    omega (arith, some, few, z)
+
+-- a number with no entry but 0 is 0
+pub entries-zero : (k a : ℕ) → a < 4 ^ k → ((j : ℕ) → j < k → entryOf a j ≡ 0) → a ≡ 0
+unfolding entryOf
+entries-zero zero a h z = omega arith
+entries-zero (suc k) a h z =
+    let l : a < 4 ^ k * 4 = rw (pow-suc 4 k) at h in
+    let up = entries-zero k (a / 4) (omega arith) (λ j m. rw (← entryOf-suc a j) (z (suc j) (omega arith))) in
+    omega (arith, z 0 (omega arith))
+
 -- ---- one byte
 
 pub entryOf-lt : (b j : ℕ) → entryOf b j < 4
 unfolding entryOf
 entryOf-lt b j = omega arith
-
-pub entryOf-zero : (j : ℕ) → j < 4 → entryOf 0 j ≡ 0
-unfolding entryOf
-entryOf-zero j h = four (λ (j : ℕ). 0 / 4 ^ j % 4 ≡ 0) refl refl refl refl j h
 
 -- a byte is its four entries
 pub byte-entries : (b : ℕ) → b < 256 → entryOf b 0 + 4 * entryOf b 1 + 16 * entryOf b 2 + 64 * entryOf b 3 ≡ b
@@ -67,7 +125,7 @@ length-entriesOf (b ∷ t) = omega (arith, length-entriesOf t)
 -- block k is in byte k / 4, entry k mod 4
 pub getD-entriesOf : (t : List ℕ) (k : ℕ) → getD (entriesOf t) k 0 ≡ entryOf (getD t (k / 4) 0) (k % 4)
 unfolding entriesOf
-getD-entriesOf [] k = sym (entryOf-zero (k % 4) (omega arith))
+getD-entriesOf [] k = sym (entryOf-zero (k % 4))
 getD-entriesOf (b ∷ t) zero = refl
 getD-entriesOf (b ∷ t) (suc zero) = refl
 getD-entriesOf (b ∷ t) (suc (suc zero)) = refl
