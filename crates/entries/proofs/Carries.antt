@@ -84,7 +84,7 @@ pub sofar-end : (t : List ℕ) (p k : ℕ) → length t ≤ p → entriesOf t �
 unfolding sweepFrom entriesOf
 sofar-end t p k h = rw (take-all p t h, drop-of-length-le t h) (sym (append-nil (entriesOf t)))
 
-entriesOf-append : (t u : List ℕ) → entriesOf (t ++ u) ≡ entriesOf t ++ entriesOf u
+pub entriesOf-append : (t u : List ℕ) → entriesOf (t ++ u) ≡ entriesOf t ++ entriesOf u
 unfolding entriesOf
 entriesOf-append [] u = refl
 entriesOf-append (b ∷ t) u = rw (entriesOf-append t u)

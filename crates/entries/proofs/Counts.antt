@@ -1,51 +1,84 @@
--- Entries are counted a byte at a time, as the ones of the masked byte: what is counted so far and what is left make the count of the table.
+-- Entries are counted as the ones of masked bytes: what is counted in each quarter of the table is the growth of the counts up to there.
 -- Assumes nothing.
-use mathlib.Core.Path.{_≡_}
+use mathlib.Core.Path.{_≡_, refl, ap}
 use mathlib.Core.Bool.{Bool}
-use mathlib.Core.List.{List, [], _∷_}
-use Prim.Native.Nat.{ℕ, suc, _+_, _*_, _≤_, _<_}
+use mathlib.Core.List.{List, [], _∷_, _++_}
+use Prim.Native.Nat.{ℕ, _+_, _*_, _/_, _≤_, _<_}
 use native.Mathlib.Numerals.{add-one}
 use native.Mathlib.Omega.{arith}
-use lib.Count.{ones}
+use lib.Bits.{bitAnd}
 use lib.Dec.{T, eqb, eqb→eq}
-use lib.ListN.{length, getD, drop, drop-of-length-le}
-use lib.Seq.{drop-cons}
+use lib.ListN.{length, getD, take}
+use lib.Seq.{take-suc, take-all, length-take-le}
 use Rattle.rules.specs.Tests.{count}
-use Rattle.rules.specs.Entries.{entryOf, entriesOf}
+use Rattle.rules.specs.Entries.{entriesOf}
 use Rattle.rules.proofs.Below.{allBelow, below}
 use Rattle.rules.proofs.Lists.{count-append, count-le}
 use Rattle.rules.proofs.Entries.{length-entriesOf}
+use Rattle.entries.specs.Places.{Ones, total}
+use Rattle.entries.proofs.Places.{ones-of}
+use Rattle.entries.proofs.Carries.{entriesOf-append}
 
 module _ (f : ℕ → Bool) where
   -- how many entries of a byte pass the test
   abbrev pub countIn : ℕ → ℕ
   countIn b = count f (entriesOf (b ∷ []))
 
-  pub few-in : (b : ℕ) → countIn b ≤ 4
-  few-in b = omega (arith, count-le f (entriesOf (b ∷ [])), length-entriesOf (b ∷ []))
-
   -- the masked byte has a one for each of them
   abbrev pub right : (ℕ → ℕ) → ℕ → Bool
-  right mask b = eqb (ones (mask b)) (countIn b)
+  right bits b = eqb (total (bitAnd (bits b) 85)) (countIn b)
 
-  pub ones-in : (mask : ℕ → ℕ) → T (allBelow 256 (right mask)) → (b : ℕ) → b < 256 → ones (mask b) ≡ countIn b
-  ones-in mask all-right b small = eqb→eq (ones (mask b)) (countIn b) (below 256 (right mask) all-right b small)
+  pub ones-in : (bits : ℕ → ℕ) → T (allBelow 256 (right bits)) → (b : ℕ) → b < 256 → Ones (bitAnd (bits b) 85) × (total (bitAnd (bits b) 85) ≡ countIn b)
+  ones-in bits all-right b small = (ones-of (bits b), eqb→eq (total (bitAnd (bits b) 85)) (countIn b) (below 256 (right bits) all-right b small))
+
+  -- four bytes have what each has
+  pub count-four : (a b c d : ℕ) → count f (entriesOf (a ∷ b ∷ c ∷ d ∷ [])) ≡ countIn a + countIn b + countIn c + countIn d
+  unfolding entriesOf
+  count-four a b c d =
+      omega (arith, count-append f (entriesOf (a ∷ [])) (entriesOf (b ∷ c ∷ d ∷ [])), count-append f (entriesOf (b ∷ [])) (entriesOf (c ∷ d ∷ [])), count-append f (entriesOf (c ∷ [])) (entriesOf (d ∷ [])))
 
   module _ (t : List ℕ) where
-    -- n are counted in the first i bytes
-    abbrev pub Counted : ℕ → ℕ → Type 0
-    Counted n i = n + count f (entriesOf (drop i t)) ≡ count f (entriesOf t)
+    -- how many there are in the first n bytes
+    abbrev pub upTo : ℕ → ℕ
+    upTo n = count f (entriesOf (take n t))
 
-    pub count-turn : (n i : ℕ) → i < length t → Counted n i → Counted (n + countIn (getD t i 0)) (i + 1)
-    unfolding entriesOf
-    count-turn n i h l =
-        let b : ℕ = getD t i 0 in
-        let d : count f (entriesOf (drop i t)) ≡ countIn b + count f (entriesOf (drop (i + 1) t)) = rw (drop-cons t i 0 h, add-one i) (count-append f (entriesOf (b ∷ [])) (entriesOf (drop (suc i) t))) in
-        omega (arith, d, l)
+    pub few : (n : ℕ) → n ≤ length t → upTo n ≤ 4 * length t
+    few n h = omega (arith, count-le f (entriesOf (take n t)), length-entriesOf (take n t), length-take-le n t h)
 
-    pub count-few : (n i : ℕ) → Counted n i → n ≤ 4 * length t
-    count-few n i l = omega (arith, l, count-le f (entriesOf t), length-entriesOf t)
+    pub next : (n m : ℕ) → n + 1 ≡ m → n < length t → upTo m ≡ upTo n + countIn (getD t n 0)
+    next n m e h =
+        let s : take m t ≡ take n t ++ (getD t n 0 ∷ []) = rw (← e, add-one n) (take-suc t n 0 h) in
+        rw (s, entriesOf-append (take n t) (getD t n 0 ∷ [])) (count-append f (entriesOf (take n t)) (entriesOf (getD t n 0 ∷ [])))
 
-    pub count-all : (n i : ℕ) → length t ≤ i → Counted n i → n ≡ count f (entriesOf t)
+    pub all : (n : ℕ) → length t ≤ n → upTo n ≡ count f (entriesOf t)
+    all n h = rw (take-all n t h)
+
+    abbrev q : ℕ
+    q = length t / 4
+
+    -- how many there are before byte i of each quarter
+    abbrev before : ℕ → ℕ
+    before i = upTo i + upTo (q + i) + upTo (2 * q + i) + upTo (3 * q + i)
+
+    -- n are counted in the first i bytes of each quarter
+    abbrev pub Quarters : ℕ → ℕ → Type 0
+    Quarters n i = n + before 0 ≡ before i
+
+    pub quarters-turn : (n i : ℕ) → i < q → Quarters n i
+        → Quarters (n + count f (entriesOf (getD t i 0 ∷ getD t (q + i) 0 ∷ getD t (2 * q + i) 0 ∷ getD t (3 * q + i) 0 ∷ []))) (i + 1)
+    quarters-turn n i l e =
+        omega (arith, e, count-four (getD t i 0) (getD t (q + i) 0) (getD t (2 * q + i) 0) (getD t (3 * q + i) 0), next i (i + 1) (omega arith) (omega arith), next (q + i) (q + (i + 1)) (omega arith) (omega arith), next (2 * q + i) (2 * q + (i + 1)) (omega arith) (omega arith), next (3 * q + i) (3 * q + (i + 1)) (omega arith) (omega arith))
+
+    pub quarters-few : (n i : ℕ) → i ≤ q → Quarters n i → n ≤ 16 * length t
+    quarters-few n i l e =
+        omega (arith, e, few i (omega arith), few (q + i) (omega arith), few (2 * q + i) (omega arith), few (3 * q + i) (omega arith))
+
+    -- each quarter ends where the next starts
+    pub quarters-end : (n i : ℕ) → i ≡ q → Quarters n i → n ≡ upTo (4 * q)
     unfolding entriesOf count
-    count-all n i h l = let z : n + 0 ≡ count f (entriesOf t) = rw (drop-of-length-le t h) at l in omega (arith, z)
+    quarters-end n i l e =
+        let none : upTo 0 ≡ 0 = refl in
+        omega (arith, e, none, same i (q + 0) (omega arith), same (q + i) (2 * q + 0) (omega arith), same (2 * q + i) (3 * q + 0) (omega arith), same (3 * q + i) (4 * q) (omega arith))
+      where
+        same : (m k : ℕ) → m ≡ k → upTo m ≡ upTo k
+        same m k = ap upTo

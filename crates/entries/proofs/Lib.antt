@@ -1,3 +1,4 @@
 pub mod Carries
 pub mod Counts
 pub mod Masks
+pub mod Places

@@ -1,25 +1,70 @@
-// The whole table at once: sixteen entries to a word or four to a byte, with no early exit.
+// The whole table at once: sixteen entries in a turn, then the last ones four at a time, with no early exit.
 ghost use mathlib.Core.Path.{_≡_};
 ghost use mathlib.Core.List.{[], _∷_};
-ghost use Prim.Native.Nat.{_≤_, _<_};
+ghost use Prim.Native.Nat.{_+_, _≤_, _<_};
 ghost use lib.ListN.{length};
 ghost use Rattle.rules.specs.Entries.{entriesOf};
 ghost use Rattle.rules.specs.Tables.{used, objects};
 ghost use Rattle.rules.specs.Marking.{sweep as sweepOf};
 ghost use Rattle.entries.specs.Carry.{carried, swept};
+ghost use Rattle.entries.specs.Places.{Ones, total, paired};
 
-// How many of the four entries of a byte are not FREE: the ones of their two bits combined.
+// A one in the place of each entry of a byte that is not FREE: its two bits combined.
+fn used_ones(b: u8) -> u8
+    ensures { λ r. ⌜ Ones r × (total r ≡ used (entriesOf (b ∷ []))) ⌝ }
+{
+    (b | (b >> 1)) & 0x55
+}
+
+// A one in the place of each HEAD: the lower bits without an upper one.
+fn head_ones(b: u8) -> u8
+    ensures { λ r. ⌜ Ones r × (total r ≡ objects (entriesOf (b ∷ []))) ⌝ }
+{
+    b & !(b >> 1) & 0x55
+}
+
+// The sums of neighbouring places: of the two lower ones in the lower half, of the two upper ones in the upper half.
+fn pairs(s: u8) -> u8
+    ensures { λ r. ⌜ r ≡ paired s ⌝ }
+{
+    (s & 0x33) + ((s >> 2) & 0x33)
+}
+
+// How many ones four bytes have, which are added in their places first.
+fn sum_of_4(a: u8, b: u8, c: u8, d: u8) -> u16
+    requires { ⌜ Ones a × (Ones b × (Ones c × Ones d)) ⌝ }
+    ensures { λ r. ⌜ r ≡ total a + total b + total c + total d ⌝ }
+{
+    let x = pairs(a + b) + pairs(c + d);
+    ((x & 15) + (x >> 4)) as u16
+}
+
+// How many entries of a byte are not FREE.
 fn used_in(b: u8) -> u16
     ensures { λ r. ⌜ r ≡ used (entriesOf (b ∷ [])) ⌝ }
 {
-    u8::count_ones((b | (b >> 1)) & 0x55) as u16
+    u8::count_ones(used_ones(b)) as u16
 }
 
-// How many of them are HEAD: the ones of the lower bits without an upper one.
+// How many of four bytes.
+fn used_in_4(a: u8, b: u8, c: u8, d: u8) -> u16
+    ensures { λ r. ⌜ r ≡ used (entriesOf (a ∷ b ∷ c ∷ d ∷ [])) ⌝ }
+{
+    sum_of_4(used_ones(a), used_ones(b), used_ones(c), used_ones(d))
+}
+
+// How many entries of a byte are HEAD.
 fn heads_in(b: u8) -> u16
     ensures { λ r. ⌜ r ≡ objects (entriesOf (b ∷ [])) ⌝ }
 {
-    u8::count_ones(b & !(b >> 1) & 0x55) as u16
+    u8::count_ones(head_ones(b)) as u16
+}
+
+// How many of four bytes.
+fn heads_in_4(a: u8, b: u8, c: u8, d: u8) -> u16
+    ensures { λ r. ⌜ r ≡ objects (entriesOf (a ∷ b ∷ c ∷ d ∷ [])) ⌝ }
+{
+    sum_of_4(head_ones(a), head_ones(b), head_ones(c), head_ones(d))
 }
 
 // How many blocks are not FREE, and how many objects there are.
@@ -32,13 +77,25 @@ pub fn count(table: &[u8]) -> Counts
     requires { ⌜ length (now table) ≤ 1024 ⌝ }
     ensures { λ r. ⌜ (r .used ≡ used (entriesOf (now (table .entry)))) × (r .objects ≡ objects (entriesOf (now (table .entry)))) ⌝ }
 {
+    let quarter = table.len() / 4;
     let mut used: u16 = 0;
     let mut heads: u16 = 0;
     let mut i = 0;
-    while i < table.len() {
-        used += used_in(table[i]);
-        heads += heads_in(table[i]);
+    // A byte of each quarter in a turn: the compiler makes eight turns at a time.
+    while i < quarter {
+        let a = table[i];
+        let b = table[quarter + i];
+        let c = table[2 * quarter + i];
+        let d = table[3 * quarter + i];
+        used += used_in_4(a, b, c, d);
+        heads += heads_in_4(a, b, c, d);
         i += 1;
+    }
+    let mut j = 4 * quarter;
+    while j < table.len() {
+        used += used_in(table[j]);
+        heads += heads_in(table[j]);
+        j += 1;
     }
     Counts {
         used: used as usize,

@@ -1,84 +1,182 @@
--- `count`: the used entries and the HEADs, a byte at a time.
+-- `count`: the used entries and the HEADs of each quarter of the table, then of the bytes that are left.
 -- Assumes nothing.
-use Prim.Native.Nat.{_+_, _-_, _≤_}
+use mathlib.Core.Path.{_≡_, _∙_}
+use Prim.Native.Nat.{_+_, _-_, _/_, _≤_}
 use native.Mathlib.Omega.{arith}
 use lib.ListN.{length}
 use borrow.Author.Needs.{needs}
 use Rattle.rules.specs.Tables.{isUsed, isHead, used, objects}
-use Rattle.entries.proofs.Counts.{Counted, count-turn, count-few, count-all}
+use Rattle.entries.proofs.Counts.{upTo, few, next, all, Quarters, quarters-turn, quarters-few, quarters-end}
 use Rattle.entries.proofs.whole.count.Statement.{statement}
 use Rattle.entries.proofs.whole.count.Tie as tie
 
 abbrev Inv-loop : tie.InvT-loop
-Inv-loop table used₀ heads₀ i₀ n h i = (i ≤ length table) × Counted isUsed table n i × Counted isHead table h i
+Inv-loop table quarter used₀ heads₀ i₀ n h i = (i ≤ quarter) × Quarters isUsed table n i × Quarters isHead table h i
 
 abbrev μ-loop : tie.MeasureT-loop
-μ-loop table used₀ heads₀ i₀ n h i = length table - i
+μ-loop table quarter used₀ heads₀ i₀ n h i = quarter - i
 
-loop-holds : tie.Need-loop-holds Inv-loop μ-loop
+abbrev Inv-loop2 : tie.InvT-loop2
+Inv-loop2 table quarter used₀ heads₀ i j₀ n h j = (j ≤ length table) × (n ≡ upTo isUsed table j) × (h ≡ upTo isHead table j)
+
+abbrev μ-loop2 : tie.MeasureT-loop2
+μ-loop2 table quarter used₀ heads₀ i j₀ n h j = length table - j
+
+loop-holds : tie.Need-loop-holds Inv-loop μ-loop Inv-loop2 μ-loop2
 loop-holds c = (omega arith, omega arith, omega arith)
 
-shared-slice-read-used-in : tie.Need-shared-slice-read-used-in Inv-loop μ-loop
-shared-slice-read-used-in c = search needs
+shared-slice-read-a : tie.Need-shared-slice-read-a Inv-loop μ-loop Inv-loop2 μ-loop2
+shared-slice-read-a c = search needs
 
-used-in-requires : tie.Need-used-in-requires Inv-loop μ-loop
-used-in-requires c κs = search needs
+add-b : tie.Need-add-b Inv-loop μ-loop Inv-loop2 μ-loop2
+add-b c = search needs
+
+shared-slice-read-b : tie.Need-shared-slice-read-b Inv-loop μ-loop Inv-loop2 μ-loop2
+shared-slice-read-b c = search needs
+
+mul-c : tie.Need-mul-c Inv-loop μ-loop Inv-loop2 μ-loop2
+mul-c c = search needs
+
+add-c : tie.Need-add-c Inv-loop μ-loop Inv-loop2 μ-loop2
+add-c c = search needs
+
+shared-slice-read-c : tie.Need-shared-slice-read-c Inv-loop μ-loop Inv-loop2 μ-loop2
+shared-slice-read-c c = search needs
+
+mul-d : tie.Need-mul-d Inv-loop μ-loop Inv-loop2 μ-loop2
+mul-d c = search needs
+
+add-d : tie.Need-add-d Inv-loop μ-loop Inv-loop2 μ-loop2
+add-d c = search needs
+
+shared-slice-read-d : tie.Need-shared-slice-read-d Inv-loop μ-loop Inv-loop2 μ-loop2
+shared-slice-read-d c = search needs
+
+used-in-4-requires : tie.Need-used-in-4-requires Inv-loop μ-loop Inv-loop2 μ-loop2
+used-in-4-requires c κs = search needs
 
 -- the used entries after the turn
-used-turn : (c : tie.After-used-in Inv-loop μ-loop) →
-    let l = c .before .before .before in
-    Counted isUsed (l .before .before .args .table .now) (l .loop .used + c .used-in .result) (l .loop .i + 1)
+used-turn : (c : tie.After-used-in-4 Inv-loop μ-loop Inv-loop2 μ-loop2) →
+    let l = c .before .before .before .before .before .before in
+    let t = l .before .before .args .table .now in
+    Quarters isUsed t (l .loop .used + c .used-in-4 .result) (l .loop .i + 1)
 unfolding used
 used-turn c =
-    let l = c .before .before .before in
-    rw (c .used-in .ensures) (count-turn isUsed (l .before .before .args .table .now) (l .loop .used) (l .loop .i) (omega arith) (l .loop .inv .1))
+    let l = c .before .before .before .before .before .before in
+    let t = l .before .before .args .table .now in
+    rw (c .used-in-4 .ensures) (quarters-turn isUsed t (l .loop .used) (l .loop .i) (omega arith) (l .loop .inv .1))
 
-add-used : tie.Need-add-used Inv-loop μ-loop
+add-used : tie.Need-add-used Inv-loop μ-loop Inv-loop2 μ-loop2
 add-used c =
-    let l = c .before .before .before in
-    record { fits = omega (arith, count-few isUsed (l .before .before .args .table .now) _ (l .loop .i + 1) (used-turn c), l .before .before .pre) }
+    let l = c .before .before .before .before .before .before in
+    record { fits = omega (arith, quarters-few isUsed (l .before .before .args .table .now) _ (l .loop .i + 1) (omega arith) (used-turn c), l .before .before .pre) }
 
-shared-slice-read-heads-in : tie.Need-shared-slice-read-heads-in Inv-loop μ-loop
-shared-slice-read-heads-in c = search needs
-
-heads-in-requires : tie.Need-heads-in-requires Inv-loop μ-loop
-heads-in-requires c κs = search needs
+heads-in-4-requires : tie.Need-heads-in-4-requires Inv-loop μ-loop Inv-loop2 μ-loop2
+heads-in-4-requires c κs = search needs
 
 -- the HEADs after the turn
-heads-turn : (c : tie.After-heads-in Inv-loop μ-loop) →
-    let l = c .before .before .before .before .before in
-    Counted isHead (l .before .before .args .table .now) (l .loop .heads + c .heads-in .result) (l .loop .i + 1)
+heads-turn : (c : tie.After-heads-in-4 Inv-loop μ-loop Inv-loop2 μ-loop2) →
+    let l = c .before .before .before .before .before .before .before in
+    let t = l .before .before .args .table .now in
+    Quarters isHead t (l .loop .heads + c .heads-in-4 .result) (l .loop .i + 1)
 unfolding objects
 heads-turn c =
-    let l = c .before .before .before .before .before in
-    rw (c .heads-in .ensures) (count-turn isHead (l .before .before .args .table .now) (l .loop .heads) (l .loop .i) (omega arith) (l .loop .inv .2))
+    let l = c .before .before .before .before .before .before .before in
+    let t = l .before .before .args .table .now in
+    rw (c .heads-in-4 .ensures) (quarters-turn isHead t (l .loop .heads) (l .loop .i) (omega arith) (l .loop .inv .2))
 
-add-heads : tie.Need-add-heads Inv-loop μ-loop
+add-heads : tie.Need-add-heads Inv-loop μ-loop Inv-loop2 μ-loop2
 add-heads c =
-    let l = c .before .before .before .before .before in
-    record { fits = omega (arith, count-few isHead (l .before .before .args .table .now) _ (l .loop .i + 1) (heads-turn c), l .before .before .pre) }
+    let l = c .before .before .before .before .before .before .before in
+    record { fits = omega (arith, quarters-few isHead (l .before .before .args .table .now) _ (l .loop .i + 1) (omega arith) (heads-turn c), l .before .before .pre) }
 
-add-i : tie.Need-add-i Inv-loop μ-loop
+add-i : tie.Need-add-i Inv-loop μ-loop Inv-loop2 μ-loop2
 add-i c = search needs
 
-loop-less : tie.Need-loop-less Inv-loop μ-loop
+loop-less : tie.Need-loop-less Inv-loop μ-loop Inv-loop2 μ-loop2
 loop-less c = search needs
 
-loop-again : tie.Need-loop-again Inv-loop μ-loop
-loop-again c = (omega arith, used-turn (c .before .before), heads-turn c)
+loop-again : tie.Need-loop-again Inv-loop μ-loop Inv-loop2 μ-loop2
+loop-again c = (omega arith, used-turn (c .before), heads-turn c)
 
-cast-t11 : tie.Need-cast-t11 Inv-loop μ-loop
-cast-t11 c = record { fits = omega (arith, count-few isUsed (c .before .before .before .args .table .now) _ (c .before .loop .i) (c .before .loop .inv .1), c .before .before .before .pre) }
+mul-j : tie.Need-mul-j Inv-loop μ-loop Inv-loop2 μ-loop2
+mul-j c = search needs
 
-cast-t12 : tie.Need-cast-t12 Inv-loop μ-loop
-cast-t12 c = record { fits = omega (arith, count-few isHead (c .before .before .before .args .table .now) _ (c .before .loop .i) (c .before .loop .inv .2), c .before .before .before .pre) }
-
-returns : tie.Need-returns Inv-loop μ-loop
-unfolding used objects
-returns c =
+loop2-holds : tie.Need-loop2-holds Inv-loop μ-loop Inv-loop2 μ-loop2
+loop2-holds c =
     let t = c .before .before .before .args .table .now in
     let l = c .before .loop in
-    (count-all isUsed t (l .used) (l .i) (omega arith) (l .inv .1), count-all isHead t (l .heads) (l .i) (omega arith) (l .inv .2))
+    let e : l .i ≡ length t / 4 = omega arith in (
+      omega arith,
+      quarters-end isUsed t (l .used) (l .i) e (l .inv .1),
+      quarters-end isHead t (l .heads) (l .i) e (l .inv .2),
+    )
+
+shared-slice-read-used-in : tie.Need-shared-slice-read-used-in Inv-loop μ-loop Inv-loop2 μ-loop2
+shared-slice-read-used-in c = search needs
+
+used-in-requires : tie.Need-used-in-requires Inv-loop μ-loop Inv-loop2 μ-loop2
+used-in-requires c κs = search needs
+
+-- the used entries with those of byte j
+used-next : (c : tie.After-used-in Inv-loop μ-loop Inv-loop2 μ-loop2) →
+    let l = c .before .before .before in
+    l .loop2 .used + c .used-in .result ≡ upTo isUsed (l .before .before .before .before .args .table .now) (l .loop2 .j + 1)
+unfolding used
+used-next c =
+    let l = c .before .before .before in
+    omega (arith, c .used-in .ensures, next isUsed (l .before .before .before .before .args .table .now) (l .loop2 .j) (l .loop2 .j + 1) (omega arith) (omega arith), l .loop2 .inv .1)
+
+add-used-2 : tie.Need-add-used-2 Inv-loop μ-loop Inv-loop2 μ-loop2
+add-used-2 c =
+    let l = c .before .before .before in
+    record { fits = omega (arith, used-next c, few isUsed (l .before .before .before .before .args .table .now) (l .loop2 .j + 1) (omega arith), l .before .before .before .before .pre) }
+
+shared-slice-read-heads-in : tie.Need-shared-slice-read-heads-in Inv-loop μ-loop Inv-loop2 μ-loop2
+shared-slice-read-heads-in c = search needs
+
+heads-in-requires : tie.Need-heads-in-requires Inv-loop μ-loop Inv-loop2 μ-loop2
+heads-in-requires c κs = search needs
+
+-- the HEADs with those of byte j
+heads-next : (c : tie.After-heads-in Inv-loop μ-loop Inv-loop2 μ-loop2) →
+    let l = c .before .before .before .before .before in
+    l .loop2 .heads + c .heads-in .result ≡ upTo isHead (l .before .before .before .before .args .table .now) (l .loop2 .j + 1)
+unfolding objects
+heads-next c =
+    let l = c .before .before .before .before .before in
+    omega (arith, c .heads-in .ensures, next isHead (l .before .before .before .before .args .table .now) (l .loop2 .j) (l .loop2 .j + 1) (omega arith) (omega arith), l .loop2 .inv .2)
+
+add-heads-2 : tie.Need-add-heads-2 Inv-loop μ-loop Inv-loop2 μ-loop2
+add-heads-2 c =
+    let l = c .before .before .before .before .before in
+    record { fits = omega (arith, heads-next c, few isHead (l .before .before .before .before .args .table .now) (l .loop2 .j + 1) (omega arith), l .before .before .before .before .pre) }
+
+add-j : tie.Need-add-j Inv-loop μ-loop Inv-loop2 μ-loop2
+add-j c = search needs
+
+loop2-less : tie.Need-loop2-less Inv-loop μ-loop Inv-loop2 μ-loop2
+loop2-less c = search needs
+
+loop2-again : tie.Need-loop2-again Inv-loop μ-loop Inv-loop2 μ-loop2
+loop2-again c = (omega arith, used-next (c .before .before), heads-next c)
+
+cast-t11 : tie.Need-cast-t11 Inv-loop μ-loop Inv-loop2 μ-loop2
+cast-t11 c =
+    let s = c .before .before .before .before .before in
+    record { fits = omega (arith, c .before .loop2 .inv .1, few isUsed (s .args .table .now) (c .before .loop2 .j) (omega arith), s .pre) }
+
+cast-t27 : tie.Need-cast-t27 Inv-loop μ-loop Inv-loop2 μ-loop2
+cast-t27 c =
+    let s = c .before .before .before .before .before in
+    record { fits = omega (arith, c .before .loop2 .inv .2, few isHead (s .args .table .now) (c .before .loop2 .j) (omega arith), s .pre) }
+
+returns : tie.Need-returns Inv-loop μ-loop Inv-loop2 μ-loop2
+unfolding used objects
+returns c =
+    let t = c .before .before .before .before .before .args .table .now in
+    let l = c .before .loop2 in
+    (l .inv .1 ∙ all isUsed t (l .j) (omega arith), l .inv .2 ∙ all isHead t (l .j) (omega arith))
 
 pub count-spec : {M : Type 1} → statement M
 count-spec =
@@ -86,16 +184,36 @@ count-spec =
     (tie.spec
     Inv-loop
     μ-loop
+    Inv-loop2
+    μ-loop2
     loop-holds
-    shared-slice-read-used-in
-    used-in-requires
+    shared-slice-read-a
+    add-b
+    shared-slice-read-b
+    mul-c
+    add-c
+    shared-slice-read-c
+    mul-d
+    add-d
+    shared-slice-read-d
+    used-in-4-requires
     add-used
-    shared-slice-read-heads-in
-    heads-in-requires
+    heads-in-4-requires
     add-heads
     add-i
     loop-less
     loop-again
+    mul-j
+    loop2-holds
+    shared-slice-read-used-in
+    used-in-requires
+    add-used-2
+    shared-slice-read-heads-in
+    heads-in-requires
+    add-heads-2
+    add-j
+    loop2-less
+    loop2-again
     cast-t11
-    cast-t12
+    cast-t27
     returns)

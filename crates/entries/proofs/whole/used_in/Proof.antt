@@ -1,31 +1,21 @@
--- `used_in`: the mask is right for every byte, which antt computes.
+-- `used_in`: the ones of the byte are those of its places.
 -- Assumes nothing.
-use Prim.Native.Nat.{ℕ, _/_}
+use mathlib.Core.Path.{_∙_}
 use native.Mathlib.Omega.{arith}
-use lib.Bits.{bitAnd, bitOr}
-use lib.Count.{ones, onesIn}
-use lib.Dec.{T}
-use Rattle.rules.specs.Tests.{count}
-use Rattle.rules.specs.Entries.{entryOf, entriesOf}
-use Rattle.rules.specs.Tables.{isUsed, used}
-use Rattle.rules.proofs.Below.{allBelow}
-use Rattle.entries.proofs.Counts.{right, ones-in, few-in}
+use borrow.Author.Needs.{needs}
+use lib.Count.{ones-le}
+use Rattle.entries.proofs.Places.{ones-total}
 use Rattle.entries.proofs.whole.used_in.Statement.{statement}
 use Rattle.entries.proofs.whole.used_in.Tie as tie
 
-abbrev mask : ℕ → ℕ
-mask b = bitAnd (bitOr b (b / 2)) 85
-
-all-right : T (allBelow 256 (right isUsed mask))
-unfolding ones onesIn count entryOf entriesOf
-all-right = tt
+used-ones-requires : tie.Need-used-ones-requires
+used-ones-requires c κs = search needs
 
 cast-result : tie.Need-cast-result
-cast-result c = record { fits = omega (arith, ones-in isUsed mask all-right (c .args .b) (omega arith), few-in isUsed (c .args .b)) }
+cast-result c = record { fits = omega (arith, ones-le 8 (c .used-ones .result) (omega arith)) }
 
 returns : tie.Need-returns
-unfolding used
-returns c = ones-in isUsed mask all-right (c .args .b) (omega arith)
+returns c = ones-total (c .used-ones .result) (omega arith) (c .used-ones .ensures .0) ∙ c .used-ones .ensures .1
 
 pub used-in-spec : {M : Type 1} → statement M
-used-in-spec = tie.close (tie.spec cast-result returns)
+used-in-spec = tie.close (tie.spec used-ones-requires cast-result returns)
