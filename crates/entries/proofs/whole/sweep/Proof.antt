@@ -1,13 +1,13 @@
 -- `sweep`: what is swept so far, and what the rule makes of the rest, make the swept table. First by words, then the bytes that are left.
 -- Assumes nothing.
-use mathlib.Core.Path.{_≡_, refl, sym, _∙_}
+use mathlib.Core.Path.{_≡_, refl, _∙_}
 use Prim.Native.Nat.{ℕ, _+_, _-_, _*_, _/_, _≤_, _<_}
 use native.Mathlib.Omega.{arith}
 use lib.ListN.{length, getD, length-set}
 use borrow.Author.Needs.{needs}
 use Rattle.rules.specs.Entries.{entriesOf}
-use Rattle.rules.specs.Marking.{sweepFrom, sweep}
-use Rattle.entries.specs.Carry.{carried, swept}
+use Rattle.rules.specs.Marking.{sweep}
+use Rattle.entries.specs.Carry.{swept}
 use Rattle.entries.proofs.Carries.{sofar, sofar-start, sofar-end, swept-le, carry-lt, byte-turn, next-lt, word-turn}
 use Rattle.entries.proofs.whole.sweep.Statement.{statement}
 use Rattle.entries.proofs.whole.sweep.Tie as tie
