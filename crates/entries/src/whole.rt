@@ -39,28 +39,28 @@ fn sum_of_4(a: u8, b: u8, c: u8, d: u8) -> u16
     ((x & 15) + (x >> 4)) as u16
 }
 
-// How many entries of a byte are not FREE.
+// How many entries of a byte are not FREE: its ones.
 fn used_in(b: u8) -> u16
     ensures { λ r. ⌜ r ≡ used (entriesOf (b ∷ [])) ⌝ }
 {
     u8::count_ones(used_ones(b)) as u16
 }
 
-// How many of four bytes.
+// How many entries of four bytes are not FREE.
 fn used_in_4(a: u8, b: u8, c: u8, d: u8) -> u16
     ensures { λ r. ⌜ r ≡ used (entriesOf (a ∷ b ∷ c ∷ d ∷ [])) ⌝ }
 {
     sum_of_4(used_ones(a), used_ones(b), used_ones(c), used_ones(d))
 }
 
-// How many entries of a byte are HEAD.
+// How many entries of a byte are HEAD: its ones.
 fn heads_in(b: u8) -> u16
     ensures { λ r. ⌜ r ≡ objects (entriesOf (b ∷ [])) ⌝ }
 {
     u8::count_ones(head_ones(b)) as u16
 }
 
-// How many of four bytes.
+// How many entries of four bytes are HEAD.
 fn heads_in_4(a: u8, b: u8, c: u8, d: u8) -> u16
     ensures { λ r. ⌜ r ≡ objects (entriesOf (a ∷ b ∷ c ∷ d ∷ [])) ⌝ }
 {

@@ -1,16 +1,16 @@
 -- Reading the table 32 entries at a time: what is known of its runs at one place is known at the next, and at the end it is all.
 -- Assumes nothing.
-use mathlib.Core.Path.{_≡_, refl, sym, ap, _∙_}
+use mathlib.Core.Path.{_≡_, sym, ap, _∙_}
 use mathlib.Core.Logic.{_≢_, _⊎_, ⊎-elim}
-use mathlib.Core.Bool.{Bool, true, false}
+use mathlib.Core.Bool.{true, false}
 use mathlib.Core.List.{List}
-use Prim.Native.Nat.{ℕ, suc, _+_, _-_, _^_, _≤_, _<_}
+use Prim.Native.Nat.{ℕ, _+_, _-_, _^_, _≤_, _<_}
 use native.Mathlib.Decide.{decLt}
 use native.Mathlib.Omega.{arith}
 use lib.ListN.{length, getD, List·getD-eq-default}
 use borrow.Author.Tests.{eqb-true, eq-eqb, not-true, not-false}
 use Rattle.rules.specs.Entries.{FREE, HEAD, entryOf}
-use Rattle.rules.specs.Tables.{entryAt, isFree, isUsed}
+use Rattle.rules.specs.Tables.{isFree, isUsed}
 use Rattle.rules.specs.Meaning.{Run, Longest}
 use Rattle.rules.proofs.Entries.{entryOf-zero}
 use Rattle.rules.proofs.Lists.{one}

@@ -79,8 +79,8 @@ fn pass_by_16(table: &[u8], i: usize, count: usize) -> usize
     at
 }
 
-// A block from `from` on with no run of count blocks starting before it. A block inside a byte is its own answer; behind bytes that are
-// passed it is the first at which a run may start.
+// A block from `from` on with no run of count blocks starting before it. Bytes are passed in which none starts, and behind them it is the
+// first block at which one may start. It is `from` itself if that lies inside a byte, in the last one, or in one in which a run may start.
 pub fn skip(table: &[u8], from: Block, count: usize) -> Block
     requires { ⌜ (length (now table) ≤ 1024) × ((from .0 ≤ length (entriesOf (now table))) × (0 < count)) ⌝ }
     ensures { λ r. ⌜ (r .0 ≤ length (entriesOf (now (table .entry)))) × ((from .0 ≤ r .0) × NoStart (entriesOf (now (table .entry))) count (from .0) (r .0)) ⌝ }
@@ -164,7 +164,7 @@ fn longest_row(bits: u64, n: usize) -> usize
     best
 }
 
-// The longest run in the blocks read so far, but for the one at their end, and how many blocks that has.
+// A run of `longest` blocks was read, and none is longer but maybe the one at the end, which has `ending` blocks so far.
 struct Scan {
     longest: usize,
     ending: usize,

@@ -1,4 +1,4 @@
-// Objects and runs of free blocks in the allocation table, entry by entry.
+// Objects in the allocation table, and the search for room.
 ghost use mathlib.Core.Path.{_≡_};
 ghost use Prim.Native.Nat.{_+_, _≤_, _<_};
 ghost use lib.Dec.{leb};

@@ -7,7 +7,6 @@ use lib.ListN.{length, getD, length-set}
 use borrow.Author.Needs.{needs}
 use Rattle.rules.specs.Entries.{entriesOf}
 use Rattle.rules.specs.Marking.{sweep}
-use Rattle.entries.specs.Carry.{swept}
 use Rattle.entries.proofs.Carries.{sofar, sofar-start, sofar-end, swept-le, carry-lt, byte-turn, next-lt, word-turn}
 use Rattle.entries.proofs.whole.sweep.Statement.{statement}
 use Rattle.entries.proofs.whole.sweep.Tie as tie
