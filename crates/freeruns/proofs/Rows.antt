@@ -20,11 +20,6 @@ use Rattle.freeruns.specs.Rows.{LowerBits, Picks, Zeros, Row, RowStarts,
 
 -- ---- the zeros at both ends of a number of 64 digits
 
-record Trailing (k a n : ℕ) : Type 0 where
-  few : n ≤ k
-  before : (j : ℕ) → j < n → entryOf a j ≡ 0
-  next : n < k → entryOf a n ≢ 0
-
 lower-digit : (a x : ℕ) → a % 2 ≡ suc x → a / 1 % 4 ≡ 0 → ⊥
 lower-digit a x p z = omega arith
 
@@ -32,18 +27,18 @@ upper-digit : (a y : ℕ) → a / 2 % 2 ≡ suc y → a / 1 % 4 ≡ 0 → ⊥
 upper-digit a y q z = omega arith
 
 -- the zeros below the lowest set digit, by pairs
-trailing : (k a : ℕ) → Trailing k a (trailingZeros (2 * k) a / 2)
+pub zeros-below : (k a : ℕ) → Zeros k (λ (j : ℕ). entryOf a j) (trailingZeros (2 * k) a / 2)
 unfolding trailingZeros entryOf
-trailing zero a = record { few = omega arith; before = λ j l. absurd (omega arith); next = λ l. absurd (omega arith) }
-trailing (suc k) a =
+zeros-below zero a = record { few = omega arith; before = λ j l. absurd (omega arith); next = λ l. absurd (omega arith) }
+zeros-below (suc k) a =
     let e : 2 * suc k ≡ suc (suc (2 * k)) = omega arith in
-    rw e (go (a % 2) (a / 2 % 2) refl refl (trailing k (a / 4)))
+    rw e (go (a % 2) (a / 2 % 2) refl refl (zeros-below k (a / 4)))
   where
     half : a / 2 / 2 ≡ a / 4
     half = omega arith
 
-    go : (x y : ℕ) → a % 2 ≡ x → a / 2 % 2 ≡ y → Trailing k (a / 4) (trailingZeros (2 * k) (a / 4) / 2)
-        → Trailing (suc k) a (lib.Count.under x (lib.Count.under y (trailingZeros (2 * k) (a / 2 / 2))) / 2)
+    go : (x y : ℕ) → a % 2 ≡ x → a / 2 % 2 ≡ y → Zeros k (λ (j : ℕ). entryOf (a / 4) j) (trailingZeros (2 * k) (a / 4) / 2)
+        → Zeros (suc k) (λ (j : ℕ). entryOf a j) (lib.Count.under x (lib.Count.under y (trailingZeros (2 * k) (a / 2 / 2))) / 2)
     go (suc x) y p q r = record { few = omega arith; before = λ j l. absurd (omega arith); next = λ l z. lower-digit a x p z }
     go zero (suc y) p q r = record { few = omega arith; before = λ j l. absurd (omega arith); next = λ l z. upper-digit a y q z }
     go zero zero p q r =
@@ -59,13 +54,11 @@ trailing (suc k) a =
         go-before n up z zero l = omega (arith, z)
         go-before n up z (suc i) l = up i (omega arith)
 
-pub zeros-below : (a : ℕ) → Zeros (λ (j : ℕ). entryOf a j) (trailingZeros 64 a / 2)
-zeros-below a = let t = trailing 32 a in record { few = t .few; before = t .before; next = t .next }
-
-pub zeros-above : (a : ℕ) → a < 2 ^ 64 → Zeros (λ (j : ℕ). entryOf a (31 - j)) (leadingZeros 64 a / 2)
+-- those above the highest
+pub zeros-above : (a : ℕ) → a < 2 ^ 64 → Zeros 32 (λ (j : ℕ). entryOf a (31 - j)) (leadingZeros 64 a / 2)
 zeros-above a h = go (ℕ-discrete a 0)
   where
-    go : Dec (a ≡ 0) → Zeros (λ (j : ℕ). entryOf a (31 - j)) (leadingZeros 64 a / 2)
+    go : Dec (a ≡ 0) → Zeros 32 (λ (j : ℕ). entryOf a (31 - j)) (leadingZeros 64 a / 2)
     go (yes z) = rw (z, leading-of-zero 64) record { few = omega arith; before = λ j l. entryOf-zero (31 - j); next = λ l. absurd (omega arith) }
     go (no some) =
         let top = leading-top 64 a (omega arith) h in
@@ -79,7 +72,7 @@ zeros-above a h = go (ℕ-discrete a 0)
         }
 
 -- the first bit of a number of k entries is in one of them
-pub first-lt : (k a n : ℕ) → a < 4 ^ k → a ≢ 0 → Zeros (λ (j : ℕ). entryOf a j) n → n < k
+pub first-lt : (k a n : ℕ) → a < 4 ^ k → a ≢ 0 → Zeros 32 (λ (j : ℕ). entryOf a j) n → n < k
 first-lt k a n h some z = go (decLt n k)
   where
     go : Dec (n < k) → n < k
@@ -238,7 +231,7 @@ module _ (bits j : ℕ) (low : LowerBits bits) (small : bits < 2 ^ 64) (few : j 
   }
 
   -- the first that is clear ends it
-  pub to-the-first : (n : ℕ) → clear ≢ 0 → Zeros (λ (d : ℕ). entryOf clear d) n → WholeRow bits j n
+  pub to-the-first : (n : ℕ) → clear ≢ 0 → Zeros 32 (λ (d : ℕ). entryOf clear d) n → WholeRow bits j n
   to-the-first n some z =
       let taken = z .next (first-lt 32 clear n clear-lt some z) in
       let room = inside taken in

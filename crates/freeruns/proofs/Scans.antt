@@ -93,8 +93,8 @@ module _ (es : List ℕ) (p b used : ℕ) (holds : Holds es p b) (picks : Picks 
         go k h l (no m) = free-at k (omega arith) l (rw z (entryOf-zero (k - p)))
 
     -- some are not: the run at the end stops at the first of these, and a new one starts behind the last
-    module _ (some : used ≢ 0) (small : used < 2 ^ 64) (front back best : ℕ) (at-front : Zeros (λ (j : ℕ). entryOf used j) front)
-        (at-back : Zeros (λ (j : ℕ). entryOf used (31 - j)) back) where
+    module _ (some : used ≢ 0) (small : used < 2 ^ 64) (front back best : ℕ) (at-front : Zeros 32 (λ (j : ℕ). entryOf used j) front)
+        (at-back : Zeros 32 (λ (j : ℕ). entryOf used (31 - j)) back) where
       front-lt : front < 32
       front-lt = first-lt 32 used front small some at-front
 

@@ -22,11 +22,11 @@ pub record Picks (test : ℕ → Bool) (b r : ℕ) : Type 0 where
   pub inside : (j : ℕ) → j < 32 → entryOf r j ≡ pick (test (entryOf b j)) 1 0
   pub outside : (j : ℕ) → 32 ≤ j → entryOf r j ≡ 0
 
--- n is how many of 32 entries, in the order e 0, e 1 and so on, come before the first that is not 0
-pub record Zeros (e : ℕ → ℕ) (n : ℕ) : Type 0 where
-  pub few : n ≤ 32
+-- n is how many of the k entries e 0, e 1 and so on come before the first that is not 0
+pub record Zeros (k : ℕ) (e : ℕ → ℕ) (n : ℕ) : Type 0 where
+  pub few : n ≤ k
   pub before : (j : ℕ) → j < n → e j ≡ 0
-  pub next : n < 32 → e n ≢ 0
+  pub next : n < k → e n ≢ 0
 
 -- a row: the bits of the count entries from entry j on are set
 abbrev pub Row : ℕ → ℕ → ℕ → Type 0

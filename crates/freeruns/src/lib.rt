@@ -17,7 +17,7 @@ const BITS: u64 = 0x5555555555555555;
 
 // The first of 32 entries of which a bit is set, by the zeros below it; 32 if there is none.
 fn first(bits: u64) -> usize
-    ensures { λ r. ⌜ Zeros (λ (j : ℕ). entryOf bits j) r ⌝ }
+    ensures { λ r. ⌜ Zeros 32 (λ (j : ℕ). entryOf bits j) r ⌝ }
 {
     (u64::trailing_zeros(bits) / 2) as usize
 }
@@ -110,7 +110,7 @@ pub fn skip(table: &[u8], from: Block, count: usize) -> Block
 
 // How many of 32 entries stand above the last of which a bit is set, by the zeros above it; 32 if there is none.
 fn above_last(bits: u64) -> usize
-    ensures { λ r. ⌜ Zeros (λ (j : ℕ). entryOf bits (31 - j)) r ⌝ }
+    ensures { λ r. ⌜ Zeros 32 (λ (j : ℕ). entryOf bits (31 - j)) r ⌝ }
 {
     (u64::leading_zeros(bits) / 2) as usize
 }
