@@ -1,4 +1,4 @@
--- Entries are counted as the ones of masked bytes: what is counted in each quarter of the table is the growth of the counts up to there.
+-- Entries are counted as the ones of masked bytes: what is counted in each part of the table is the growth of the counts up to there.
 -- Assumes nothing.
 use mathlib.Core.Path.{_≡_, refl, ap}
 use mathlib.Core.Bool.{Bool}
@@ -53,30 +53,31 @@ module _ (f : ℕ → Bool) where
     pub all : (n : ℕ) → length t ≤ n → upTo n ≡ count f (entriesOf t)
     all n h = rw (take-all n t h)
 
+    -- the length of each of four parts
     abbrev q : ℕ
-    q = length t / 4
+    q = length t / 32 * 8
 
-    -- how many there are before byte i of each quarter
+    -- how many there are before byte i of each part
     abbrev before : ℕ → ℕ
     before i = upTo i + upTo (q + i) + upTo (2 * q + i) + upTo (3 * q + i)
 
-    -- n are counted in the first i bytes of each quarter
-    abbrev pub Quarters : ℕ → ℕ → Type 0
-    Quarters n i = n + before 0 ≡ before i
+    -- n are counted in the first i bytes of each part
+    abbrev pub Parts : ℕ → ℕ → Type 0
+    Parts n i = n + before 0 ≡ before i
 
-    pub quarters-turn : (n i : ℕ) → i < q → Quarters n i
-        → Quarters (n + count f (entriesOf (getD t i 0 ∷ getD t (q + i) 0 ∷ getD t (2 * q + i) 0 ∷ getD t (3 * q + i) 0 ∷ []))) (i + 1)
-    quarters-turn n i l e =
+    pub parts-turn : (n i : ℕ) → i < q → Parts n i
+        → Parts (n + count f (entriesOf (getD t i 0 ∷ getD t (q + i) 0 ∷ getD t (2 * q + i) 0 ∷ getD t (3 * q + i) 0 ∷ []))) (i + 1)
+    parts-turn n i l e =
         omega (arith, e, count-four (getD t i 0) (getD t (q + i) 0) (getD t (2 * q + i) 0) (getD t (3 * q + i) 0), next i (i + 1) (omega arith) (omega arith), next (q + i) (q + (i + 1)) (omega arith) (omega arith), next (2 * q + i) (2 * q + (i + 1)) (omega arith) (omega arith), next (3 * q + i) (3 * q + (i + 1)) (omega arith) (omega arith))
 
-    pub quarters-few : (n i : ℕ) → i ≤ q → Quarters n i → n ≤ 16 * length t
-    quarters-few n i l e =
+    pub parts-few : (n i : ℕ) → i ≤ q → Parts n i → n ≤ 16 * length t
+    parts-few n i l e =
         omega (arith, e, few i (omega arith), few (q + i) (omega arith), few (2 * q + i) (omega arith), few (3 * q + i) (omega arith))
 
-    -- each quarter ends where the next starts
-    pub quarters-end : (n i : ℕ) → i ≡ q → Quarters n i → n ≡ upTo (4 * q)
+    -- each part ends where the next starts
+    pub parts-end : (n i : ℕ) → i ≡ q → Parts n i → n ≡ upTo (4 * q)
     unfolding entriesOf count
-    quarters-end n i l e =
+    parts-end n i l e =
         let none : upTo 0 ≡ 0 = refl in
         omega (arith, e, none, same i (q + 0) (omega arith), same (q + i) (2 * q + 0) (omega arith), same (2 * q + i) (3 * q + 0) (omega arith), same (3 * q + i) (4 * q) (omega arith))
       where

@@ -1,26 +1,29 @@
--- `count`: the used entries and the HEADs of each quarter of the table, then of the bytes that are left.
+-- `count`: the used entries and the HEADs of each part of the table, then of the bytes that are left.
 -- Assumes nothing.
 use mathlib.Core.Path.{_≡_, _∙_}
-use Prim.Native.Nat.{_+_, _-_, _/_, _≤_}
+use Prim.Native.Nat.{_+_, _-_, _*_, _/_, _≤_}
 use native.Mathlib.Omega.{arith}
 use lib.ListN.{length}
 use borrow.Author.Needs.{needs}
 use Rattle.rules.specs.Tables.{isUsed, isHead, used, objects}
-use Rattle.entries.proofs.Counts.{upTo, few, next, all, Quarters, quarters-turn, quarters-few, quarters-end}
+use Rattle.entries.proofs.Counts.{upTo, few, next, all, Parts, parts-turn, parts-few, parts-end}
 use Rattle.entries.proofs.whole.count.Statement.{statement}
 use Rattle.entries.proofs.whole.count.Tie as tie
 
 abbrev Inv-loop : tie.InvT-loop
-Inv-loop table quarter used₀ heads₀ i₀ n h i = (i ≤ quarter) × Quarters isUsed table n i × Quarters isHead table h i
+Inv-loop table part used₀ heads₀ i₀ n h i = (i ≤ part) × Parts isUsed table n i × Parts isHead table h i
 
 abbrev μ-loop : tie.MeasureT-loop
-μ-loop table quarter used₀ heads₀ i₀ n h i = quarter - i
+μ-loop table part used₀ heads₀ i₀ n h i = part - i
 
 abbrev Inv-loop2 : tie.InvT-loop2
-Inv-loop2 table quarter used₀ heads₀ i j₀ n h j = (j ≤ length table) × (n ≡ upTo isUsed table j) × (h ≡ upTo isHead table j)
+Inv-loop2 table part used₀ heads₀ i j₀ n h j = (j ≤ length table) × (n ≡ upTo isUsed table j) × (h ≡ upTo isHead table j)
 
 abbrev μ-loop2 : tie.MeasureT-loop2
-μ-loop2 table quarter used₀ heads₀ i j₀ n h j = length table - j
+μ-loop2 table part used₀ heads₀ i j₀ n h j = length table - j
+
+mul-part : tie.Need-mul-part Inv-loop μ-loop Inv-loop2 μ-loop2
+mul-part c = search needs
 
 loop-holds : tie.Need-loop-holds Inv-loop μ-loop Inv-loop2 μ-loop2
 loop-holds c = (omega arith, omega arith, omega arith)
@@ -59,17 +62,17 @@ used-in-4-requires c κs = search needs
 used-turn : (c : tie.After-used-in-4 Inv-loop μ-loop Inv-loop2 μ-loop2) →
     let l = c .before .before .before .before .before .before in
     let t = l .before .before .args .table .now in
-    Quarters isUsed t (l .loop .used + c .used-in-4 .result) (l .loop .i + 1)
+    Parts isUsed t (l .loop .used + c .used-in-4 .result) (l .loop .i + 1)
 unfolding used
 used-turn c =
     let l = c .before .before .before .before .before .before in
     let t = l .before .before .args .table .now in
-    rw (c .used-in-4 .ensures) (quarters-turn isUsed t (l .loop .used) (l .loop .i) (omega arith) (l .loop .inv .1))
+    rw (c .used-in-4 .ensures) (parts-turn isUsed t (l .loop .used) (l .loop .i) (omega arith) (l .loop .inv .1))
 
 add-used : tie.Need-add-used Inv-loop μ-loop Inv-loop2 μ-loop2
 add-used c =
     let l = c .before .before .before .before .before .before in
-    record { fits = omega (arith, quarters-few isUsed (l .before .before .args .table .now) _ (l .loop .i + 1) (omega arith) (used-turn c), l .before .before .pre) }
+    record { fits = omega (arith, parts-few isUsed (l .before .before .args .table .now) _ (l .loop .i + 1) (omega arith) (used-turn c), l .before .before .pre) }
 
 heads-in-4-requires : tie.Need-heads-in-4-requires Inv-loop μ-loop Inv-loop2 μ-loop2
 heads-in-4-requires c κs = search needs
@@ -78,17 +81,17 @@ heads-in-4-requires c κs = search needs
 heads-turn : (c : tie.After-heads-in-4 Inv-loop μ-loop Inv-loop2 μ-loop2) →
     let l = c .before .before .before .before .before .before .before in
     let t = l .before .before .args .table .now in
-    Quarters isHead t (l .loop .heads + c .heads-in-4 .result) (l .loop .i + 1)
+    Parts isHead t (l .loop .heads + c .heads-in-4 .result) (l .loop .i + 1)
 unfolding objects
 heads-turn c =
     let l = c .before .before .before .before .before .before .before in
     let t = l .before .before .args .table .now in
-    rw (c .heads-in-4 .ensures) (quarters-turn isHead t (l .loop .heads) (l .loop .i) (omega arith) (l .loop .inv .2))
+    rw (c .heads-in-4 .ensures) (parts-turn isHead t (l .loop .heads) (l .loop .i) (omega arith) (l .loop .inv .2))
 
 add-heads : tie.Need-add-heads Inv-loop μ-loop Inv-loop2 μ-loop2
 add-heads c =
     let l = c .before .before .before .before .before .before .before in
-    record { fits = omega (arith, quarters-few isHead (l .before .before .args .table .now) _ (l .loop .i + 1) (omega arith) (heads-turn c), l .before .before .pre) }
+    record { fits = omega (arith, parts-few isHead (l .before .before .args .table .now) _ (l .loop .i + 1) (omega arith) (heads-turn c), l .before .before .pre) }
 
 add-i : tie.Need-add-i Inv-loop μ-loop Inv-loop2 μ-loop2
 add-i c = search needs
@@ -106,10 +109,10 @@ loop2-holds : tie.Need-loop2-holds Inv-loop μ-loop Inv-loop2 μ-loop2
 loop2-holds c =
     let t = c .before .before .before .args .table .now in
     let l = c .before .loop in
-    let e : l .i ≡ length t / 4 = omega arith in (
+    let e : l .i ≡ length t / 32 * 8 = omega arith in (
       omega arith,
-      quarters-end isUsed t (l .used) (l .i) e (l .inv .1),
-      quarters-end isHead t (l .heads) (l .i) e (l .inv .2),
+      parts-end isUsed t (l .used) (l .i) e (l .inv .1),
+      parts-end isHead t (l .heads) (l .i) e (l .inv .2),
     )
 
 shared-slice-read-used-in : tie.Need-shared-slice-read-used-in Inv-loop μ-loop Inv-loop2 μ-loop2
@@ -166,8 +169,8 @@ cast-t11 c =
     let s = c .before .before .before .before .before in
     record { fits = omega (arith, c .before .loop2 .inv .1, few isUsed (s .args .table .now) (c .before .loop2 .j) (omega arith), s .pre) }
 
-cast-t27 : tie.Need-cast-t27 Inv-loop μ-loop Inv-loop2 μ-loop2
-cast-t27 c =
+cast-t12 : tie.Need-cast-t12 Inv-loop μ-loop Inv-loop2 μ-loop2
+cast-t12 c =
     let s = c .before .before .before .before .before in
     record { fits = omega (arith, c .before .loop2 .inv .2, few isHead (s .args .table .now) (c .before .loop2 .j) (omega arith), s .pre) }
 
@@ -186,6 +189,7 @@ count-spec =
     μ-loop
     Inv-loop2
     μ-loop2
+    mul-part
     loop-holds
     shared-slice-read-a
     add-b
@@ -215,5 +219,5 @@ count-spec =
     loop2-less
     loop2-again
     cast-t11
-    cast-t27
+    cast-t12
     returns)
