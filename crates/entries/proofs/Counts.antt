@@ -31,12 +31,6 @@ module _ (f : ℕ → Bool) where
   pub ones-in : (bits : ℕ → ℕ) → T (allBelow 256 (right bits)) → (b : ℕ) → b < 256 → Ones (bitAnd (bits b) 85) × (total (bitAnd (bits b) 85) ≡ countIn b)
   ones-in bits all-right b small = (ones-of (bits b), eqb→eq (total (bitAnd (bits b) 85)) (countIn b) (below 256 (right bits) all-right b small))
 
-  -- four bytes have what each has
-  pub count-four : (a b c d : ℕ) → count f (entriesOf (a ∷ b ∷ c ∷ d ∷ [])) ≡ countIn a + countIn b + countIn c + countIn d
-  unfolding entriesOf
-  count-four a b c d =
-      omega (arith, count-append f (entriesOf (a ∷ [])) (entriesOf (b ∷ c ∷ d ∷ [])), count-append f (entriesOf (b ∷ [])) (entriesOf (c ∷ d ∷ [])), count-append f (entriesOf (c ∷ [])) (entriesOf (d ∷ [])))
-
   module _ (t : List ℕ) where
     -- how many there are in the first n bytes
     abbrev pub upTo : ℕ → ℕ
@@ -66,9 +60,9 @@ module _ (f : ℕ → Bool) where
     Parts n i = n + before 0 ≡ before i
 
     pub parts-turn : (n i : ℕ) → i < q → Parts n i
-        → Parts (n + count f (entriesOf (getD t i 0 ∷ getD t (q + i) 0 ∷ getD t (2 * q + i) 0 ∷ getD t (3 * q + i) 0 ∷ []))) (i + 1)
+        → Parts (n + (countIn (getD t i 0) + countIn (getD t (q + i) 0) + countIn (getD t (2 * q + i) 0) + countIn (getD t (3 * q + i) 0))) (i + 1)
     parts-turn n i l e =
-        omega (arith, e, count-four (getD t i 0) (getD t (q + i) 0) (getD t (2 * q + i) 0) (getD t (3 * q + i) 0), next i (i + 1) (omega arith) (omega arith), next (q + i) (q + (i + 1)) (omega arith) (omega arith), next (2 * q + i) (2 * q + (i + 1)) (omega arith) (omega arith), next (3 * q + i) (3 * q + (i + 1)) (omega arith) (omega arith))
+        omega (arith, e, next i (i + 1) (omega arith) (omega arith), next (q + i) (q + (i + 1)) (omega arith) (omega arith), next (2 * q + i) (2 * q + (i + 1)) (omega arith) (omega arith), next (3 * q + i) (3 * q + (i + 1)) (omega arith) (omega arith))
 
     pub parts-few : (n i : ℕ) → i ≤ q → Parts n i → n ≤ 16 * length t
     parts-few n i l e =

@@ -30,41 +30,21 @@ fn pairs(s: u8) -> u8
     (s & 0x33) + ((s >> 2) & 0x33)
 }
 
+// How many ones a byte has.
+fn ones_in(b: u8) -> u16
+    requires { ⌜ Ones b ⌝ }
+    ensures { λ r. ⌜ r ≡ total b ⌝ }
+{
+    u8::count_ones(b) as u16
+}
+
 // How many ones four bytes have, which are added in their places first.
-fn sum_of_4(a: u8, b: u8, c: u8, d: u8) -> u16
+fn ones_in_4(a: u8, b: u8, c: u8, d: u8) -> u16
     requires { ⌜ Ones a × (Ones b × (Ones c × Ones d)) ⌝ }
     ensures { λ r. ⌜ r ≡ total a + total b + total c + total d ⌝ }
 {
     let x = pairs(a + b) + pairs(c + d);
     ((x & 15) + (x >> 4)) as u16
-}
-
-// How many entries of a byte are not FREE: its ones.
-fn used_in(b: u8) -> u16
-    ensures { λ r. ⌜ r ≡ used (entriesOf (b ∷ [])) ⌝ }
-{
-    u8::count_ones(used_ones(b)) as u16
-}
-
-// How many entries of four bytes are not FREE.
-fn used_in_4(a: u8, b: u8, c: u8, d: u8) -> u16
-    ensures { λ r. ⌜ r ≡ used (entriesOf (a ∷ b ∷ c ∷ d ∷ [])) ⌝ }
-{
-    sum_of_4(used_ones(a), used_ones(b), used_ones(c), used_ones(d))
-}
-
-// How many entries of a byte are HEAD: its ones.
-fn heads_in(b: u8) -> u16
-    ensures { λ r. ⌜ r ≡ objects (entriesOf (b ∷ [])) ⌝ }
-{
-    u8::count_ones(head_ones(b)) as u16
-}
-
-// How many entries of four bytes are HEAD.
-fn heads_in_4(a: u8, b: u8, c: u8, d: u8) -> u16
-    ensures { λ r. ⌜ r ≡ objects (entriesOf (a ∷ b ∷ c ∷ d ∷ [])) ⌝ }
-{
-    sum_of_4(head_ones(a), head_ones(b), head_ones(c), head_ones(d))
 }
 
 // How many blocks are not FREE, and how many objects there are.
@@ -87,14 +67,14 @@ pub fn count(table: &[u8]) -> Counts
         let b = table[part + i];
         let c = table[2 * part + i];
         let d = table[3 * part + i];
-        used += used_in_4(a, b, c, d);
-        heads += heads_in_4(a, b, c, d);
+        used += ones_in_4(used_ones(a), used_ones(b), used_ones(c), used_ones(d));
+        heads += ones_in_4(head_ones(a), head_ones(b), head_ones(c), head_ones(d));
         i += 1;
     }
     let mut j = 4 * part;
     while j < table.len() {
-        used += used_in(table[j]);
-        heads += heads_in(table[j]);
+        used += ones_in(used_ones(table[j]));
+        heads += ones_in(head_ones(table[j]));
         j += 1;
     }
     Counts {

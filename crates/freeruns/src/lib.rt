@@ -1,7 +1,7 @@
 // Runs of FREE blocks: where the next may start, up to sixteen bytes at a time, and how long the longest is, 32 entries at a time. Beside
 // `entries` only this crate knows how entries lie in bytes.
 ghost use mathlib.Core.Path.{_≡_};
-ghost use Prim.Native.Nat.{ℕ, _+_, _-_, _*_, _^_, _≤_, _<_};
+ghost use Prim.Native.Nat.{ℕ, _+_, _-_, _*_, _≤_, _<_};
 ghost use lib.Dec.{ltb};
 ghost use lib.ListN.{length};
 ghost use Rattle.rules.specs.Entries.{entryOf, entriesOf};

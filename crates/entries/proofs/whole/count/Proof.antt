@@ -55,42 +55,64 @@ add-d c = search needs
 shared-slice-read-d : tie.Need-shared-slice-read-d Inv-loop μ-loop Inv-loop2 μ-loop2
 shared-slice-read-d c = search needs
 
-used-in-4-requires : tie.Need-used-in-4-requires Inv-loop μ-loop Inv-loop2 μ-loop2
-used-in-4-requires c κs = search needs
+used-ones-requires : tie.Need-used-ones-requires Inv-loop μ-loop Inv-loop2 μ-loop2
+used-ones-requires c κs = search needs
+
+used-ones-requires-2 : tie.Need-used-ones-requires-2 Inv-loop μ-loop Inv-loop2 μ-loop2
+used-ones-requires-2 c κs = search needs
+
+used-ones-requires-3 : tie.Need-used-ones-requires-3 Inv-loop μ-loop Inv-loop2 μ-loop2
+used-ones-requires-3 c κs = search needs
+
+used-ones-requires-4 : tie.Need-used-ones-requires-4 Inv-loop μ-loop Inv-loop2 μ-loop2
+used-ones-requires-4 c κs = search needs
+
+ones-in-4-requires : tie.Need-ones-in-4-requires Inv-loop μ-loop Inv-loop2 μ-loop2
+ones-in-4-requires c κs = search needs
 
 -- the used entries after the turn
-used-turn : (c : tie.After-used-in-4 Inv-loop μ-loop Inv-loop2 μ-loop2) →
-    let l = c .before .before .before .before .before .before in
-    let t = l .before .before .args .table .now in
-    Parts isUsed t (l .loop .used + c .used-in-4 .result) (l .loop .i + 1)
+used-turn : (c : tie.After-ones-in-4 Inv-loop μ-loop Inv-loop2 μ-loop2) →
+    let l = c .before .before .before .before .before .before .before .before .before .before in
+    Parts isUsed (l .before .before .args .table .now) (l .loop .used + c .ones-in-4 .result) (l .loop .i + 1)
 unfolding used
 used-turn c =
-    let l = c .before .before .before .before .before .before in
-    let t = l .before .before .args .table .now in
-    rw (c .used-in-4 .ensures) (parts-turn isUsed t (l .loop .used) (l .loop .i) (omega arith) (l .loop .inv .1))
+    let l = c .before .before .before .before .before .before .before .before .before .before in
+    rw (c .ones-in-4 .ensures, c .before .before .before .before .used-ones .ensures .1, c .before .before .before .used-ones2 .ensures .1, c .before .before .used-ones3 .ensures .1, c .before .used-ones4 .ensures .1)
+    (parts-turn isUsed (l .before .before .args .table .now) (l .loop .used) (l .loop .i) (omega arith) (l .loop .inv .1))
 
 add-used : tie.Need-add-used Inv-loop μ-loop Inv-loop2 μ-loop2
 add-used c =
-    let l = c .before .before .before .before .before .before in
+    let l = c .before .before .before .before .before .before .before .before .before .before in
     record { fits = omega (arith, parts-few isUsed (l .before .before .args .table .now) _ (l .loop .i + 1) (omega arith) (used-turn c), l .before .before .pre) }
 
-heads-in-4-requires : tie.Need-heads-in-4-requires Inv-loop μ-loop Inv-loop2 μ-loop2
-heads-in-4-requires c κs = search needs
+head-ones-requires : tie.Need-head-ones-requires Inv-loop μ-loop Inv-loop2 μ-loop2
+head-ones-requires c κs = search needs
+
+head-ones-requires-2 : tie.Need-head-ones-requires-2 Inv-loop μ-loop Inv-loop2 μ-loop2
+head-ones-requires-2 c κs = search needs
+
+head-ones-requires-3 : tie.Need-head-ones-requires-3 Inv-loop μ-loop Inv-loop2 μ-loop2
+head-ones-requires-3 c κs = search needs
+
+head-ones-requires-4 : tie.Need-head-ones-requires-4 Inv-loop μ-loop Inv-loop2 μ-loop2
+head-ones-requires-4 c κs = search needs
+
+ones-in-4-requires-2 : tie.Need-ones-in-4-requires-2 Inv-loop μ-loop Inv-loop2 μ-loop2
+ones-in-4-requires-2 c κs = search needs
 
 -- the HEADs after the turn
-heads-turn : (c : tie.After-heads-in-4 Inv-loop μ-loop Inv-loop2 μ-loop2) →
-    let l = c .before .before .before .before .before .before .before in
-    let t = l .before .before .args .table .now in
-    Parts isHead t (l .loop .heads + c .heads-in-4 .result) (l .loop .i + 1)
+heads-turn : (c : tie.After-ones-in-42 Inv-loop μ-loop Inv-loop2 μ-loop2) →
+    let l = c .before .before .before .before .before .before .before .before .before .before .before .before .before .before .before in
+    Parts isHead (l .before .before .args .table .now) (l .loop .heads + c .ones-in-42 .result) (l .loop .i + 1)
 unfolding objects
 heads-turn c =
-    let l = c .before .before .before .before .before .before .before in
-    let t = l .before .before .args .table .now in
-    rw (c .heads-in-4 .ensures) (parts-turn isHead t (l .loop .heads) (l .loop .i) (omega arith) (l .loop .inv .2))
+    let l = c .before .before .before .before .before .before .before .before .before .before .before .before .before .before .before in
+    rw (c .ones-in-42 .ensures, c .before .before .before .before .head-ones .ensures .1, c .before .before .before .head-ones2 .ensures .1, c .before .before .head-ones3 .ensures .1, c .before .head-ones4 .ensures .1)
+    (parts-turn isHead (l .before .before .args .table .now) (l .loop .heads) (l .loop .i) (omega arith) (l .loop .inv .2))
 
 add-heads : tie.Need-add-heads Inv-loop μ-loop Inv-loop2 μ-loop2
 add-heads c =
-    let l = c .before .before .before .before .before .before .before in
+    let l = c .before .before .before .before .before .before .before .before .before .before .before .before .before .before .before in
     record { fits = omega (arith, parts-few isHead (l .before .before .args .table .now) _ (l .loop .i + 1) (omega arith) (heads-turn c), l .before .before .pre) }
 
 add-i : tie.Need-add-i Inv-loop μ-loop Inv-loop2 μ-loop2
@@ -100,7 +122,7 @@ loop-less : tie.Need-loop-less Inv-loop μ-loop Inv-loop2 μ-loop2
 loop-less c = search needs
 
 loop-again : tie.Need-loop-again Inv-loop μ-loop Inv-loop2 μ-loop2
-loop-again c = (omega arith, used-turn (c .before), heads-turn c)
+loop-again c = (omega arith, used-turn (c .before .before .before .before .before), heads-turn c)
 
 mul-j : tie.Need-mul-j Inv-loop μ-loop Inv-loop2 μ-loop2
 mul-j c = search needs
@@ -115,44 +137,50 @@ loop2-holds c =
       parts-end isHead t (l .heads) (l .i) e (l .inv .2),
     )
 
-shared-slice-read-used-in : tie.Need-shared-slice-read-used-in Inv-loop μ-loop Inv-loop2 μ-loop2
-shared-slice-read-used-in c = search needs
+shared-slice-read-used-ones : tie.Need-shared-slice-read-used-ones Inv-loop μ-loop Inv-loop2 μ-loop2
+shared-slice-read-used-ones c = search needs
 
-used-in-requires : tie.Need-used-in-requires Inv-loop μ-loop Inv-loop2 μ-loop2
-used-in-requires c κs = search needs
+used-ones-requires-5 : tie.Need-used-ones-requires-5 Inv-loop μ-loop Inv-loop2 μ-loop2
+used-ones-requires-5 c κs = search needs
+
+ones-in-requires : tie.Need-ones-in-requires Inv-loop μ-loop Inv-loop2 μ-loop2
+ones-in-requires c κs = search needs
 
 -- the used entries with those of byte j
-used-next : (c : tie.After-used-in Inv-loop μ-loop Inv-loop2 μ-loop2) →
-    let l = c .before .before .before in
-    l .loop2 .used + c .used-in .result ≡ upTo isUsed (l .before .before .before .before .args .table .now) (l .loop2 .j + 1)
+used-next : (c : tie.After-ones-in Inv-loop μ-loop Inv-loop2 μ-loop2) →
+    let l = c .before .before .before .before in
+    l .loop2 .used + c .ones-in .result ≡ upTo isUsed (l .before .before .before .before .args .table .now) (l .loop2 .j + 1)
 unfolding used
 used-next c =
-    let l = c .before .before .before in
-    omega (arith, c .used-in .ensures, next isUsed (l .before .before .before .before .args .table .now) (l .loop2 .j) (l .loop2 .j + 1) (omega arith) (omega arith), l .loop2 .inv .1)
+    let l = c .before .before .before .before in
+    omega (arith, c .ones-in .ensures, c .before .used-ones5 .ensures .1, next isUsed (l .before .before .before .before .args .table .now) (l .loop2 .j) (l .loop2 .j + 1) (omega arith) (omega arith), l .loop2 .inv .1)
 
 add-used-2 : tie.Need-add-used-2 Inv-loop μ-loop Inv-loop2 μ-loop2
 add-used-2 c =
-    let l = c .before .before .before in
+    let l = c .before .before .before .before in
     record { fits = omega (arith, used-next c, few isUsed (l .before .before .before .before .args .table .now) (l .loop2 .j + 1) (omega arith), l .before .before .before .before .pre) }
 
-shared-slice-read-heads-in : tie.Need-shared-slice-read-heads-in Inv-loop μ-loop Inv-loop2 μ-loop2
-shared-slice-read-heads-in c = search needs
+shared-slice-read-head-ones : tie.Need-shared-slice-read-head-ones Inv-loop μ-loop Inv-loop2 μ-loop2
+shared-slice-read-head-ones c = search needs
 
-heads-in-requires : tie.Need-heads-in-requires Inv-loop μ-loop Inv-loop2 μ-loop2
-heads-in-requires c κs = search needs
+head-ones-requires-5 : tie.Need-head-ones-requires-5 Inv-loop μ-loop Inv-loop2 μ-loop2
+head-ones-requires-5 c κs = search needs
+
+ones-in-requires-2 : tie.Need-ones-in-requires-2 Inv-loop μ-loop Inv-loop2 μ-loop2
+ones-in-requires-2 c κs = search needs
 
 -- the HEADs with those of byte j
-heads-next : (c : tie.After-heads-in Inv-loop μ-loop Inv-loop2 μ-loop2) →
-    let l = c .before .before .before .before .before in
-    l .loop2 .heads + c .heads-in .result ≡ upTo isHead (l .before .before .before .before .args .table .now) (l .loop2 .j + 1)
+heads-next : (c : tie.After-ones-in2 Inv-loop μ-loop Inv-loop2 μ-loop2) →
+    let l = c .before .before .before .before .before .before .before in
+    l .loop2 .heads + c .ones-in2 .result ≡ upTo isHead (l .before .before .before .before .args .table .now) (l .loop2 .j + 1)
 unfolding objects
 heads-next c =
-    let l = c .before .before .before .before .before in
-    omega (arith, c .heads-in .ensures, next isHead (l .before .before .before .before .args .table .now) (l .loop2 .j) (l .loop2 .j + 1) (omega arith) (omega arith), l .loop2 .inv .2)
+    let l = c .before .before .before .before .before .before .before in
+    omega (arith, c .ones-in2 .ensures, c .before .head-ones5 .ensures .1, next isHead (l .before .before .before .before .args .table .now) (l .loop2 .j) (l .loop2 .j + 1) (omega arith) (omega arith), l .loop2 .inv .2)
 
 add-heads-2 : tie.Need-add-heads-2 Inv-loop μ-loop Inv-loop2 μ-loop2
 add-heads-2 c =
-    let l = c .before .before .before .before .before in
+    let l = c .before .before .before .before .before .before .before in
     record { fits = omega (arith, heads-next c, few isHead (l .before .before .before .before .args .table .now) (l .loop2 .j + 1) (omega arith), l .before .before .before .before .pre) }
 
 add-j : tie.Need-add-j Inv-loop μ-loop Inv-loop2 μ-loop2
@@ -162,7 +190,7 @@ loop2-less : tie.Need-loop2-less Inv-loop μ-loop Inv-loop2 μ-loop2
 loop2-less c = search needs
 
 loop2-again : tie.Need-loop2-again Inv-loop μ-loop Inv-loop2 μ-loop2
-loop2-again c = (omega arith, used-next (c .before .before), heads-next c)
+loop2-again c = (omega arith, used-next (c .before .before .before), heads-next c)
 
 cast-t11 : tie.Need-cast-t11 Inv-loop μ-loop Inv-loop2 μ-loop2
 cast-t11 c =
@@ -200,20 +228,30 @@ count-spec =
     mul-d
     add-d
     shared-slice-read-d
-    used-in-4-requires
+    used-ones-requires
+    used-ones-requires-2
+    used-ones-requires-3
+    used-ones-requires-4
+    ones-in-4-requires
     add-used
-    heads-in-4-requires
+    head-ones-requires
+    head-ones-requires-2
+    head-ones-requires-3
+    head-ones-requires-4
+    ones-in-4-requires-2
     add-heads
     add-i
     loop-less
     loop-again
     mul-j
     loop2-holds
-    shared-slice-read-used-in
-    used-in-requires
+    shared-slice-read-used-ones
+    used-ones-requires-5
+    ones-in-requires
     add-used-2
-    shared-slice-read-heads-in
-    heads-in-requires
+    shared-slice-read-head-ones
+    head-ones-requires-5
+    ones-in-requires-2
     add-heads-2
     add-j
     loop2-less

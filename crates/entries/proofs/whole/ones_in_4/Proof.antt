@@ -1,12 +1,12 @@
--- `sum_of_4`: the pairs of a sum are the sums of the pairs, and the halves of a byte hold what four bytes have.
+-- `ones_in_4`: the pairs of a sum are the sums of the pairs, and the halves of a byte hold what four bytes have.
 -- Assumes nothing.
 use Prim.Native.Nat.{_+_}
 use native.Mathlib.Omega.{arith}
 use borrow.Author.Needs.{needs}
 use lib.Bits.{and-le-r}
 use Rattle.entries.proofs.Places.{byte-le, paired-le, paired-sum, halves}
-use Rattle.entries.proofs.whole.sum_of_4.Statement.{statement}
-use Rattle.entries.proofs.whole.sum_of_4.Tie as tie
+use Rattle.entries.proofs.whole.ones_in_4.Statement.{statement}
+use Rattle.entries.proofs.whole.ones_in_4.Tie as tie
 
 add-pairs : tie.Need-add-pairs
 add-pairs c = record { fits = omega (arith, byte-le (c .args .a) (omega arith) (c .pre .0), byte-le (c .args .b) (omega arith) (c .pre .1 .0)) }
@@ -38,8 +38,8 @@ returns c =
     halves (a .a) (a .b) (a .c) (a .d) (c .before .pairs .result + c .pairs2 .result) (p .0) (p .1 .0) (p .1 .1 .0) (p .1 .1 .1)
     (rw (c .before .pairs .ensures, c .pairs2 .ensures, paired-sum (a .a) (a .b) (omega arith) (omega arith) (p .0) (p .1 .0), paired-sum (a .c) (a .d) (omega arith) (omega arith) (p .1 .1 .0) (p .1 .1 .1)))
 
-pub sum-of-4-spec : {M : Type 1} → statement M
-sum-of-4-spec =
+pub ones-in-4-spec : {M : Type 1} → statement M
+ones-in-4-spec =
     tie.close
     (tie.spec
     add-pairs
