@@ -2,23 +2,24 @@
 -- Assumes nothing.
 use mathlib.Core.Path.{_≡_, refl, ap, _∙_}
 use mathlib.Core.Logic.{_≢_}
-use mathlib.Core.Bool.{true}
-use mathlib.Core.List.{List}
+use mathlib.Core.Bool.{true, not}
+use mathlib.Core.List.{List, [], _∷_}
 use Prim.Native.Nat.{ℕ, _+_, _*_, _/_, _%_, _≤_, _<_}
 use native.Mathlib.Omega.{arith}
 use lib.ListN.{length, getD}
+use borrow.Author.Tests.{ltb-false, le-ltb}
 use Rattle.rules.specs.Words.{wordsOf}
 use Rattle.rules.specs.Entries.{FREE}
 use Rattle.rules.specs.Tables.{entryAt, wellFormed, blockCount, used}
 use Rattle.rules.specs.Outcomes.{Heap, Outcome, heapOf, unlessRefused}
-use Rattle.rules.specs.Refusals.{firstOf, goodLists, collectionTests}
+use Rattle.rules.specs.Refusals.{firstOf, goodLists, badShape, illFormed, manyRoots, longStack, collectionTests}
 use Rattle.rules.specs.Calls.{collecting, collect}
-use Rattle.rules.specs.Meaning.{Accepted}
+use Rattle.rules.specs.Meaning.{Passed, Accepted}
 use Rattle.rules.proofs.Entries.{entriesOf-lt}
-use Rattle.rules.proofs.Refusals.{first-passed, accepts, accepted-none}
+use Rattle.rules.proofs.Refusals.{first-no, first-last, first-none, first-passed, lists-of, lists-say, accepts, accepted-none}
 use Rattle.rules.proofs.Tables.{extent-of, extent-used}
 use Rattle.rules.proofs.Marking.{head-inside}
-use Rattle.keeping.specs.Keeping.{marking, collected, Collected, KeepsExactly, AnyStack, Agree}
+use Rattle.keeping.specs.Keeping.{marking, collected, Collected, KeepsExactly, AnyStack, Agree, GoodRoots, GoodStack}
 use Rattle.keeping.proofs.Owners.{reachable-head}
 use Rattle.keeping.proofs.Kept.{keeps}
 use Rattle.keeping.proofs.Counts.{few-rescans, used-less}
@@ -33,21 +34,53 @@ pub collect-from : (base : ℕ) (h : Heap) (roots stack : List ℕ)
 unfolding collect marking
 collect-from base h roots stack = refl
 
-tests-well : (base : ℕ) (h : Heap) (roots stack : List ℕ) → firstOf (collectionTests base h roots stack) ≡ 0 → wellFormed (h .entries) ≡ true
-tests-well base h roots stack e =
-    first-passed (goodLists base h roots stack) h _ e .1
+-- ---- what a collection asks
+
+-- it is accepted exactly if these are
+pub record Asked (base : ℕ) (h : Heap) (roots stack : List ℕ) : Type 0 where
+  pub passed : Passed base h
+  pub good-roots : GoodRoots roots
+  pub good-stack : GoodStack stack
+
+module _ (base : ℕ) (h : Heap) (roots stack : List ℕ) where
+  pub tests-ask : firstOf (collectionTests base h roots stack) ≡ 0 → Asked base h roots stack
+  tests-ask e =
+      let p = first-passed (goodLists base h roots stack) h _ e in
+      let s = lists-say base h roots stack (p .0) in
+      let r = first-none (manyRoots roots) (longStack stack ∷ []) (omega arith) (p .2) in
+      let t = first-none (longStack stack) [] (omega arith) (r .1) in
+      record {
+        passed = record { shape = s .0; well = p .1 };
+        good-roots = record { whole = s .1; few = ltb-false 4096 (length roots / 4) (r .0) };
+        good-stack = record { whole = s .2; short = ltb-false 64 (length stack / 4) (t .0) };
+      }
+
+  tests-none : Asked base h roots stack → firstOf (collectionTests base h roots stack) ≡ 0
+  tests-none a =
+      first-no (badShape (goodLists base h roots stack)) _ (ap not (lists-of base h roots stack (a .passed .shape, a .good-roots .whole, a .good-stack .whole)))
+      ∙ first-no (illFormed h) _ (ap not (a .passed .well))
+      ∙ first-no (manyRoots roots) _ (le-ltb 4096 (length roots / 4) (a .good-roots .few))
+      ∙ first-last (longStack stack) (le-ltb 64 (length stack / 4) (a .good-stack .short))
+
+  no-refusal : Accepted (collect base h roots stack) → firstOf (collectionTests base h roots stack) ≡ 0
+  no-refusal accepted =
+      accepted-none (firstOf (collectionTests base h roots stack)) h stack (acted base h roots stack) (rw (collect-from base h roots stack) at accepted)
+
+  pub collect-asks : Accepted (collect base h roots stack) → Asked base h roots stack
+  collect-asks accepted = tests-ask (no-refusal accepted)
+
+  pub collect-accepts : Asked base h roots stack → Accepted (collect base h roots stack)
+  unfolding collecting
+  collect-accepts a = rw (collect-from base h roots stack ∙ accepts h stack (acted base h roots stack) (tests-none a)) refl
 
 -- ---- one collection
 
 module _ (base : ℕ) (h : Heap) (roots stack : List ℕ) (accepted : Accepted (collect base h roots stack)) where
-  no-refusal : firstOf (collectionTests base h roots stack) ≡ 0
-  no-refusal = accepted-none (firstOf (collectionTests base h roots stack)) h stack (acted base h roots stack) (rw (collect-from base h roots stack) at accepted)
-
   pub collect-is : collect base h roots stack ≡ acted base h roots stack
-  collect-is = collect-from base h roots stack ∙ accepts h stack (acted base h roots stack) no-refusal
+  collect-is = collect-from base h roots stack ∙ accepts h stack (acted base h roots stack) (no-refusal base h roots stack accepted)
 
   pub collect-well : wellFormed (h .entries) ≡ true
-  collect-well = tests-well base h roots stack no-refusal
+  collect-well = collect-asks base h roots stack accepted .passed .well
 
   pub collect-entries : collect base h roots stack .heap .entries ≡ collected base h (wordsOf roots) (length stack / 4)
   unfolding collecting collected

@@ -118,6 +118,13 @@ pub record AgreeInWords (base : ℕ) (roots : List ℕ) (h g : Heap) : Type 0 wh
   pub table : h .entries ≡ g .entries
   pub words : (o : ℕ) → Reachable base h roots o → (i : ℕ) → i < 4 * blockCount (h .entries) o → wordAt (h .pool) (4 * o + i) ≡ wordAt (g .pool) (4 * o + i)
 
+-- ---- what a collection asks of the lists that are lent to it
+
+-- a root list of 0 to 4,096 whole words
+pub record GoodRoots (roots : List ℕ) : Type 0 where
+  pub whole : length roots % 4 ≡ 0
+  pub few : length roots / 4 ≤ 4096
+
 -- a mark stack of 0 to 64 whole entries
 pub record GoodStack (stack : List ℕ) : Type 0 where
   pub whole : length stack % 4 ≡ 0

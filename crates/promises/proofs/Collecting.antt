@@ -3,19 +3,14 @@
 use mathlib.Core.Path.{ap, _∙_}
 use mathlib.Core.List.{List}
 use Prim.Native.Nat.{ℕ, _+_, _*_}
-use native.Mathlib.Omega.{arith}
 use lib.ListN.{length, getD}
 use Rattle.rules.specs.Outcomes.{Heap, Outcome, heapOf}
-use Rattle.rules.specs.Refusals.{badShape, goodLists}
 use Rattle.rules.specs.Calls.{collect}
 use Rattle.rules.specs.Meaning.{Shape, Accepted}
-use Rattle.rules.proofs.Refusals.{not-false, first-none}
 use Rattle.rules.proofs.Calls.{collect-change}
 use Rattle.keeping.specs.Keeping.{Collected}
-use Rattle.keeping.proofs.Collections.{keeps-exactly, collect-less}
+use Rattle.keeping.proofs.Collections.{collect-asks, keeps-exactly, collect-less}
 use Rattle.promises.specs.Promises.{Reclaimed}
-use Rattle.promises.proofs.Checked.{collect-checked, no-refusal}
-use Rattle.promises.proofs.Numbers.{lists-say}
 use Rattle.promises.proofs.Counting.{counts-of, shape-kept}
 
 module _ (base : ℕ) (pool table roots stack : List ℕ) (accepted : Accepted (collect base (heapOf pool table) roots stack)) where
@@ -26,9 +21,7 @@ module _ (base : ℕ) (pool table roots stack : List ℕ) (accepted : Accepted (
   r = collect base h roots stack
 
   shape : Shape base h
-  shape =
-      let a = first-none (badShape (goodLists base h roots stack)) _ (omega arith) (no-refusal (collect-checked base h roots stack) accepted) in
-      lists-say base h roots stack (not-false _ (a .0)) .0
+  shape = collect-asks base h roots stack accepted .passed .shape
 
   pub reclaimed : Reclaimed base h roots r
   reclaimed =

@@ -8,16 +8,16 @@ use mathlib.Core.Option.{Option, some, none}
 use Prim.Native.Nat.{ℕ, _*_, _/_, _%_, _≤_, _<_}
 use native.Mathlib.Omega.{arith}
 use lib.ListN.{length}
-use borrow.Author.Tests.{eqb-true, eqb-false, leb-true, leb-false, ltb-true, ltb-false, eq-eqb}
-use Rattle.rules.specs.Tests.{pick, both, isNone}
+use borrow.Author.Tests.{eqb-true, eqb-false, leb-true, leb-false, ltb-true, ltb-false}
+use Rattle.rules.specs.Tests.{pick, isNone}
 use Rattle.rules.specs.Entries.{HEAD}
 use Rattle.rules.specs.Tables.{entryAt, isHead, wellFormed, blockCount, firstRun}
 use Rattle.rules.specs.Meaning.{Well, Lowest, Shape, Passed, Accepted}
 use Rattle.rules.specs.Outcomes.{Heap}
-use Rattle.rules.specs.Refusals.{Test, firstOf, goodShape, wholeWords, badShape, goodLists, illFormed, manyRoots, longStack, noBytes, outside, noHead, noWord, noRoom, wordTests}
+use Rattle.rules.specs.Refusals.{Test, firstOf, goodShape, badShape, goodLists, illFormed, manyRoots, longStack, noBytes, outside, noHead, noWord, noRoom, wordTests}
 use Rattle.rules.specs.Calls.{Way, stay, shrink, grow, move, noWay, isNoWay, wayTo, blocksFor, init, allocate, free, reallocate, collect, survey, load, store, wayOf}
 use Rattle.rules.specs.Runs.{Call, Init, Allocate, Free, Reallocate, Collect, Survey, Load, Store, step}
-use Rattle.rules.proofs.Refusals.{true-not-false, both-left, both-right, not-true, not-false, first-yes, first-no, passes, asks, names, shape-true, shape-of}
+use Rattle.rules.proofs.Refusals.{true-not-false, not-true, not-false, first-yes, first-no, passes, asks, names, shape-true, shape-of, lists-of, lists-say}
 use Rattle.rules.proofs.Tables.{entry-inside, extent-of, well-says, well-of, first-lowest, none-first}
 use Rattle.rules.proofs.Calls.{Ways, stays, shrinks, grows, moves, stuck, way-says, way-is, blocks-some, blocks-enough, blocks-least, blocks-more}
 use Rattle.promises.specs.Conditions.{Condition, when, First, NoRun, NoWay, ofInit, ofAllocate, ofFree, ofReallocate, ofCollect, ofSurvey, ofWord}
@@ -173,26 +173,13 @@ module _ (base : ℕ) (h : Heap) where
       (way-some k (blocksFor bytes) (wayOf h k bytes) way)
       (λ _. first-end))))))
 
-  -- a collection's first test: the shape, and whole words
-  lists-of : (roots stack : List ℕ) → Shape base h × (length roots % 4 ≡ 0) × (length stack % 4 ≡ 0)
-      → both (goodShape base h) (both (wholeWords roots) (wholeWords stack)) ≡ true
-  unfolding wholeWords
-  lists-of roots stack s = rw (shape-of base h (s .0), eq-eqb (length roots % 4) 0 (s .1), eq-eqb (length stack % 4) 0 (s .2))
-
-  pub lists-say : (roots stack : List ℕ) → both (goodShape base h) (both (wholeWords roots) (wholeWords stack)) ≡ true
-      → Shape base h × (length roots % 4 ≡ 0) × (length stack % 4 ≡ 0)
-  unfolding wholeWords
-  lists-say roots stack e =
-      let lists = both-right (goodShape base h) _ e in
-      (shape-true base h (both-left (goodShape base h) _ e), eqb-true _ _ (both-left (wholeWords roots) _ lists), eqb-true _ _ (both-right (wholeWords roots) _ lists))
-
   pub collect-refusal : (roots stack : List ℕ) → First (ofCollect base h roots stack) (collect base h roots stack .answer .refusal)
   unfolding ofCollect
   collect-refusal roots stack =
       rw (number (collect-checked base h roots stack))
       (first-step (badShape (goodLists base h roots stack)) _ (when 1 (¬ (Shape base h × (length roots % 4 ≡ 0) × (length stack % 4 ≡ 0)))) _ refl
-      (λ e f. true-not-false (lists-of roots stack f) (not-true _ e))
-      (λ e f. f (lists-say roots stack (not-false _ e)))
+      (λ e f. true-not-false (lists-of base h roots stack f) (not-true _ e))
+      (λ e f. f (lists-say base h roots stack (not-false _ e)))
       (λ _. well-step _ _
       (first-step (manyRoots roots) _ (when 3 (4096 < length roots / 4)) _ refl
       (λ e. ltb-true 4096 (length roots / 4) e)

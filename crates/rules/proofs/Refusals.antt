@@ -14,7 +14,7 @@ use Rattle.rules.specs.Pointers.{addressOf, goodBase}
 use Rattle.rules.specs.Entries.{HEAD, entriesOf}
 use Rattle.rules.specs.Tables.{entryAt, wellFormed}
 use Rattle.rules.specs.Outcomes.{Heap, Outcome, heapOf, onlyRefusal, unlessRefused}
-use Rattle.rules.specs.Refusals.{Test, firstOf, goodShape, badShape, illFormed, firstTests, heapTests, nameTests, noBytes, outside, noHead}
+use Rattle.rules.specs.Refusals.{Test, firstOf, goodShape, wholeWords, goodLists, badShape, illFormed, firstTests, heapTests, nameTests, noBytes, outside, noHead}
 use Rattle.rules.specs.Meaning.{Shape, ShapeInBytes, Passed, Named, Accepted}
 use Rattle.rules.proofs.Entries.{length-entriesOf}
 
@@ -176,6 +176,17 @@ shape-in-bytes base pool table = (there, back)
 -- a table of a heap of good shape has at most 1,024 bytes
 pub few-bytes : (base : ℕ) (pool table : List ℕ) → Shape base (heapOf pool table) → length table ≤ 1024
 few-bytes base pool table s = shape-in-bytes base pool table .0 s .few
+
+-- of a collection: the shape, and whole words
+pub lists-of : (base : ℕ) (h : Heap) (roots stack : List ℕ) → Shape base h × (length roots % 4 ≡ 0) × (length stack % 4 ≡ 0) → goodLists base h roots stack ≡ true
+unfolding wholeWords
+lists-of base h roots stack s = rw (shape-of base h (s .0), eq-eqb (length roots % 4) 0 (s .1), eq-eqb (length stack % 4) 0 (s .2))
+
+pub lists-say : (base : ℕ) (h : Heap) (roots stack : List ℕ) → goodLists base h roots stack ≡ true → Shape base h × (length roots % 4 ≡ 0) × (length stack % 4 ≡ 0)
+unfolding wholeWords
+lists-say base h roots stack e =
+    let lists = both-right (goodShape base h) _ e in
+    (shape-true base h (both-left (goodShape base h) _ e), eqb-true _ _ (both-left (wholeWords roots) _ lists), eqb-true _ _ (both-right (wholeWords roots) _ lists))
 
 -- ---- what a call knows once it is not refused
 

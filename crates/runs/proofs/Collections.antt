@@ -16,17 +16,16 @@ use Rattle.rules.specs.Entries.{FREE}
 use Rattle.rules.specs.Tables.{entryAt, wellFormed}
 use Rattle.rules.specs.Forms.{Small}
 use Rattle.rules.specs.Outcomes.{Heap}
-use Rattle.rules.specs.Refusals.{firstOf, wholeWords, goodLists, collectionTests}
+use Rattle.rules.specs.Refusals.{wholeWords}
 use Rattle.rules.specs.Calls.{collecting, collect}
 use Rattle.rules.specs.Runs.{Collect}
 use Rattle.rules.specs.Meaning.{Accepted}
-use Rattle.rules.proofs.Refusals.{both-left, shape-true, accepted-none, first-passed}
 use Rattle.rules.proofs.Matching.{SameByte, Matching, match-sets}
 use Rattle.rules.proofs.Twice.{heap, unless-both, shape-same}
 use Rattle.keeping.specs.Keeping.{collected, Agree}
 use Rattle.keeping.proofs.Kept.{collected-used}
 use Rattle.keeping.proofs.Alike.{agree-words, marking-alike, collected-alike, collected-bytes}
-use Rattle.keeping.proofs.Collections.{acted, collect-from, collect-is, used-agree}
+use Rattle.keeping.proofs.Collections.{acted, collect-from, tests-ask, collect-asks, collect-is, used-agree}
 use Rattle.runs.specs.Noninterference.{SameStacks, equally-long, both-good, SameAnswer, equal, but-rescans}
 use Rattle.runs.proofs.Same.{Same}
 
@@ -67,19 +66,12 @@ module _ (base : ℕ) (roots es p q stack stack′ : List ℕ) (well : wellForme
 
 -- ---- a collection on pools that match
 
--- a collection that is not refused has a pool that suits the table, and a well-formed table
-suits : (base : ℕ) (h : Heap) (roots stack : List ℕ) → firstOf (collectionTests base h roots stack) ≡ 0
-    → (length (h .pool) ≡ 16 * length (h .entries)) × (wellFormed (h .entries) ≡ true)
-suits base h roots stack z =
-    let p = first-passed (goodLists base h roots stack) h _ z in
-    (shape-true base h (both-left _ _ (p .0)) .pool, p .1)
-
 pub same-collect : (base : ℕ) (roots es p q stack stack′ : List ℕ) → Matching es p q → SameStacks stack stack′
     → Same (Collect base roots) stack stack′ (collect base (heap p es) roots stack) (collect base (heap q es) roots stack′)
 same-collect base roots es p q stack stack′ match s =
     rw (collect-from base g roots stack, collect-from base g′ roots stack′, shape-same base es p q (match .long), stacks-whole s, stacks-short s)
     (unless-both (Same (Collect base roots) stack stack′) _ (λ r. record { answer = equal refl; table = refl; match = match })
-    (λ z. let well = suits base g′ roots stack′ z .1 in
+    (λ z. let well = tests-ask base g′ roots stack′ z .passed .well in
     same-acted base roots es p q stack stack′ well (used-agree base (wordsOf roots) g g′ well refl used)
     (match-sets _ 0 [] match (λ i u. inl (λ f. u (collected-used base g (wordsOf roots) (length stack / 4) well (i / 16) u ∙ f))))))
   where
@@ -100,14 +92,12 @@ pub same-first : (base : ℕ) (roots es p q stack stack′ : List ℕ) → Small
 same-first base roots es p q stack stack′ small a x x′ =
     let h = heap p es in
     let h′ = heap q es in
-    let z = accepted-none _ h stack _ (rw collect-from at x) in
-    let z′ = accepted-none _ h′ stack′ _ (rw collect-from at x′) in
-    let s = suits base h roots stack z in
-    let s′ = suits base h′ roots stack′ z′ in
+    let s = collect-asks base h roots stack x .passed in
+    let s′ = collect-asks base h′ roots stack′ x′ .passed in
     rw (collect-is base h roots stack x, collect-is base h′ roots stack′ x′)
-    (same-acted base roots es p q stack stack′ (s .1) a
+    (same-acted base roots es p q stack stack′ (s .well) a
     (record {
-      long = s .0 ∙ sym (s′ .0);
+      long = s .shape .pool ∙ sym (s′ .shape .pool);
       bytes = λ i u. let e : 16 * (i / 16) + i % 16 ≡ i = omega arith in
-          rw e at (collected-bytes base h h′ (wordsOf roots) (length stack / 4) (record { well = s .1; small = small }) a (i / 16) u (i % 16) (omega arith));
+          rw e at (collected-bytes base h h′ (wordsOf roots) (length stack / 4) (record { well = s .well; small = small }) a (i / 16) u (i % 16) (omega arith));
     }))
