@@ -5,14 +5,14 @@ use mathlib.Core.Logic.{inl, inr, ⊎-elim}
 use mathlib.Core.Bool.{Bool, true, false}
 use mathlib.Core.List.{List}
 use mathlib.Core.Option.{Option, some, none}
-use Prim.Native.Nat.{ℕ, _-_, _/_, _%_}
+use Prim.Native.Nat.{ℕ, _+_, _-_, _/_, _%_, _<_}
 use native.Mathlib.Omega.{arith}
 use lib.Dec.{eqb, leb, ltb}
 use lib.ListN.{length}
 use borrow.Author.Tests.{eqb-true, eqb-false, leb-true, leb-false, ltb-true, ltb-false}
 use Rattle.rules.specs.Tests.{pick, both, either}
 use Rattle.rules.specs.Entries.{HEAD, MARK}
-use Rattle.rules.specs.Tables.{entryAt}
+use Rattle.rules.specs.Tables.{entryAt, blockCount}
 use Rattle.rules.specs.Pointers.{addressOf, targetOf, headsObject, headAt, leadsTo}
 use Rattle.rules.specs.Meaning.{Points, Heads, Leads}
 
@@ -56,3 +56,13 @@ leads-one base es w (some k) (some j) x y = ap some (omega (arith, x .1, y .1))
 leads-one base es w (some k) none x y = absurd (y k (x .0) (x .2) (x .1))
 leads-one base es w none (some j) x y = absurd (x j (y .0) (y .2) (y .1))
 leads-one base es w none none x y = refl
+
+-- a word leads to the same object in another table of that length which has each of its blocks
+pub leads-stays : (base : ℕ) (es es′ : List ℕ) (w k : ℕ) → length es′ ≡ length es → ((i : ℕ) → i < blockCount es k → entryAt es′ (k + i) ≡ entryAt es (k + i))
+    → leadsTo base es w ≡ some k → leadsTo base es′ w ≡ some k
+unfolding Leads blockCount
+leads-stays base es es′ w k long same q =
+    let l : Leads base es w (some k) = rw q at (leads-says base es w) in
+    let first : k + 0 ≡ k = omega arith in
+    let e : entryAt es′ k ≡ entryAt es k = rw first at (same 0 (omega arith)) in
+    leads-one base es′ w (leadsTo base es′ w) (some k) (leads-says base es′ w) (omega (arith, long, l .0), l .1, rw e (l .2))

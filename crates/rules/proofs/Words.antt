@@ -1,14 +1,14 @@
 -- Laws of words in bytes: a number and its four bytes say the same, and a stored word is read back and changes nothing else.
 -- Assumes nothing.
-use mathlib.Core.Path.{_≡_, refl}
+use mathlib.Core.Path.{_≡_, refl, sym, _∙_}
 use mathlib.Core.Logic.{_≢_}
-use mathlib.Core.List.{List, [], _∷_}
-use Prim.Native.Nat.{ℕ, _+_, _*_, _/_, _%_, _^_, _≤_, _<_}
+use mathlib.Core.List.{List, [], _∷_, _++_}
+use Prim.Native.Nat.{ℕ, _+_, _*_, _-_, _/_, _%_, _^_, _≤_, _<_}
 use native.Mathlib.Nat.{div-div-eq-div-mul}
 use native.Mathlib.Decide.{decLt}
 use native.Mathlib.Omega.{arith}
-use lib.ListN.{length, getD}
-use lib.Seq.{length-sets}
+use lib.ListN.{length, getD, length-append, List·getD-append}
+use lib.Seq.{ext-getD, getD-append-add, length-sets}
 use Rattle.rules.specs.Words.{number, bytesOf, wordAt, withWord, wordsOf}
 use Rattle.rules.proofs.Lists.{sets-before, sets-after, sets-in, length-tabulate, getD-tabulate}
 
@@ -65,6 +65,30 @@ length-wordsOf bs = length-tabulate (length bs / 4) (wordAt bs)
 pub getD-wordsOf : (bs : List ℕ) (i : ℕ) → 4 * i + 4 ≤ length bs → getD (wordsOf bs) i 0 ≡ wordAt bs i
 unfolding wordsOf
 getD-wordsOf bs i h = getD-tabulate (length bs / 4) (wordAt bs) i 0 (omega arith)
+
+-- the words of two lists, the first of whole words
+pub wordsOf-append : (bs cs : List ℕ) → length bs % 4 ≡ 0 → wordsOf (bs ++ cs) ≡ wordsOf bs ++ wordsOf cs
+wordsOf-append bs cs whole =
+    ext-getD 0 (wordsOf (bs ++ cs)) (wordsOf bs ++ wordsOf cs)
+    (rw (length-wordsOf (bs ++ cs), length-append bs cs, length-append (wordsOf bs) (wordsOf cs), length-wordsOf bs, length-wordsOf cs) (omega arith))
+    (λ i l. go i (rw (length-wordsOf, length-append) at l) (decLt i n))
+  where
+    n : ℕ
+    n = length bs / 4
+
+    go : (i : ℕ) → i < (length bs + length cs) / 4 → Dec (i < n) → getD (wordsOf (bs ++ cs)) i 0 ≡ getD (wordsOf bs ++ wordsOf cs) i 0
+    go i l (yes b) =
+        getD-wordsOf (bs ++ cs) i (rw length-append (omega arith))
+        ∙ wordAt-same (bs ++ cs) bs i i (λ k h. List·getD-append bs cs 0 (4 * i + k) (omega arith))
+        ∙ sym (getD-wordsOf bs i (omega arith))
+        ∙ sym (List·getD-append (wordsOf bs) (wordsOf cs) 0 i (rw length-wordsOf b))
+    go i l (no b) =
+        let e : length (wordsOf bs) + (i - n) ≡ i = omega (arith, length-wordsOf bs) in
+        getD-wordsOf (bs ++ cs) i (rw length-append (omega arith))
+        ∙ wordAt-same (bs ++ cs) cs i (i - n)
+        (λ k h. let f : length bs + (4 * (i - n) + k) ≡ 4 * i + k = omega arith in rw f at (getD-append-add bs cs (4 * (i - n) + k) 0))
+        ∙ sym (getD-wordsOf cs (i - n) (omega arith))
+        ∙ (rw e at (sym (getD-append-add (wordsOf bs) (wordsOf cs) (i - n) 0)))
 
 -- ---- a stored word
 
