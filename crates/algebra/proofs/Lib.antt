@@ -1,0 +1,4 @@
+pub mod Roots
+pub mod Frees
+pub mod Collecting
+pub mod Algebra
