@@ -11,8 +11,8 @@ use Rattle.rules.specs.Runs.{Call, Free, Collect, Survey, step}
 use Rattle.rules.specs.Meaning.{Passed, Accepted}
 use Rattle.rules.specs.Memory.{Memory, memory, heapIn, Sound, Result, AcceptedIn, perform}
 use Rattle.rules.proofs.Refusals.{passed}
-use Rattle.rules.proofs.Memory.{Written, accepted-sound, follows-sound, refusal-in}
-use Rattle.keeping.specs.Keeping.{Keeps, butRescans}
+use Rattle.rules.proofs.Memory.{Written, passes-in, perform-accepted, accepted-sound, follows-sound, refusal-in}
+use Rattle.keeping.specs.Keeping.{Keeps}
 use Rattle.keeping.proofs.Collections.{collect-keeps}
 use Rattle.promises.proofs.Checked.{survey-checked, no-refusal}
 use Rattle.algebra.specs.Algebra.{freeIn, collectIn, Usable, FreesCommute, RootsAreASet, RootsJoin, CollectIdempotent}
@@ -103,15 +103,13 @@ module _ {f : Form} (faithful : Faithful f) (base : ℕ) (roots stack : List ℕ
       (s, collects-of s (sym (refusal-in f faithful (Collect base roots) stack m s) ∙ x))
 
 pub roots-are-a-set : RootsAreASet
-roots-are-a-set f faithful base roots roots′ stack stack′ m x members good-roots good-stack =
-    let (s, c) = accepted-collects faithful base roots stack m x in
-    let (z, heap, answer) = members-same base (heapIn f m) roots roots′ stack stack′ (c .accepted) members good-roots good-stack in
-    let c′ = collects-of faithful base roots′ stack′ m s z in
-    record {
-      accepted = c′ .does .accepted;
-      same = memory-same (c .does) (c′ .does) heap;
-      answer = ap butRescans (c .does .answer) ∙ answer ∙ sym (ap butRescans (c′ .does .answer));
-    }
+unfolding step
+roots-are-a-set f base roots roots′ stack stack′ m x members good-roots good-stack =
+    let p = passes-in f (Collect base roots) stack m x in
+    let (z, heap, answer) = members-same base (heapIn f m) roots roots′ stack stack′ (p .own) members good-roots good-stack in
+    let e = perform-accepted f (Collect base roots) stack m (p .fits) (p .clean) (p .own) in
+    let e′ = perform-accepted f (Collect base roots′) stack′ m (p .fits) (p .clean) z in
+    record { accepted = rw e′ z; same = rw (e, e′, heap) refl; answer = rw (e, e′) answer }
 
 pub roots-join : RootsJoin
 roots-join f faithful base roots roots′ stack stack′ stack″ m x x′ few good-stack =

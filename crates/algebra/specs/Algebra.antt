@@ -74,10 +74,10 @@ pub record SameCollection (one other : Result) : Type 0 where
   -- as many objects are kept, and every other part of the answer is the same but for the rescans
   pub answer : butRescans (one .answer) ≡ butRescans (other .answer)
 
--- Roots are a set: their order and their repetition do not matter, within 4,096, whatever the mark stacks.
+-- Roots are a set: their order and their repetition do not matter, within 4,096, whatever the mark stacks. This holds of any form.
 abbrev pub RootsAreASet : Type 0
 RootsAreASet =
-    (f : Form) → Faithful f → (base : ℕ) (roots roots′ stack stack′ : List ℕ) (m : Memory)
+    (f : Form) (base : ℕ) (roots roots′ stack stack′ : List ℕ) (m : Memory)
     → AcceptedIn (collectIn f base roots stack m)
     → SameMembers (wordsOf roots) (wordsOf roots′)
     → GoodRoots roots′
