@@ -8,6 +8,7 @@ use Rattle.promises.proofs.Bytes.{on-bytes}
 use Rattle.promises.proofs.Promised.{promises}
 use Rattle.promises.proofs.Determined.{determined}
 use Rattle.promises.proofs.Whole.{whole}
+use Rattle.algebra.proofs.Algebra.{frees-commute, roots-are-a-set, roots-join, collect-idempotent}
 use Rattle.runs.proofs.Noninterference.{noninterference}
 use Rattle.plain.proofs.Refinement.{answers-as-list}
 use Rattle.plain.proofs.Reached.{list-keeps-reachable}
@@ -30,6 +31,10 @@ guarantees = record {
   whole = whole;
   keeps-exactly = keeps-exactly;
   any-stack = any-stack;
+  frees-commute = frees-commute;
+  roots-are-a-set = roots-are-a-set;
+  roots-join = roots-join;
+  collect-idempotent = collect-idempotent;
   noninterference = noninterference;
   answers-as-list = answers-as-list;
   list-keeps-reachable = list-keeps-reachable;

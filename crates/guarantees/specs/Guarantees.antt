@@ -12,6 +12,7 @@ use Rattle.keeping.specs.Keeping.{KeepsExactly, AnyStack}
 use Rattle.promises.specs.Bytes.{OnBytes}
 use Rattle.promises.specs.Promises.{Promises}
 use Rattle.promises.specs.Determined.{Determined, Whole}
+use Rattle.algebra.specs.Algebra.{FreesCommute, RootsAreASet, RootsJoin, CollectIdempotent}
 use Rattle.runs.specs.Noninterference.{Noninterference}
 use Rattle.plain.specs.Refines.{AnswersAsList, ListKeepsReachable, UsedIsSum}
 use Rattle.guarantees.specs.EntryPoints.{EntryPoints}
@@ -37,6 +38,11 @@ pub record Guarantees : Type 2 where
   -- A collection keeps exactly the reachable objects, and the mark stack has no influence on it.
   pub keeps-exactly : KeepsExactly
   pub any-stack : AnyStack
+  -- Order does not matter: frees commute, roots are a set, joined root lists keep what one or the other keeps, and a second collection at once changes nothing.
+  pub frees-commute : FreesCommute
+  pub roots-are-a-set : RootsAreASet
+  pub roots-join : RootsJoin
+  pub collect-idempotent : CollectIdempotent
   -- What is not reachable has no influence on any later list of calls.
   pub noninterference : Noninterference
   -- From an accepted init on, every list of calls is answered as a plain list of objects answers it; a collection of that list keeps exactly what is reachable in it.
