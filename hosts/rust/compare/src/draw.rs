@@ -3,8 +3,8 @@
 use crate::Buffer::{Pool, Roots, Stack, Table};
 use crate::{Access, Call, Guarded, Lent, Random};
 
-const FREE: u8 = 0;
-const HEAD: u8 = 1;
+pub const FREE: u8 = 0;
+pub const HEAD: u8 = 1;
 const TAIL: u8 = 2;
 const MARK: u8 = 3;
 

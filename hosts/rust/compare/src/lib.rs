@@ -9,6 +9,7 @@ mod coverage;
 mod difference;
 mod draw;
 mod guarded;
+pub mod laws;
 mod lent;
 mod pages;
 mod pairs;

@@ -1,11 +1,12 @@
 //! The comparison must notice a wrong heap: each heap here follows all rules but one.
 
+use compare::laws::{self, run_law, Law};
 use compare::Buffer::{self, Pool, Roots, Stack, Table};
 use compare::{
     entry, object_blocks, on_list, run_pairs, run_walks, second, Call, Guarded, Lent, Reply,
 };
 use compare::{Coverage, Sizes, Subject};
-use listheap::{Collected, ListHeap, Marking, Placed, Refusal};
+use listheap::{Collected, ListHeap, Marking, Object, Placed, Refusal};
 use std::os::unix::process::ExitStatusExt;
 use std::process::Command;
 
@@ -30,6 +31,28 @@ fn must_be_noticed_anywhere(name: &str, heap: &dyn Fn(Buffer, &Call, &mut Lent) 
         let noticed_by = fault.lines().next().unwrap_or_default();
         assert!(noticed_by.contains(&buffer.to_string()), "{buffer} and not {noticed_by}");
     }
+}
+
+/// What tells the heap from one that has the law.
+fn breaks(law: Law, name: &str, subject: Subject) {
+    let outcome = run_law(law, subject, SMALL.least..=SMALL.most, 5, 2_000);
+    say_noticed(name, &outcome.expect_err("no heap broke the law"));
+}
+
+fn frees_do_not_commute(name: &str, subject: Subject) {
+    breaks(laws::frees_commute, name, subject);
+}
+
+fn roots_are_no_set(name: &str, subject: Subject) {
+    breaks(laws::roots_are_a_set, name, subject);
+}
+
+fn joined_roots_keep_no_union(name: &str, subject: Subject) {
+    breaks(laws::roots_join, name, subject);
+}
+
+fn a_second_collection_changes_more(name: &str, subject: Subject) {
+    breaks(laws::collect_idempotent, name, subject);
 }
 
 fn dead_data_is_heard(name: &str, subject: Subject) {
@@ -124,9 +147,34 @@ each! { dead_data_is_heard:
     leaves_the_mark_stack
 }
 
+each! { frees_do_not_commute:
+    counts_free_blocks_with_the_object
+    merges_with_a_free_neighbour
+}
+
+each! { roots_are_no_set:
+    takes_64_roots
+    unmarks_a_root_that_comes_again
+}
+
+each! { joined_roots_keep_no_union:
+    keeps_from_the_last_root_alone
+    frees_tails_of_kept_objects
+}
+
+each! { a_second_collection_changes_more:
+    frees_one_object_a_call
+    frees_tails_of_kept_objects
+}
+
 #[test]
 fn a_right_heap_is_not_noticed() {
     run_walks(&second, SMALL, 5, MOST_CALLS, &mut Coverage::default()).expect("a right heap");
+    let all: [Law; 4] =
+        [laws::frees_commute, laws::roots_are_a_set, laws::roots_join, laws::collect_idempotent];
+    for law in all {
+        run_law(law, &second, SMALL.least..=SMALL.most, 5, 2_000).expect("a right heap");
+    }
 }
 
 #[test]
@@ -457,4 +505,66 @@ fn follows_words_in_free_blocks(call: &Call, lent: &mut Lent) -> Reply {
     let reply = second(call, lent);
     lent[Roots] = roots;
     reply
+}
+
+/// Takes free blocks behind a freed object for its own in the answered change.
+fn counts_free_blocks_with_the_object(call: &Call, lent: &mut Lent) -> Reply {
+    let before = lent[Table].clone();
+    let mut reply = second(call, lent);
+    if let (0, Call::Free { block }) = (reply.refusal, *call) {
+        let end = block + object_blocks(&before, block);
+        let free = (end..4 * before.len() as u64).take_while(|k| entry(&before, *k) == 0);
+        *reply.parts.get_mut("change").expect("a change") -= free.count() as i64;
+    }
+    reply
+}
+
+/// Frees the object behind a freed one too if a free block is before them.
+fn merges_with_a_free_neighbour(call: &Call, lent: &mut Lent) -> Reply {
+    let before = lent[Table].clone();
+    let reply = second(call, lent);
+    if let (0, Call::Free { block }) = (reply.refusal, *call) {
+        let behind = block + object_blocks(&before, block);
+        if block > 0 && entry(&before, block - 1) == 0 {
+            let _ = on_list(lent, |heap| heap.free(behind));
+        }
+    }
+    reply
+}
+
+/// A right collection from other roots.
+fn collect_from(call: &Call, lent: &mut Lent, roots: impl Fn(&[u32]) -> Vec<u32>) -> Reply {
+    collect_by(call, lent, |heap, given, entries| {
+        heap.collect(&roots(given), entries).expect("an accepted collection")
+    })
+}
+
+fn takes_64_roots(call: &Call, lent: &mut Lent) -> Reply {
+    collect_from(call, lent, |roots| roots.iter().copied().take(64).collect())
+}
+
+/// A root that comes a second time takes the mark away again.
+fn unmarks_a_root_that_comes_again(call: &Call, lent: &mut Lent) -> Reply {
+    collect_from(call, lent, |roots| {
+        let times = |root: &u32| roots.iter().filter(|other| *other == root).count();
+        roots.iter().copied().filter(|root| times(root) % 2 == 1).collect()
+    })
+}
+
+fn keeps_from_the_last_root_alone(call: &Call, lent: &mut Lent) -> Reply {
+    collect_from(call, lent, |roots| roots.last().copied().into_iter().collect())
+}
+
+/// Frees the first dead object and leaves the others to later calls.
+fn frees_one_object_a_call(call: &Call, lent: &mut Lent) -> Reply {
+    collect_by(call, lent, |heap, roots, entries| {
+        let before = heap.objects.clone();
+        let collected = heap.collect(roots, entries).expect("an accepted collection");
+        let dead = |object: &&Object| !heap.objects.contains(object);
+        let first_dead = before.iter().find(dead).cloned();
+        heap.objects =
+            before.into_iter().filter(|object| Some(object) != first_dead.as_ref()).collect();
+        let change = first_dead.map_or(0, |object| -(object.blocks as i64));
+        Collected { kept: heap.objects.len() as u64, change, ..collected }
+    })
 }
