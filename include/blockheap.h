@@ -155,7 +155,8 @@ uint32_t blockheap_allocate(uint64_t base, uint8_t *pool, size_t pool_len,
 
 /*
  * Makes all blocks of the object whose head is `block` free. Their bytes stay.
- * `change` is the number of its blocks, negated.
+ * `change` is the number of its blocks, negated. Of two objects either may be
+ * freed first: the table is the same in the end.
  * Refusals: BAD_SHAPE, BAD_TABLE, NO_SUCH_BLOCK, NOT_A_HEAD.
  */
 BLOCKHEAP_NONNULL
@@ -189,7 +190,9 @@ uint32_t blockheap_reallocate(uint64_t base, uint8_t *pool, size_t pool_len,
  * not written.
  * - roots: the root words, four bytes each, lowest byte first; at most 4,096.
  *   A root is followed as a pointer in an object is, and anything else in the
- *   list counts for nothing.
+ *   list counts for nothing. Roots may stand in any order and more than once:
+ *   only the rescans may differ. Two lists joined keep what one or the other
+ *   keeps.
  * - stack: working memory, four bytes an entry, 0 to 64 entries. Any size
  *   keeps the same objects; a short one costs time. What it holds at the start
  *   does not matter, and after an accepted call it is all 0.
@@ -198,6 +201,8 @@ uint32_t blockheap_reallocate(uint64_t base, uint8_t *pool, size_t pool_len,
  *   full. At most kept - 1 (0 if none are kept), and 0 if the stack has at
  *   least that many entries.
  * - change: the number of blocks freed, negated.
+ * A second collection at once, with the same base and roots, changes nothing in
+ * pool and table.
  * Refusals: BAD_SHAPE, BAD_TABLE, TOO_MANY_ROOTS, STACK_TOO_LONG.
  */
 BLOCKHEAP_NONNULL

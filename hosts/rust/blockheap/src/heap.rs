@@ -53,6 +53,8 @@ impl<'m> Heap<'m> {
 
     /// Makes all blocks of an object free and answers the change in used blocks. The bytes stay.
     ///
+    /// Of two objects either may be freed first: the table is the same in the end.
+    ///
     /// # Errors
     /// [`BadShape`](Refusal::BadShape), [`BadTable`](Refusal::BadTable),
     /// [`NoSuchBlock`](Refusal::NoSuchBlock), [`NotAHead`](Refusal::NotAHead).
@@ -91,7 +93,9 @@ impl<'m> Heap<'m> {
     /// of all others free.
     ///
     /// A root is followed as a word of an object is: one that is not the address of a head counts for
-    /// nothing. A mark stack of any length keeps the same objects; a short one costs time.
+    /// nothing. Roots may stand in any order and more than once, and two lists joined keep what one or
+    /// the other keeps. A mark stack of any length keeps the same objects; a short one costs time. A
+    /// second collection at once from the same roots changes nothing.
     ///
     /// ```
     /// # use blockheap::{Address, MarkEntry, Memory};
