@@ -15,8 +15,8 @@ use Rattle.rules.specs.Pointers.{addressOf, goodBase, targetOf, headsObject, he
 use Rattle.rules.specs.Outcomes.{Answer, changeFrom, unlessRefused}
 use Rattle.rules.specs.Refusals.{firstOf, goodShape, wholeWords}
 use Rattle.rules.specs.Marking.{pushed, visitTo, visit, walkWords, walk, drainFor, drain, trace, rootTo, markRoot, markRoots, passBlock, passFrom, pass, rescanFor, rescan, markAll, sweptEntry, freeingAfter, sweepFrom, sweep}
-use Rattle.rules.specs.Calls.{placing, freed, free, collecting, collect, survey, store}
-use Rattle.rules.specs.Runs.{Collect, Store, step}
+use Rattle.rules.specs.Calls.{init, placing, freed, free, collecting, collect, survey, store}
+use Rattle.rules.specs.Runs.{Init, Collect, Store, step}
 use Rattle.rules.specs.Memory.{Memory, heapIn, Result, AcceptedIn, orRefused, perform}
 use Rattle.rules.proofs.Tables.{well-says}
 use Rattle.rules.proofs.Memory.{packed-faithful, accepted-sound, refusal-in}
@@ -28,15 +28,15 @@ use Rattle.promises.proofs.Observed.{collect-number}
 use Rattle.algebra.specs.Algebra.{freeIn, collectIn, Usable, entryIn, ObjectIn, Commute, SameMembers, SameCollection, Union, NothingMore}
 use Rattle.algebra.proofs.Algebra.{roots-are-a-set}
 use Rattle.algebra.proofs.Times.{times-length, times-same}
-use Rattle.algebra.proofs.Samples.{packed-computed}
-use Rattle.algebra.specs.Samples.{sampleIn, rootB, rootE, rootsAC, rootsCE, rootsEC, torn, times, stackOf, lossy}
+use Rattle.algebra.proofs.Samples.{packed-computed, none-good}
+use Rattle.algebra.specs.Samples.{sampleIn, rootB, rootE, rootsAC, rootsCE, rootsEC, torn, times, stackOf, illFormed, lossy}
 
 abbrev m : Memory
 m = sampleIn packed
 
 -- the frees of j and k in both orders
-abbrev Both : Form → ℕ → ℕ → ℕ → Type 0
-Both f base j k = Commute (freeIn f base j m) (freeIn f base k (freeIn f base j m .memory)) (freeIn f base k m) (freeIn f base j (freeIn f base k m .memory))
+abbrev Both : Form → ℕ → ℕ → ℕ → Memory → Type 0
+Both f base j k n = Commute (freeIn f base j n) (freeIn f base k (freeIn f base j n .memory)) (freeIn f base k n) (freeIn f base j (freeIn f base k n .memory))
 
 -- a collection from roots, and one of what it leaves
 abbrev from : List ℕ → List ℕ → Result
@@ -49,17 +49,21 @@ again base roots stack = collectIn packed base roots stack (from rootsCE [] .mem
 
 pub record Computed : Type 0 where
   pub usable-lossy : Usable lossy sampleBase m
-  -- a second free of B, a free of its TAIL, one at base 0, and one of B after C in the form that loses its table
+  -- a second free of B, a free of its TAIL, one at base 0, one in a table that only init accepts, and one of B after C in the form that loses its table
   pub b-twice : freeIn packed sampleBase 1 (freeIn packed sampleBase 1 m .memory) .answer .refusal ≡ 7
   pub tail : freeIn packed sampleBase 2 m .answer .refusal ≡ 7
   pub base-0 : freeIn packed 0 1 m .answer .refusal ≡ 1
+  pub init-ill : AcceptedIn (perform packed (Init sampleBase) [] illFormed)
+  pub heads-ill : ObjectIn packed illFormed 1 × ObjectIn packed illFormed 4
+  pub b-ill : freeIn packed sampleBase 1 illFormed .answer .refusal ≡ 2
   pub b-lost : freeIn lossy sampleBase 1 (freeIn lossy sampleBase 4 m .memory) .answer .refusal ≡ 1
-  -- collections from E and C; from E; from C and E with a byte too many; and with a stack entry too many
+  -- collections from E and C; from E; from C and E with a byte too many among the roots; with a stack entry too many; and with a byte too many there
   pub ec-rescans : from rootsEC [] .answer .rescans ≡ 1
   pub e-kept : from rootE [] .answer .kept ≡ 2
   pub ce-torn : from (torn rootsCE) [] .answer .refusal ≡ 1
   pub torn-words : wordsOf (torn rootsCE) ≡ wordsOf rootsCE
   pub ce-long : from rootsCE (stackOf 65) .answer .refusal ≡ 4
+  pub ce-torn-stack : from rootsCE (torn []) .answer .refusal ≡ 1
   -- from B joined with A and C, with a byte too many in either part; with a stack entry too many; and where the table is lost
   pub torn-left : from (torn rootB ++ rootsAC) [] .answer .refusal ≡ 1
   pub torn-right : from (rootB ++ torn rootsAC) [] .answer .refusal ≡ 1
@@ -77,19 +81,23 @@ pub record Computed : Type 0 where
   pub lossy-again : collectIn lossy sampleBase rootB [] (collectIn lossy sampleBase rootB [] m .memory) .answer .refusal ≡ 1
 
 pub computed : Computed
-unfolding count leading tabulate number bytesOf wordAt withWord wordsOf entryOf entriesOf tableOf mayFollow wellAfter wellFormed blockCount released used objects longest addressOf goodBase targetOf headsObject headAt leadsTo changeFrom unlessRefused firstOf goodShape wholeWords pushed visitTo visit walkWords walk drainFor drain trace rootTo markRoot markRoots passBlock passFrom pass rescanFor rescan markAll sweptEntry freeingAfter sweepFrom sweep placing freed free collecting collect survey store step orRefused perform
+unfolding count leading tabulate number bytesOf wordAt withWord wordsOf entryOf entriesOf tableOf mayFollow wellAfter wellFormed blockCount released used objects longest addressOf goodBase targetOf headsObject headAt leadsTo changeFrom unlessRefused firstOf goodShape wholeWords pushed visitTo visit walkWords walk drainFor drain trace rootTo markRoot markRoots passBlock passFrom pass rescanFor rescan markAll sweptEntry freeingAfter sweepFrom sweep init placing freed free collecting collect survey store step orRefused perform
 computed =
     record {
       usable-lossy = refl;
       b-twice = refl;
       tail = refl;
       base-0 = refl;
+      init-ill = refl;
+      heads-ill = (refl, refl);
+      b-ill = refl;
       b-lost = refl;
       ec-rescans = refl;
       e-kept = refl;
       ce-torn = refl;
       torn-words = refl;
       ce-long = refl;
+      ce-torn-stack = refl;
       torn-left = refl;
       torn-right = refl;
       joined-long = refl;
@@ -115,7 +123,7 @@ ce-kept = ap (λ (a : Answer). a .kept) (packed-computed .ce-answer)
 ce-rescans : from rootsCE [] .answer .rescans ≡ 2
 ce-rescans = ap (λ (a : Answer). a .rescans) (packed-computed .ce-answer)
 
--- the same list has the same members
+-- one byte more leaves the members
 members-torn : SameMembers (wordsOf rootsCE) (wordsOf (torn rootsCE))
 members-torn = rw (computed .torn-words) (λ x. (λ i. i, λ i. i))
 
@@ -134,25 +142,30 @@ too-many roots whole many =
 -- ---- frees
 
 -- of one object, not of two
-pub same-object : Usable packed sampleBase m × ObjectIn packed m 1 × ¬ Both packed sampleBase 1 1
+pub same-object : Usable packed sampleBase m × ObjectIn packed m 1 × ¬ Both packed sampleBase 1 1 m
 same-object = (packed-computed .usable, packed-computed .object-b, λ c. omega (arith, computed .b-twice, c .accepted .1))
 
--- of a block that is no head
-pub no-object : Usable packed sampleBase m × ObjectIn packed m 1 × (_≢_ {A = ℕ} 1 2) × ¬ Both packed sampleBase 1 2
+-- of a block that is no head, the second or the first
+pub no-object : Usable packed sampleBase m × ObjectIn packed m 1 × (_≢_ {A = ℕ} 1 2) × ¬ Both packed sampleBase 1 2 m
 no-object = (packed-computed .usable, packed-computed .object-b, λ e. omega arith, λ c. omega (arith, computed .tail, c .accepted .2))
 
+pub no-object-first : Usable packed sampleBase m × ObjectIn packed m 1 × (_≢_ {A = ℕ} 2 1) × ¬ Both packed sampleBase 2 1 m
+no-object-first = (packed-computed .usable, packed-computed .object-b, λ e. omega arith, λ c. omega (arith, computed .tail, c .accepted .0))
+
 -- at a base that is refused
-pub bad-base : ObjectIn packed m 1 × ObjectIn packed m 4 × (_≢_ {A = ℕ} 1 4) × ¬ Both packed 0 1 4
+pub bad-base : ObjectIn packed m 1 × ObjectIn packed m 4 × (_≢_ {A = ℕ} 1 4) × ¬ Both packed 0 1 4 m
 bad-base = (packed-computed .object-b, packed-computed .object-c, λ e. omega arith, λ c. omega (arith, computed .base-0, c .accepted .0))
 
+-- in a table that is not well-formed
+pub bad-table : AcceptedIn (perform packed (Init sampleBase) [] illFormed) × ObjectIn packed illFormed 1 × ObjectIn packed illFormed 4 × (_≢_ {A = ℕ} 1 4)
+    × ¬ Both packed sampleBase 1 4 illFormed
+bad-table = (computed .init-ill, computed .heads-ill .0, computed .heads-ill .1, λ e. omega arith, λ c. omega (arith, computed .b-ill, c .accepted .0))
+
 -- in a form that is not faithful
-pub lossy-frees : Usable lossy sampleBase m × ObjectIn lossy m 1 × ObjectIn lossy m 4 × (_≢_ {A = ℕ} 1 4) × ¬ Both lossy sampleBase 1 4
+pub lossy-frees : Usable lossy sampleBase m × ObjectIn lossy m 1 × ObjectIn lossy m 4 × (_≢_ {A = ℕ} 1 4) × ¬ Both lossy sampleBase 1 4 m
 lossy-frees = (computed .usable-lossy, packed-computed .object-b, packed-computed .object-c, λ e. omega arith, λ c. omega (arith, computed .b-lost, c .accepted .3))
 
 -- ---- roots with the same members
-
-none-good : GoodStack []
-none-good = record { whole = refl; short = omega arith }
 
 -- the first collection is refused
 pub refused-roots : SameMembers (wordsOf (torn rootsCE)) (wordsOf rootsCE) × GoodRoots rootsCE × GoodStack [] × ¬ SameCollection (from (torn rootsCE) []) (from rootsCE [])
@@ -189,10 +202,21 @@ many-roots =
     let whole : length (times 4097 rootB) % 4 ≡ 0 = omega arith in
     (packed-computed .b-accepted, times-same 4096 rootB refl, whole, none-good, λ s. omega (arith, too-many (times 4097 rootB) whole (omega arith), s .accepted))
 
--- the mark stack has one entry more than 64
+-- the mark stack has one entry more than 64, or a piece of one
 pub long-stack : AcceptedIn (from rootsCE []) × SameMembers (wordsOf rootsCE) (wordsOf rootsCE) × GoodRoots rootsCE × ¬ SameCollection (from rootsCE []) (from rootsCE (stackOf 65))
 unfolding bytesOf
 long-stack = (ce, λ x. (λ i. i, λ i. i), record { whole = refl; few = omega arith }, λ s. omega (arith, computed .ce-long, s .accepted))
+
+pub torn-stack : AcceptedIn (from rootsCE []) × SameMembers (wordsOf rootsCE) (wordsOf rootsCE) × GoodRoots rootsCE × ¬ SameCollection (from rootsCE []) (from rootsCE (torn []))
+unfolding bytesOf
+torn-stack = (ce, λ x. (λ i. i, λ i. i), record { whole = refl; few = omega arith }, λ s. omega (arith, computed .ce-torn-stack, s .accepted))
+
+-- no form is asked to be faithful: here is one that is not
+pub lossy-roots : SameCollection (collectIn lossy sampleBase rootB [] m) (collectIn lossy sampleBase (times 2 rootB) [] m)
+unfolding bytesOf
+lossy-roots =
+    let l = times-length 2 rootB in
+    roots-are-a-set lossy sampleBase rootB (times 2 rootB) [] [] m (computed .b-lossy) (times-same 1 rootB refl) (record { whole = omega arith; few = omega arith }) none-good
 
 -- the rescans do depend on the order of the roots
 pub rescans-differ : from rootsCE [] .answer ≢ from rootsEC [] .answer

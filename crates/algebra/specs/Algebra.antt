@@ -1,5 +1,5 @@
 -- Order does not matter: frees commute, a collection sees its roots as a set, joined root lists keep what one or the other keeps, and collecting is idempotent.
--- Each law is said of calls on lent memory, in bytes, for every form of the table in which bytes and entries say the same. All that a law asks stands in it.
+-- Each law is said of calls on lent memory, in bytes, for every form of the table in which bytes and entries say the same, or for any at all. What a law asks stands in it.
 -- Assumes nothing.
 use mathlib.Core.Path.{_≡_}
 use mathlib.Core.Logic.{_≢_, _↔_, _⊎_}

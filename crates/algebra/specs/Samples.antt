@@ -13,24 +13,28 @@ use Rattle.rules.specs.Tests.{pick}
 use Rattle.rules.specs.Words.{bytesOf}
 use Rattle.rules.specs.Entries.{FREE, HEAD, TAIL, entriesOf, tableOf}
 use Rattle.rules.specs.Tables.{entryAt, isHead}
-use Rattle.rules.specs.Forms.{Form}
+use Rattle.rules.specs.Forms.{Form, packed}
 use Rattle.rules.specs.Memory.{Memory, memory}
 use Rattle.keeping.specs.Samples.{addressAt, samplePool}
 
 -- the pool, and a table with these entries
-abbrev pub sampleWith : Form → List ℕ → Memory
-sampleWith f es = memory samplePool (f .write es)
+abbrev pub withEntries : Form → List ℕ → Memory
+withEntries f es = memory samplePool (f .write es)
 
 abbrev pub sampleIn : Form → Memory
-sampleIn f = sampleWith f (HEAD ∷ HEAD ∷ TAIL ∷ TAIL ∷ HEAD ∷ TAIL ∷ HEAD ∷ FREE ∷ HEAD ∷ TAIL ∷ HEAD ∷ TAIL ∷ [])
+sampleIn f = withEntries f (HEAD ∷ HEAD ∷ TAIL ∷ TAIL ∷ HEAD ∷ TAIL ∷ HEAD ∷ FREE ∷ HEAD ∷ TAIL ∷ HEAD ∷ TAIL ∷ [])
 
 -- without B and C
 abbrev pub withoutBC : Form → Memory
-withoutBC f = sampleWith f (HEAD ∷ FREE ∷ FREE ∷ FREE ∷ FREE ∷ FREE ∷ HEAD ∷ FREE ∷ HEAD ∷ TAIL ∷ HEAD ∷ TAIL ∷ [])
+withoutBC f = withEntries f (HEAD ∷ FREE ∷ FREE ∷ FREE ∷ FREE ∷ FREE ∷ HEAD ∷ FREE ∷ HEAD ∷ TAIL ∷ HEAD ∷ TAIL ∷ [])
+
+-- without A and E
+abbrev pub withoutAE : Form → Memory
+withoutAE f = withEntries f (FREE ∷ HEAD ∷ TAIL ∷ TAIL ∷ HEAD ∷ TAIL ∷ HEAD ∷ FREE ∷ FREE ∷ FREE ∷ HEAD ∷ TAIL ∷ [])
 
 -- with C, D and E alone
 abbrev pub withCDE : Form → Memory
-withCDE f = sampleWith f (FREE ∷ FREE ∷ FREE ∷ FREE ∷ HEAD ∷ TAIL ∷ HEAD ∷ FREE ∷ HEAD ∷ TAIL ∷ FREE ∷ FREE ∷ [])
+withCDE f = withEntries f (FREE ∷ FREE ∷ FREE ∷ FREE ∷ HEAD ∷ TAIL ∷ HEAD ∷ FREE ∷ HEAD ∷ TAIL ∷ FREE ∷ FREE ∷ [])
 
 -- the entries with A and B alone; with A, C, D and E; with all five
 abbrev pub entriesAB : List ℕ
@@ -73,6 +77,10 @@ rootE = bytesOf (addressAt 8)
 -- a list with one byte more: the same words, but not whole ones
 abbrev pub torn : List ℕ → List ℕ
 torn roots = roots ++ 0 ∷ []
+
+-- the same heap with a TAIL in block 0, which no call but init accepts
+abbrev pub illFormed : Memory
+illFormed = withEntries packed (TAIL ∷ HEAD ∷ TAIL ∷ TAIL ∷ HEAD ∷ TAIL ∷ HEAD ∷ FREE ∷ HEAD ∷ TAIL ∷ HEAD ∷ TAIL ∷ [])
 
 -- a form that is not faithful: it loses a table with an object at block 1
 abbrev pub lossy : Form
