@@ -9,13 +9,16 @@ use std::ops::RangeInclusive;
 /// A collection takes no more.
 const MOST_ROOTS: usize = 4096;
 
-/// What was run: on how many heaps, on how many of them the law says something, how often a list had
-/// the most roots, and how often another order of the roots took other rescans.
+/// What was run: on how many heaps, on how many of them the law says something, how often another object
+/// lay between the two, a list had the most roots, and two collections differed in their stack's length
+/// and in their rescans.
 #[derive(Clone, Copy, Debug, Default)]
 pub struct LawCounts {
     pub heaps: u64,
     pub telling: u64,
+    pub apart: u64,
     pub full_lists: u64,
+    pub other_stacks: u64,
     pub other_rescans: u64,
 }
 
@@ -57,8 +60,11 @@ pub fn frees_commute(trial: &mut Trial) -> Result<(), String> {
     if heads.len() < 2 {
         return Ok(());
     }
+    let blocks = two_of(trial.random, &heads);
+    let apart = heads.iter().any(|head| blocks[0] < *head && *head < blocks[1]);
     trial.counts.telling += 1;
-    let [j, k] = two_of(trial.random, &heads).map(|block| Call::Free { block });
+    trial.counts.apart += u64::from(apart);
+    let [j, k] = blocks.map(|block| Call::Free { block });
     let first = trial.call(&j, &trial.heap)?;
     let second = trial.call(&k, &first.lent)?;
     let other_first = trial.call(&k, &trial.heap)?;
@@ -76,6 +82,7 @@ pub fn roots_are_a_set(trial: &mut Trial) -> Result<(), String> {
     let mut other = trial.collect(&other_roots)?;
     let telling = roots != other_roots && one.kept_some() && one.freed_some();
     trial.counts.telling += u64::from(telling);
+    trial.count_stacks([&one, &other]);
     let rescans = one.reply.parts["rescans"];
     let other_rescans = other.reply.parts.insert("rescans", rescans);
     trial.counts.other_rescans += u64::from(other_rescans != Some(rescans));
@@ -92,6 +99,7 @@ pub fn roots_join(trial: &mut Trial) -> Result<(), String> {
     let joined = trial.collect(&parts.concat())?;
     let telling = one.kept() < joined.kept() && other.kept() < joined.kept();
     trial.counts.telling += u64::from(telling);
+    trial.count_stacks([&one, &other]);
     let entries = |block: u64| [&one, &other, &joined].map(|outcome| outcome.entry(block));
     let mut blocks = 0..4 * trial.heap[Table].len() as u64;
     match blocks.find(|block| !is_union(entries(*block))) {
@@ -110,6 +118,7 @@ pub fn collect_idempotent(trial: &mut Trial) -> Result<(), String> {
     trial.counts.telling += u64::from(first.kept_some() && first.freed_some());
     trial.heap = first.lent.clone();
     let second = trial.collect(&roots)?;
+    trial.count_stacks([&first, &second]);
     let nothing_more = [first.kept(), second.reply.parts["rescans"], 0];
     same_reply(&Call::Collect, &second.reply, &Reply::accepted(&Call::Collect, &nothing_more))?;
     same_heap(&second.lent, &first.lent)
@@ -133,6 +142,11 @@ impl Trial<'_> {
         lent.set_roots(roots);
         lent[Stack] = Guarded::new(&draw::good_stack(self.random));
         self.call(&Call::Collect, &lent)
+    }
+
+    fn count_stacks(&mut self, outcomes: [&Outcome; 2]) {
+        let [one, other] = outcomes.map(|outcome| outcome.lent[Stack].len());
+        self.counts.other_stacks += u64::from(one != other);
     }
 
     /// A fault with the place where it was found.
@@ -224,4 +238,21 @@ fn repeated(random: &mut Random, list: &[u32], most: usize) -> Vec<u32> {
     let more = if list.is_empty() { 0 } else { most.saturating_sub(list.len()) };
     let again = (0..more).map(|_| random.pick(list));
     list.iter().copied().chain(again).collect()
+}
+
+#[cfg(test)]
+mod tests {
+    use super::is_union;
+
+    #[test]
+    fn entries_that_are_no_union_are_seen() {
+        for [one, other, joined] in [[0, 0, 0], [1, 0, 1], [0, 2, 2], [1, 1, 1]] {
+            assert!(is_union([one, other, joined]), "{one}, {other} and {joined}");
+        }
+        for [one, other, joined] in
+            [[0, 0, 1], [1, 0, 0], [0, 2, 0], [2, 2, 1], [2, 1, 2], [0, 1, 2]]
+        {
+            assert!(!is_union([one, other, joined]), "{one}, {other} and {joined}");
+        }
+    }
 }

@@ -148,13 +148,16 @@ each! { dead_data_is_heard:
 }
 
 each! { frees_do_not_commute:
-    counts_free_blocks_with_the_object
-    merges_with_a_free_neighbour
+    counts_free_blocks_before_the_object
+    counts_free_blocks_behind_the_object
+    frees_nothing_behind_a_free_block
 }
 
 each! { roots_are_no_set:
     takes_64_roots
     unmarks_a_root_that_comes_again
+    counts_roots_for_objects
+    loses_the_object_of_the_last_root
 }
 
 each! { joined_roots_keep_no_union:
@@ -164,7 +167,9 @@ each! { joined_roots_keep_no_union:
 
 each! { a_second_collection_changes_more:
     frees_one_object_a_call
-    frees_tails_of_kept_objects
+    answers_the_objects_before
+    answers_the_free_blocks
+    counts_collections_in_a_free_block
 }
 
 #[test]
@@ -507,27 +512,38 @@ fn follows_words_in_free_blocks(call: &Call, lent: &mut Lent) -> Reply {
     reply
 }
 
-/// Takes free blocks behind a freed object for its own in the answered change.
-fn counts_free_blocks_with_the_object(call: &Call, lent: &mut Lent) -> Reply {
+/// A free that counts so many blocks of the table before it with the object's own.
+fn free_counting(call: &Call, lent: &mut Lent, more: impl Fn(&[u8], u64) -> usize) -> Reply {
     let before = lent[Table].clone();
     let mut reply = second(call, lent);
     if let (0, Call::Free { block }) = (reply.refusal, *call) {
-        let end = block + object_blocks(&before, block);
-        let free = (end..4 * before.len() as u64).take_while(|k| entry(&before, *k) == 0);
-        *reply.parts.get_mut("change").expect("a change") -= free.count() as i64;
+        *reply.parts.get_mut("change").expect("a change") -= more(&before, block) as i64;
     }
     reply
 }
 
-/// Frees the object behind a freed one too if a free block is before them.
-fn merges_with_a_free_neighbour(call: &Call, lent: &mut Lent) -> Reply {
+fn counts_free_blocks_before_the_object(call: &Call, lent: &mut Lent) -> Reply {
+    free_counting(call, lent, |table, block| {
+        (0..block).rev().take_while(|k| entry(table, *k) == 0).count()
+    })
+}
+
+fn counts_free_blocks_behind_the_object(call: &Call, lent: &mut Lent) -> Reply {
+    free_counting(call, lent, |table, block| {
+        let behind = block + object_blocks(table, block)..4 * table.len() as u64;
+        behind.into_iter().take_while(|k| entry(table, *k) == 0).count()
+    })
+}
+
+/// Leaves the table, whatever it answers.
+fn frees_nothing_behind_a_free_block(call: &Call, lent: &mut Lent) -> Reply {
     let before = lent[Table].clone();
     let reply = second(call, lent);
-    if let (0, Call::Free { block }) = (reply.refusal, *call) {
-        let behind = block + object_blocks(&before, block);
-        if block > 0 && entry(&before, block - 1) == 0 {
-            let _ = on_list(lent, |heap| heap.free(behind));
+    match (reply.refusal, *call) {
+        (0, Call::Free { block: block @ 1.. }) if entry(&before, block - 1) == 0 => {
+            lent[Table] = before;
         }
+        _ => {}
     }
     reply
 }
@@ -567,4 +583,57 @@ fn frees_one_object_a_call(call: &Call, lent: &mut Lent) -> Reply {
         let change = first_dead.map_or(0, |object| -(object.blocks as i64));
         Collected { kept: heap.objects.len() as u64, change, ..collected }
     })
+}
+
+/// A right collection with another answer to one question.
+fn collect_answering(
+    call: &Call,
+    lent: &mut Lent,
+    part: &'static str,
+    answer: impl Fn(&Lent, &Lent) -> i64,
+) -> Reply {
+    let before = lent.clone();
+    let mut reply = second(call, lent);
+    if let (0, Call::Collect) = (reply.refusal, call) {
+        reply.parts.insert(part, answer(&before, lent));
+    }
+    reply
+}
+
+fn counts_roots_for_objects(call: &Call, lent: &mut Lent) -> Reply {
+    collect_answering(call, lent, "kept", |before, _| before[Roots].len() as i64 / 4)
+}
+
+fn answers_the_objects_before(call: &Call, lent: &mut Lent) -> Reply {
+    collect_answering(call, lent, "kept", |before, _| heads(before).len() as i64)
+}
+
+fn answers_the_free_blocks(call: &Call, lent: &mut Lent) -> Reply {
+    collect_answering(call, lent, "change", |_, after| {
+        let free = (0..4 * after[Table].len() as u64).filter(|k| entry(&after[Table], *k) == 0);
+        -(free.count() as i64)
+    })
+}
+
+/// Frees it after a right collection, whose answer stays.
+fn loses_the_object_of_the_last_root(call: &Call, lent: &mut Lent) -> Reply {
+    let reply = second(call, lent);
+    if let (0, Call::Collect) = (reply.refusal, call) {
+        let roots = listheap::words_of(&lent[Roots]);
+        let block = roots.last().map(|root| u64::from(*root).wrapping_sub(lent.base) / 16);
+        let _ = on_list(lent, |heap| heap.free(block.unwrap_or(u64::MAX)));
+    }
+    reply
+}
+
+/// No call looks there, and yet it is a byte that changes.
+fn counts_collections_in_a_free_block(call: &Call, lent: &mut Lent) -> Reply {
+    let reply = second(call, lent);
+    if let (0, Call::Collect) = (reply.refusal, call) {
+        let free = (0..4 * lent[Table].len()).find(|k| entry(&lent[Table], *k as u64) == 0);
+        if let Some(block) = free {
+            lent[Pool][16 * block] = lent[Pool][16 * block].wrapping_add(1);
+        }
+    }
+    reply
 }

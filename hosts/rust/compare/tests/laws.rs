@@ -21,24 +21,27 @@ fn holds(law: Law, seed: u64) -> [LawCounts; 2] {
 
 #[test]
 fn frees_commute() {
-    holds(laws::frees_commute, 12);
+    let counts = holds(laws::frees_commute, 12);
+    assert!(counts.iter().all(|counts| 0 < counts.apart && counts.apart < counts.telling));
 }
 
 #[test]
 fn roots_are_a_set() {
     let counts = holds(laws::roots_are_a_set, 112);
-    assert!(counts.iter().all(|counts| counts.full_lists > 0 && counts.other_rescans > 0));
+    assert!(counts.iter().all(|counts| counts.full_lists > 0));
+    assert!(counts.iter().all(|counts| counts.other_stacks > 0 && counts.other_rescans > 0));
 }
 
 #[test]
 fn joined_roots_keep_the_union() {
     let counts = holds(laws::roots_join, 1112);
-    assert!(counts.iter().all(|counts| counts.full_lists > 0));
+    assert!(counts.iter().all(|counts| counts.full_lists > 0 && counts.other_stacks > 0));
 }
 
 #[test]
 fn a_second_collection_changes_nothing() {
-    holds(laws::collect_idempotent, 11112);
+    let counts = holds(laws::collect_idempotent, 11112);
+    assert!(counts.iter().all(|counts| counts.other_stacks > 0));
 }
 
 /// The heap of the proofs (crates/algebra/specs/Samples.antt): C leads to E and E to D, B to A, F to itself.
