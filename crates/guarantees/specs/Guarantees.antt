@@ -38,7 +38,8 @@ pub record Guarantees : Type 2 where
   -- A collection keeps exactly the reachable objects, and the mark stack has no influence on it.
   pub keeps-exactly : KeepsExactly
   pub any-stack : AnyStack
-  -- Order does not matter: frees commute, roots are a set, joined root lists keep what one or the other keeps, and a second collection at once changes nothing.
+  -- Order does not matter: frees commute, roots are a set, joined root lists keep what one or the other keeps, and a second collection at once from the same
+  -- roots changes nothing.
   pub frees-commute : FreesCommute
   pub roots-are-a-set : RootsAreASet
   pub roots-join : RootsJoin
