@@ -29,19 +29,19 @@ pub record Does (f : Form) (r : Result) (o : Outcome) : Type 0 where
   pub written : Written f (r .memory)
 
 module _ {f : Form} (faithful : Faithful f) where
-  does-first : (c : Call) (stack : List ℕ) (m : Memory) → Sound f m → Accepted (step c stack (heapIn f m)) → Does f (perform f c stack m) (step c stack (heapIn f m))
+  pub does-first : (c : Call) (stack : List ℕ) (m : Memory) → Sound f m → Accepted (step c stack (heapIn f m)) → Does f (perform f c stack m) (step c stack (heapIn f m))
   does-first c stack m s z =
       let x = follows-sound f faithful c stack m s in
       let y : AcceptedIn (perform f c stack m) = refusal-in f faithful c stack m s ∙ z in
       record { accepted = y; answer = x .answer; heap = x .heap; sound = x .sound y; written = x .written y }
 
   -- and a call after it
-  does-next : {r : Result} {o : Outcome} → Does f r o → (c : Call) (stack : List ℕ) → Accepted (step c stack (o .heap)) → Does f (perform f c stack (r .memory)) (step c stack (o .heap))
+  pub does-next : {r : Result} {o : Outcome} → Does f r o → (c : Call) (stack : List ℕ) → Accepted (step c stack (o .heap)) → Does f (perform f c stack (r .memory)) (step c stack (o .heap))
   does-next {r = r} d c stack =
       subst (λ (h : Heap). Accepted (step c stack h) → Does f (perform f c stack (r .memory)) (step c stack h)) (d .heap) (does-first c stack (r .memory) (d .sound))
 
 -- calls that leave the same heap leave the same memory
-memory-same : {f : Form} {r r′ : Result} {o o′ : Outcome} → Does f r o → Does f r′ o′ → o .heap ≡ o′ .heap → r .memory ≡ r′ .memory
+pub memory-same : {f : Form} {r r′ : Result} {o o′ : Outcome} → Does f r o → Does f r′ o′ → o .heap ≡ o′ .heap → r .memory ≡ r′ .memory
 memory-same {f = f} {r = r} {r′ = r′} d d′ e =
     let same : heapIn f (r .memory) ≡ heapIn f (r′ .memory) = d .heap ∙ e ∙ sym (d′ .heap) in
     let table : r .memory .table ≡ r′ .memory .table = d .written ∙ ap (λ (h : Heap). f .write (h .entries)) same ∙ sym (d′ .written) in
