@@ -115,13 +115,13 @@ computed =
 
 -- the collection from C and E is accepted, keeps three objects and takes two rescans
 ce : AcceptedIn (from rootsCE [])
-ce = ap (λ (a : Answer). a .refusal) (packed-computed .ce-answer)
+ce = ap (λ (a : Answer). a .refusal) (packed-computed .ce .0)
 
 ce-kept : from rootsCE [] .answer .kept ≡ 3
-ce-kept = ap (λ (a : Answer). a .kept) (packed-computed .ce-answer)
+ce-kept = ap (λ (a : Answer). a .kept) (packed-computed .ce .0)
 
 ce-rescans : from rootsCE [] .answer .rescans ≡ 2
-ce-rescans = ap (λ (a : Answer). a .rescans) (packed-computed .ce-answer)
+ce-rescans = ap (λ (a : Answer). a .rescans) (packed-computed .ce .0)
 
 -- one byte more leaves the members
 members-torn : SameMembers (wordsOf rootsCE) (wordsOf (torn rootsCE))
@@ -132,9 +132,9 @@ too-many : (roots : List ℕ) → length roots % 4 ≡ 0 → 4096 < length roots
 unfolding step First ofCollect
 too-many roots whole many =
     let c = Collect sampleBase rootB in
-    let s = accepted-sound packed c [] m refl (packed-computed .b-accepted) in
+    let s = accepted-sound packed c [] m refl (packed-computed .b .0) in
     let h = heapIn packed m in
-    let p = collect-asks sampleBase h rootB [] (sym (refusal-in packed packed-faithful c [] m s) ∙ packed-computed .b-accepted) .passed in
+    let p = collect-asks sampleBase h rootB [] (sym (refusal-in packed packed-faithful c [] m s) ∙ packed-computed .b .0) .passed in
     refusal-in packed packed-faithful (Collect sampleBase roots) [] m s
     ∙ collect-number sampleBase h roots [] 3
     (inr (λ bad. bad (p .shape, whole, refl), inr (λ bad. bad (well-says (h .entries) (p .well)), inl (many, refl))))
@@ -143,18 +143,18 @@ too-many roots whole many =
 
 -- of one object, not of two
 pub same-object : Usable packed sampleBase m × ObjectIn packed m 1 × ¬ Both packed sampleBase 1 1 m
-same-object = (packed-computed .usable, packed-computed .object-b, λ c. omega (arith, computed .b-twice, c .accepted .1))
+same-object = (packed-computed .usable, packed-computed .objects .1, λ c. omega (arith, computed .b-twice, c .accepted .1))
 
 -- of a block that is no head, the second or the first
 pub no-object : Usable packed sampleBase m × ObjectIn packed m 1 × (_≢_ {A = ℕ} 1 2) × ¬ Both packed sampleBase 1 2 m
-no-object = (packed-computed .usable, packed-computed .object-b, λ e. omega arith, λ c. omega (arith, computed .tail, c .accepted .2))
+no-object = (packed-computed .usable, packed-computed .objects .1, λ e. omega arith, λ c. omega (arith, computed .tail, c .accepted .2))
 
 pub no-object-first : Usable packed sampleBase m × ObjectIn packed m 1 × (_≢_ {A = ℕ} 2 1) × ¬ Both packed sampleBase 2 1 m
-no-object-first = (packed-computed .usable, packed-computed .object-b, λ e. omega arith, λ c. omega (arith, computed .tail, c .accepted .0))
+no-object-first = (packed-computed .usable, packed-computed .objects .1, λ e. omega arith, λ c. omega (arith, computed .tail, c .accepted .0))
 
 -- at a base that is refused
 pub bad-base : ObjectIn packed m 1 × ObjectIn packed m 4 × (_≢_ {A = ℕ} 1 4) × ¬ Both packed 0 1 4 m
-bad-base = (packed-computed .object-b, packed-computed .object-c, λ e. omega arith, λ c. omega (arith, computed .base-0, c .accepted .0))
+bad-base = (packed-computed .objects .1, packed-computed .objects .2, λ e. omega arith, λ c. omega (arith, computed .base-0, c .accepted .0))
 
 -- in a table that is not well-formed
 pub bad-table : AcceptedIn (perform packed (Init sampleBase) [] illFormed) × ObjectIn packed illFormed 1 × ObjectIn packed illFormed 4 × (_≢_ {A = ℕ} 1 4)
@@ -163,7 +163,7 @@ bad-table = (computed .init-ill, computed .heads-ill .0, computed .heads-ill .1,
 
 -- in a form that is not faithful
 pub lossy-frees : Usable lossy sampleBase m × ObjectIn lossy m 1 × ObjectIn lossy m 4 × (_≢_ {A = ℕ} 1 4) × ¬ Both lossy sampleBase 1 4 m
-lossy-frees = (computed .usable-lossy, packed-computed .object-b, packed-computed .object-c, λ e. omega arith, λ c. omega (arith, computed .b-lost, c .accepted .3))
+lossy-frees = (computed .usable-lossy, packed-computed .objects .1, packed-computed .objects .2, λ e. omega arith, λ c. omega (arith, computed .b-lost, c .accepted .3))
 
 -- ---- roots with the same members
 
@@ -200,7 +200,7 @@ unfolding bytesOf
 many-roots =
     let l = times-length 4097 rootB in
     let whole : length (times 4097 rootB) % 4 ≡ 0 = omega arith in
-    (packed-computed .b-accepted, times-same 4096 rootB refl, whole, none-good, λ s. omega (arith, too-many (times 4097 rootB) whole (omega arith), s .accepted))
+    (packed-computed .b .0, times-same 4096 rootB refl, whole, none-good, λ s. omega (arith, too-many (times 4097 rootB) whole (omega arith), s .accepted))
 
 -- the mark stack has one entry more than 64, or a piece of one
 pub long-stack : AcceptedIn (from rootsCE []) × SameMembers (wordsOf rootsCE) (wordsOf rootsCE) × GoodRoots rootsCE × ¬ SameCollection (from rootsCE []) (from rootsCE (stackOf 65))
@@ -227,11 +227,11 @@ rescans-differ e = omega (arith, ce-rescans, computed .ec-rescans, ap (λ (a : A
 -- one part is refused, or the other
 pub refused-left : AcceptedIn (from rootsAC []) × (length (torn rootB ++ rootsAC) / 4 ≤ 4096) × GoodStack [] × ¬ Union packed (from (torn rootB) []) (from rootsAC []) (from (torn rootB ++ rootsAC) [])
 unfolding bytesOf
-refused-left = (packed-computed .ac-accepted, omega arith, none-good, λ u. omega (arith, computed .torn-left, u .accepted))
+refused-left = (packed-computed .ac .0, omega arith, none-good, λ u. omega (arith, computed .torn-left, u .accepted))
 
 pub refused-right : AcceptedIn (from rootB []) × (length (rootB ++ torn rootsAC) / 4 ≤ 4096) × GoodStack [] × ¬ Union packed (from rootB []) (from (torn rootsAC) []) (from (rootB ++ torn rootsAC) [])
 unfolding bytesOf
-refused-right = (packed-computed .b-accepted, omega arith, none-good, λ u. omega (arith, computed .torn-right, u .accepted))
+refused-right = (packed-computed .b .0, omega arith, none-good, λ u. omega (arith, computed .torn-right, u .accepted))
 
 -- there is one root more than 4,096 in all
 pub many-joined : AcceptedIn (from (times 4095 rootB) []) × AcceptedIn (from rootsAC []) × GoodStack []
@@ -240,8 +240,8 @@ unfolding bytesOf
 many-joined =
     let l = times-length 4095 rootB in
     let n = length-append (times 4095 rootB) rootsAC in (
-      roots-are-a-set packed sampleBase rootB (times 4095 rootB) [] [] m (packed-computed .b-accepted) (times-same 4094 rootB refl) (record { whole = omega arith; few = omega arith }) none-good .accepted,
-      packed-computed .ac-accepted,
+      roots-are-a-set packed sampleBase rootB (times 4095 rootB) [] [] m (packed-computed .b .0) (times-same 4094 rootB refl) (record { whole = omega arith; few = omega arith }) none-good .accepted,
+      packed-computed .ac .0,
       none-good,
       λ u. omega (arith, too-many (times 4095 rootB ++ rootsAC) (omega arith) (omega arith), u .accepted),
     )
@@ -250,7 +250,7 @@ many-joined =
 pub joined-long-stack : AcceptedIn (from rootB []) × AcceptedIn (from rootsAC []) × (length (rootB ++ rootsAC) / 4 ≤ 4096)
     × ¬ Union packed (from rootB []) (from rootsAC []) (from (rootB ++ rootsAC) (stackOf 65))
 unfolding bytesOf
-joined-long-stack = (packed-computed .b-accepted, packed-computed .ac-accepted, omega arith, λ u. omega (arith, computed .joined-long, u .accepted))
+joined-long-stack = (packed-computed .b .0, packed-computed .ac .0, omega arith, λ u. omega (arith, computed .joined-long, u .accepted))
 
 -- in a form that is not faithful
 pub lossy-join : AcceptedIn (collectIn lossy sampleBase rootB [] m) × AcceptedIn (collectIn lossy sampleBase rootsAC [] m) × (length (rootB ++ rootsAC) / 4 ≤ 4096) × GoodStack []

@@ -40,73 +40,32 @@ abbrev pub freed : ℕ → Answer
 freed b = placedAt 0 (negℤ (pos b))
 
 pub record Computed (f : Form) : Type 0 where
-  -- the heap is accepted, and these are objects of it
+  -- the heap is accepted, and A, B, C and E are objects of it
   pub usable : Usable f sampleBase (sampleIn f)
-  pub object-a : ObjectIn f (sampleIn f) 0
-  pub object-b : ObjectIn f (sampleIn f) 1
-  pub object-c : ObjectIn f (sampleIn f) 4
-  pub object-e : ObjectIn f (sampleIn f) 8
+  pub objects : ObjectIn f (sampleIn f) 0 × ObjectIn f (sampleIn f) 1 × ObjectIn f (sampleIn f) 4 × ObjectIn f (sampleIn f) 8
   -- B is freed, and then C, which lies behind it
-  pub b-first : freeIn f sampleBase 1 (sampleIn f) .answer ≡ freed 3
-  pub c-second : freeIn f sampleBase 4 (freeIn f sampleBase 1 (sampleIn f) .memory) .answer ≡ freed 2
-  pub b-c : freeIn f sampleBase 4 (freeIn f sampleBase 1 (sampleIn f) .memory) .memory ≡ withoutBC f
+  pub b-c : (freeIn f sampleBase 1 (sampleIn f) .answer ≡ freed 3)
+      × (freeIn f sampleBase 4 (freeIn f sampleBase 1 (sampleIn f) .memory) .answer ≡ freed 2)
+      × (freeIn f sampleBase 4 (freeIn f sampleBase 1 (sampleIn f) .memory) .memory ≡ withoutBC f)
   -- E is freed, and then A, which lies far before it
-  pub e-first : freeIn f sampleBase 8 (sampleIn f) .answer ≡ freed 2
-  pub a-second : freeIn f sampleBase 0 (freeIn f sampleBase 8 (sampleIn f) .memory) .answer ≡ freed 1
-  pub e-a : freeIn f sampleBase 0 (freeIn f sampleBase 8 (sampleIn f) .memory) .memory ≡ withoutAE f
+  pub e-a : (freeIn f sampleBase 8 (sampleIn f) .answer ≡ freed 2)
+      × (freeIn f sampleBase 0 (freeIn f sampleBase 8 (sampleIn f) .memory) .answer ≡ freed 1)
+      × (freeIn f sampleBase 0 (freeIn f sampleBase 8 (sampleIn f) .memory) .memory ≡ withoutAE f)
   -- what is kept from C and E, with two rescans; from B; and from A and C
-  pub ce-answer : collectIn f sampleBase rootsCE [] (sampleIn f) .answer ≡ collectedTo 3 2 (negℤ (pos 6))
-  pub ce : collectIn f sampleBase rootsCE [] (sampleIn f) .memory ≡ withCDE f
-  pub b-accepted : AcceptedIn (collectIn f sampleBase rootB [] (sampleIn f))
-  pub b : f .read (collectIn f sampleBase rootB [] (sampleIn f) .memory .table) ≡ entriesAB
-  pub ac-accepted : AcceptedIn (collectIn f sampleBase rootsAC [] (sampleIn f))
-  pub ac : f .read (collectIn f sampleBase rootsAC [] (sampleIn f) .memory .table) ≡ entriesACDE
+  pub ce : (collectIn f sampleBase rootsCE [] (sampleIn f) .answer ≡ collectedTo 3 2 (negℤ (pos 6)))
+      × (collectIn f sampleBase rootsCE [] (sampleIn f) .memory ≡ withCDE f)
+  pub b : AcceptedIn (collectIn f sampleBase rootB [] (sampleIn f)) × (f .read (collectIn f sampleBase rootB [] (sampleIn f) .memory .table) ≡ entriesAB)
+  pub ac : AcceptedIn (collectIn f sampleBase rootsAC [] (sampleIn f)) × (f .read (collectIn f sampleBase rootsAC [] (sampleIn f) .memory .table) ≡ entriesACDE)
 
 pub packed-computed : Computed packed
 unfolding count leading tabulate number bytesOf wordAt withWord wordsOf entryOf entriesOf tableOf mayFollow wellAfter wellFormed blockCount released used objects longest addressOf goodBase targetOf headsObject headAt leadsTo changeFrom unlessRefused firstOf goodShape wholeWords pushed visitTo visit walkWords walk drainFor drain trace rootTo markRoot markRoots passBlock passFrom pass rescanFor rescan markAll sweptEntry freeingAfter sweepFrom sweep placing freedHeap free collecting collect survey step orRefused perform
 packed-computed =
-    record {
-      usable = refl;
-      object-a = refl;
-      object-b = refl;
-      object-c = refl;
-      object-e = refl;
-      b-first = refl;
-      c-second = refl;
-      b-c = refl;
-      e-first = refl;
-      a-second = refl;
-      e-a = refl;
-      ce-answer = refl;
-      ce = refl;
-      b-accepted = refl;
-      b = refl;
-      ac-accepted = refl;
-      ac = refl;
-    }
+    record { usable = refl; objects = (refl, refl, refl, refl); b-c = (refl, refl, refl); e-a = (refl, refl, refl); ce = (refl, refl); b = (refl, refl); ac = (refl, refl) }
 
 pub bytewise-computed : Computed bytewise
 unfolding count leading tabulate number bytesOf wordAt withWord wordsOf lowBits lowOnly mayFollow wellAfter wellFormed blockCount released used objects longest addressOf goodBase targetOf headsObject headAt leadsTo changeFrom unlessRefused firstOf goodShape wholeWords pushed visitTo visit walkWords walk drainFor drain trace rootTo markRoot markRoots passBlock passFrom pass rescanFor rescan markAll sweptEntry freeingAfter sweepFrom sweep placing freedHeap free collecting collect survey step orRefused perform
 bytewise-computed =
-    record {
-      usable = refl;
-      object-a = refl;
-      object-b = refl;
-      object-c = refl;
-      object-e = refl;
-      b-first = refl;
-      c-second = refl;
-      b-c = refl;
-      e-first = refl;
-      a-second = refl;
-      e-a = refl;
-      ce-answer = refl;
-      ce = refl;
-      b-accepted = refl;
-      b = refl;
-      ac-accepted = refl;
-      ac = refl;
-    }
+    record { usable = refl; objects = (refl, refl, refl, refl); b-c = (refl, refl, refl); e-a = (refl, refl, refl); ce = (refl, refl); b = (refl, refl); ac = (refl, refl) }
 
 -- ---- what follows
 
@@ -214,13 +173,13 @@ module _ {f : Form} (faithful : Faithful f) (c : Computed f) where
   from roots stack = collectIn f sampleBase roots stack m
 
   near : Commute (freeIn f sampleBase 1 m) (freeIn f sampleBase 4 (freeIn f sampleBase 1 m .memory)) (freeIn f sampleBase 4 m) (freeIn f sampleBase 1 (freeIn f sampleBase 4 m .memory))
-  near = frees-commute f faithful sampleBase 1 4 m (c .usable) (c .object-b) (c .object-c) (λ e. omega arith)
+  near = frees-commute f faithful sampleBase 1 4 m (c .usable) (c .objects .1) (c .objects .2) (λ e. omega arith)
 
   far : Commute (freeIn f sampleBase 8 m) (freeIn f sampleBase 0 (freeIn f sampleBase 8 m .memory)) (freeIn f sampleBase 0 m) (freeIn f sampleBase 8 (freeIn f sampleBase 0 m .memory))
-  far = frees-commute f faithful sampleBase 8 0 m (c .usable) (c .object-e) (c .object-a) (λ e. omega arith)
+  far = frees-commute f faithful sampleBase 8 0 m (c .usable) (c .objects .3) (c .objects .0) (λ e. omega arith)
 
   ce-accepted : AcceptedIn (from rootsCE [])
-  ce-accepted = ap (λ (a : Answer). a .refusal) (c .ce-answer)
+  ce-accepted = ap (λ (a : Answer). a .refusal) (c .ce .0)
 
   to-many : SameCollection (from rootsCE []) (from manyEC (stackOf 64))
   to-many = roots-are-a-set f sampleBase rootsCE manyEC [] (stackOf 64) m ce-accepted members-ec good-many stack-good
@@ -229,27 +188,27 @@ module _ {f : Form} (faithful : Faithful f) (c : Computed f) where
   to-few = roots-are-a-set f sampleBase manyEC rootsEC (stackOf 64) [] m (to-many .accepted) members-once (good-two .0) none-good
 
   b-many : SameCollection (from rootB []) (from manyB [])
-  b-many = roots-are-a-set f sampleBase rootB manyB [] [] m (c .b-accepted) members-b good-b none-good
+  b-many = roots-are-a-set f sampleBase rootB manyB [] [] m (c .b .0) members-b good-b none-good
 
   ac-stack : SameCollection (from rootsAC []) (from rootsAC (stackOf 64))
-  ac-stack = roots-are-a-set f sampleBase rootsAC rootsAC [] (stackOf 64) m (c .ac-accepted) (λ x. (λ i. i, λ i. i)) (good-two .1) stack-good
+  ac-stack = roots-are-a-set f sampleBase rootsAC rootsAC [] (stackOf 64) m (c .ac .0) (λ x. (λ i. i, λ i. i)) (good-two .1) stack-good
 
   union : Union f (from manyB []) (from rootsAC (stackOf 64)) (from (manyB ++ rootsAC) (stackOf 64))
   union = roots-join f faithful sampleBase manyB rootsAC [] (stackOf 64) (stackOf 64) m (b-many .accepted) (ac-stack .accepted) few-joined stack-good
 
   -- the entries that the parts leave
   b-entry : (k : ℕ) → entryIn f (from manyB [] .memory) k ≡ entryAt entriesAB k
-  b-entry k = ap (λ (n : Memory). entryIn f n k) (sym (b-many .same)) ∙ ap (λ (es : List ℕ). entryAt es k) (c .b)
+  b-entry k = ap (λ (n : Memory). entryIn f n k) (sym (b-many .same)) ∙ ap (λ (es : List ℕ). entryAt es k) (c .b .1)
 
   ac-entry : (k : ℕ) → entryIn f (from rootsAC (stackOf 64) .memory) k ≡ entryAt entriesACDE k
-  ac-entry k = ap (λ (n : Memory). entryIn f n k) (sym (ac-stack .same)) ∙ ap (λ (es : List ℕ). entryAt es k) (c .ac)
+  ac-entry k = ap (λ (n : Memory). entryIn f n k) (sym (ac-stack .same)) ∙ ap (λ (es : List ℕ). entryAt es k) (c .ac .1)
 
   many-left : from manyEC (stackOf 64) .memory ≡ withCDE f
-  many-left = sym (to-many .same) ∙ c .ce
+  many-left = sym (to-many .same) ∙ c .ce .1
 
   again : NothingMore (from rootsCE []) (collectIn f sampleBase rootsCE (stackOf 64) (withCDE f))
   again =
-      subst (λ (n : Memory). NothingMore (from rootsCE []) (collectIn f sampleBase rootsCE (stackOf 64) n)) (c .ce)
+      subst (λ (n : Memory). NothingMore (from rootsCE []) (collectIn f sampleBase rootsCE (stackOf 64) n)) (c .ce .1)
       (collect-idempotent f faithful sampleBase rootsCE [] (stackOf 64) m ce-accepted stack-good)
 
   again-many : NothingMore (from manyEC (stackOf 64)) (collectIn f sampleBase manyEC [] (withCDE f))
@@ -260,16 +219,16 @@ module _ {f : Form} (faithful : Faithful f) (c : Computed f) where
   pub concluded : Concluded f
   concluded = record {
     all-accepted = near .accepted;
-    c-first = near .answers .1 ∙ c .c-second;
-    b-second = sym (near .answers .0) ∙ c .b-first;
-    c-b = sym (near .same) ∙ c .b-c;
-    a-first = far .answers .1 ∙ c .a-second;
-    e-second = sym (far .answers .0) ∙ c .e-first;
-    a-e = sym (far .same) ∙ c .e-a;
+    c-first = near .answers .1 ∙ c .b-c .1;
+    b-second = sym (near .answers .0) ∙ c .b-c .0;
+    c-b = sym (near .same) ∙ c .b-c .2;
+    a-first = far .answers .1 ∙ c .e-a .1;
+    e-second = sym (far .answers .0) ∙ c .e-a .0;
+    a-e = sym (far .same) ∙ c .e-a .2;
     many-accepted = to-many .accepted;
-    many-answer = sym (to-many .answer) ∙ ap butRescans (c .ce-answer);
+    many-answer = sym (to-many .answer) ∙ ap butRescans (c .ce .0);
     many = many-left;
-    ec-answer = sym (to-few .answer) ∙ sym (to-many .answer) ∙ ap butRescans (c .ce-answer);
+    ec-answer = sym (to-few .answer) ∙ sym (to-many .answer) ∙ ap butRescans (c .ce .0);
     ec = sym (to-few .same) ∙ many-left;
     joined-accepted = union .accepted;
     joined-b = union .kept 1 .1 (inl (b-entry 1));
@@ -277,8 +236,8 @@ module _ {f : Form} (faithful : Faithful f) (c : Computed f) where
     joined-f = λ e. ⊎-elim (λ p. omega (arith, b-entry 10, p)) (λ p. omega (arith, ac-entry 10, p)) (union .kept 10 .0 e);
     joined-blocks = λ k. union .blocks k ∙ rw (b-entry k, ac-entry k) (either-block k);
     second-accepted = again .accepted;
-    second = again .same ∙ c .ce;
-    second-kept = again .kept ∙ ap (λ (a : Answer). a .kept) (c .ce-answer);
+    second = again .same ∙ c .ce .1;
+    second-kept = again .kept ∙ ap (λ (a : Answer). a .kept) (c .ce .0);
     second-change = again .change;
     second-many = again-many .same ∙ many-left;
   }
