@@ -512,7 +512,7 @@ fn follows_words_in_free_blocks(call: &Call, lent: &mut Lent) -> Reply {
     reply
 }
 
-/// A free that counts so many blocks of the table before it with the object's own.
+/// A right free whose answer counts further blocks with the object's own.
 fn free_counting(call: &Call, lent: &mut Lent, more: impl Fn(&[u8], u64) -> usize) -> Reply {
     let before = lent[Table].clone();
     let mut reply = second(call, lent);
