@@ -151,6 +151,7 @@ each! { frees_do_not_commute:
     counts_free_blocks_before_the_object
     counts_free_blocks_behind_the_object
     frees_nothing_behind_a_free_block
+    refuses_every_call
 }
 
 each! { roots_are_no_set:
@@ -158,11 +159,13 @@ each! { roots_are_no_set:
     unmarks_a_root_that_comes_again
     counts_roots_for_objects
     loses_the_object_of_the_last_root
+    refuses_every_call
 }
 
 each! { joined_roots_keep_no_union:
     keeps_from_the_last_root_alone
     frees_tails_of_kept_objects
+    refuses_every_call
 }
 
 each! { a_second_collection_changes_more:
@@ -512,6 +515,11 @@ fn follows_words_in_free_blocks(call: &Call, lent: &mut Lent) -> Reply {
     reply
 }
 
+/// Answers alike in every order, since it does nothing.
+fn refuses_every_call(call: &Call, _: &mut Lent) -> Reply {
+    Reply::refused(call, Refusal::Table.number())
+}
+
 /// A right free whose answer counts further blocks with the object's own.
 fn free_counting(call: &Call, lent: &mut Lent, more: impl Fn(&[u8], u64) -> usize) -> Reply {
     let before = lent[Table].clone();
@@ -531,7 +539,7 @@ fn counts_free_blocks_before_the_object(call: &Call, lent: &mut Lent) -> Reply {
 fn counts_free_blocks_behind_the_object(call: &Call, lent: &mut Lent) -> Reply {
     free_counting(call, lent, |table, block| {
         let behind = block + object_blocks(table, block)..4 * table.len() as u64;
-        behind.into_iter().take_while(|k| entry(table, *k) == 0).count()
+        behind.take_while(|k| entry(table, *k) == 0).count()
     })
 }
 
