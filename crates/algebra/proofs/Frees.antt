@@ -24,7 +24,7 @@ use Rattle.promises.proofs.Observed.{free-number, free-answer}
 use Rattle.promises.proofs.Whole.{whole}
 
 -- an object of a heap that is accepted can be freed
-pub free-accepts : (base : ℕ) (h : Heap) (k : ℕ) → Passed base h → Object h k → Accepted (free base h k)
+free-accepts : (base : ℕ) (h : Heap) (k : ℕ) → Passed base h → Object h k → Accepted (free base h k)
 unfolding First ofFree
 free-accepts base h k good head =
     free-number base h k 0

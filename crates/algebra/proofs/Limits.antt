@@ -29,7 +29,7 @@ use Rattle.algebra.specs.Algebra.{freeIn, collectIn, Usable, entryIn, Ob
 use Rattle.algebra.proofs.Algebra.{roots-are-a-set}
 use Rattle.algebra.proofs.Times.{times-length, times-same}
 use Rattle.algebra.proofs.Samples.{packed-computed, none-good}
-use Rattle.algebra.specs.Samples.{sampleIn, rootB, rootE, rootsAC, rootsCE, rootsEC, torn, times, stackOf, illFormed, lossy}
+use Rattle.algebra.specs.Samples.{sampleIn, rootB, rootE, rootsAC, rootsCE, rootsEC, torn, times, stackOf, tailFirst, lossy}
 
 abbrev m : Memory
 m = sampleIn packed
@@ -53,9 +53,9 @@ pub record Computed : Type 0 where
   pub b-twice : freeIn packed sampleBase 1 (freeIn packed sampleBase 1 m .memory) .answer .refusal ≡ 7
   pub tail : freeIn packed sampleBase 2 m .answer .refusal ≡ 7
   pub base-0 : freeIn packed 0 1 m .answer .refusal ≡ 1
-  pub init-ill : AcceptedIn (perform packed (Init sampleBase) [] illFormed)
-  pub heads-ill : ObjectIn packed illFormed 1 × ObjectIn packed illFormed 4
-  pub b-ill : freeIn packed sampleBase 1 illFormed .answer .refusal ≡ 2
+  pub init-ill : AcceptedIn (perform packed (Init sampleBase) [] tailFirst)
+  pub heads-ill : ObjectIn packed tailFirst 1 × ObjectIn packed tailFirst 4
+  pub b-ill : freeIn packed sampleBase 1 tailFirst .answer .refusal ≡ 2
   pub b-lost : freeIn lossy sampleBase 1 (freeIn lossy sampleBase 4 m .memory) .answer .refusal ≡ 1
   -- collections from E and C; from E; from C and E with a byte too many among the roots; with a stack entry too many; and with a byte too many there
   pub ec-rescans : from rootsEC [] .answer .rescans ≡ 1
@@ -157,8 +157,8 @@ pub bad-base : ObjectIn packed m 1 × ObjectIn packed m 4 × (_≢_ {A = ℕ} 1 
 bad-base = (packed-computed .objects .1, packed-computed .objects .2, λ e. omega arith, λ c. omega (arith, computed .base-0, c .accepted .0))
 
 -- in a table that is not well-formed
-pub bad-table : AcceptedIn (perform packed (Init sampleBase) [] illFormed) × ObjectIn packed illFormed 1 × ObjectIn packed illFormed 4 × (_≢_ {A = ℕ} 1 4)
-    × ¬ Both packed sampleBase 1 4 illFormed
+pub bad-table : AcceptedIn (perform packed (Init sampleBase) [] tailFirst) × ObjectIn packed tailFirst 1 × ObjectIn packed tailFirst 4 × (_≢_ {A = ℕ} 1 4)
+    × ¬ Both packed sampleBase 1 4 tailFirst
 bad-table = (computed .init-ill, computed .heads-ill .0, computed .heads-ill .1, λ e. omega arith, λ c. omega (arith, computed .b-ill, c .accepted .0))
 
 -- in a form that is not faithful

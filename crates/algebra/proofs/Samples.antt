@@ -117,8 +117,8 @@ members-swapped u v x = (swap, swap)
     swap (List·Memᴰ·head e) = List·Memᴰ·tail (List·Memᴰ·head e)
     swap (List·Memᴰ·tail (List·Memᴰ·head e)) = List·Memᴰ·head e
 
-members-joined : {xs ys zs : List ℕ} → SameMembers xs ys → SameMembers ys zs → SameMembers xs zs
-members-joined s t x = (λ m. t x .0 (s x .0 m), λ m. s x .1 (t x .1 m))
+members-trans : {xs ys zs : List ℕ} → SameMembers xs ys → SameMembers ys zs → SameMembers xs zs
+members-trans s t x = (λ m. t x .0 (s x .0 m), λ m. s x .1 (t x .1 m))
 
 stack-good : GoodStack (stackOf 64)
 stack-good = record { whole = refl; short = omega arith }
@@ -129,7 +129,7 @@ none-good = record { whole = refl; short = omega arith }
 -- the words of both, and of one of them so many times over
 members-ec : SameMembers (wordsOf rootsCE) (wordsOf manyEC)
 unfolding tabulate number bytesOf wordAt wordsOf
-members-ec = members-joined (members-swapped (addressAt 4) (addressAt 8)) (times-same 2047 rootsEC refl)
+members-ec = members-trans (members-swapped (addressAt 4) (addressAt 8)) (times-same 2047 rootsEC refl)
 
 members-once : SameMembers (wordsOf manyEC) (wordsOf rootsEC)
 unfolding bytesOf

@@ -79,8 +79,8 @@ abbrev pub torn : List ℕ → List ℕ
 torn roots = roots ++ 0 ∷ []
 
 -- the same heap with a TAIL in block 0, which no call but init accepts
-abbrev pub illFormed : Memory
-illFormed = withEntries packed (TAIL ∷ HEAD ∷ TAIL ∷ TAIL ∷ HEAD ∷ TAIL ∷ HEAD ∷ FREE ∷ HEAD ∷ TAIL ∷ HEAD ∷ TAIL ∷ [])
+abbrev pub tailFirst : Memory
+tailFirst = withEntries packed (TAIL ∷ HEAD ∷ TAIL ∷ TAIL ∷ HEAD ∷ TAIL ∷ HEAD ∷ FREE ∷ HEAD ∷ TAIL ∷ HEAD ∷ TAIL ∷ [])
 
 -- a form that is not faithful: it loses a table with an object at block 1
 abbrev pub lossy : Form
