@@ -1,13 +1,25 @@
 -- What the shifts and masks of a table byte come to. Writing is one test over every byte, entry and value, which antt computes.
 -- Assumes nothing.
 use mathlib.Core.Path.{_≡_, refl, _∙_}
-use mathlib.Core.Bool.{Bool}
+use mathlib.Core.Bool.{Bool, true, false, not}
 use Prim.Native.Nat.{ℕ, _-_, _*_, _/_, _%_, _^_, _<_}
 use lib.Dec.{T, eqb, eqb→eq}
 use lib.Bits.{bitAnd, bitOr, and-mask}
 use Rattle.rules.specs.Entries.{entryOf}
 use Rattle.rules.proofs.Below.{allBelow, below}
 use Rattle.rules.proofs.Entries.{four, byteWith}
+
+-- whether two tests say the same
+unfoldable pub same : Bool → Bool → Bool
+same true b = b
+same false b = not b
+
+pub same-eq : (a b : Bool) → T (same a b) → a ≡ b
+unfolding same
+same-eq true true t = refl
+same-eq true false t = absurd t
+same-eq false true t = absurd t
+same-eq false false t = refl
 
 pub read-mask : (b j : ℕ) → j < 4 → bitAnd (b / 2 ^ (2 * j)) 3 ≡ entryOf b j
 unfolding entryOf

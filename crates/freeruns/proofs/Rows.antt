@@ -4,18 +4,18 @@ use mathlib.Core.Path.{_≡_, refl, sym, ap, _∙_}
 use mathlib.Core.Logic.{_≢_}
 use mathlib.Core.Bool.{Bool, true, false, not}
 use Prim.Native.Nat.{ℕ, zero, suc, _+_, _-_, _*_, _/_, _%_, _^_, _≤_, _<_}
-use native.Mathlib.Nat.{le-trans, lt-of-lt-of-le, mul-comm, div-div-eq-div-mul}
+use native.Mathlib.Nat.{lt-of-lt-of-le, mul-comm, div-div-eq-div-mul}
 use native.Mathlib.Decide.{ℕ-discrete, decLt}
 use native.Mathlib.Omega.{arith}
 use lib.Dec.{T, eqb, eqb→eq, lit<}
 use lib.Bits.{bitAnd, bitOr, bitXor, and-le-l, and-le-r, and-zero-r, xor-lt}
-use lib.Count.{trailingZeros, leadingZeros, leading-of-zero, leading-top}
+use lib.Count.{trailingZeros, leadingZeros, leading-of-zero}
 use lib.Pow.{pow-mono, shr-le}
 use Rattle.rules.specs.Tests.{pick}
 use Rattle.rules.specs.Entries.{entryOf}
 use Rattle.rules.specs.Tables.{isFree, isUsed}
 use Rattle.rules.proofs.Below.{allBelow, below}
-use Rattle.rules.proofs.Entries.{four-pow, entryOf-and, entryOf-or, entryOf-xor, entryOf-shr, entryOf-suc, entryOf-zero, entryOf-above, entryOf-top, entries-zero}
+use Rattle.rules.proofs.Entries.{four-pow, entryOf-and, entryOf-or, entryOf-xor, entryOf-shr, entryOf-suc, entryOf-zero, entryOf-above, TopEntry, top-entry, entries-zero}
 use Rattle.freeruns.specs.Rows.{LowerBits, Picks, Zeros, Row, RowStarts, WholeRow}
 
 -- ---- the zeros at both ends of a number of 64 digits
@@ -61,15 +61,8 @@ zeros-above a h = go (ℕ-discrete a 0)
     go : Dec (a ≡ 0) → Zeros 32 (λ (j : ℕ). entryOf a (31 - j)) (leadingZeros 64 a / 2)
     go (yes z) = rw (z, leading-of-zero 64) record { few = omega arith; before = λ j l. entryOf-zero (31 - j); next = λ l. absurd (omega arith) }
     go (no some) =
-        let top = leading-top 64 a (omega arith) h in
-        let n : ℕ = leadingZeros 64 a / 2 in
-        let t : ℕ = 31 - n in
-        let reach : (i : ℕ) → suc (top .0) ≤ 2 * i → a < 4 ^ i = λ i m. rw (four-pow i) (lt-of-lt-of-le (top .3) (pow-mono m)) in
-        record {
-          few = omega (arith, top .1);
-          before = λ j l. entryOf-above a (31 - j) (reach (31 - j) (omega (arith, top .1)));
-          next = λ l. entryOf-top a t (rw (four-pow t) (le-trans (pow-mono (omega (arith, top .1))) (top .2))) (reach (suc t) (omega (arith, top .1)));
-        }
+        let top : TopEntry 32 a (leadingZeros 64 a / 2) = top-entry 32 a (omega arith) h in
+        record { few = omega (arith, top .few); before = λ j l. top .above (31 - j) (omega (arith, top .few)); next = λ l. top .set }
 
 -- the first bit of a number of k entries is in one of them
 pub first-lt : (k a n : ℕ) → a < 4 ^ k → a ≢ 0 → Zeros 32 (λ (j : ℕ). entryOf a j) n → n < k

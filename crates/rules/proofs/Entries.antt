@@ -3,14 +3,15 @@
 use mathlib.Core.Path.{_≡_, refl, sym, ap, _∙_}
 use mathlib.Core.Logic.{_≢_}
 use mathlib.Core.List.{List, [], _∷_}
-use Prim.Native.Nat.{ℕ, zero, suc, _+_, _*_, _/_, _%_, _^_, _≤_, _<_}
-use native.Mathlib.Nat.{pow-suc, pow-succ', one-le-pow, div-div-eq-div-mul, zero-div, div-eq-of-lt, le-div-iff-mul-le, div-lt-iff-lt-mul}
+use Prim.Native.Nat.{ℕ, zero, suc, _+_, _-_, _*_, _/_, _%_, _^_, _≤_, _<_}
+use native.Mathlib.Nat.{le-trans, lt-of-lt-of-le, pow-suc, pow-succ', one-le-pow, div-div-eq-div-mul, zero-div, div-eq-of-lt, le-div-iff-mul-le, div-lt-iff-lt-mul}
 use native.Mathlib.Decide.{ℕ-discrete}
 use native.Mathlib.Omega.{arith}
 use lib.Dec.{eqb, eqb→eq}
-use lib.Bits.{bitAnd, bitOr, bitXor, and-shr, or-shr, xor-shr, and-mod, or-mod, xor-mod}
+use lib.Bits.{bitAnd, bitOr, bitXor, and-shr, or-shr, xor-shr, and-mod, or-mod, xor-mod, or-add-and, and-le-l, and-le-r}
 use lib.ListN.{length, getD, set, replicate, length-set}
-use lib.Pow.{pow-add}
+use lib.Count.{leadingZeros, leading-top}
+use lib.Pow.{pow-add, pow-mono}
 use lib.Seq.{sets, ext-getD, getD-set-same, getD-set-other}
 use Rattle.rules.specs.Entries.{entryOf, entriesOf, tableOf}
 use Rattle.rules.specs.Meaning.{TableIsEntries}
@@ -47,6 +48,10 @@ pub entryOf-xor : (a b j : ℕ) → entryOf (bitXor a b) j ≡ bitXor (entryOf a
 unfolding entryOf
 entryOf-xor a b j = rw (four-pow j, xor-shr a b (2 * j)) (xor-mod (a / 2 ^ (2 * j)) (b / 2 ^ (2 * j)) 2)
 
+-- two numbers joined are 0 only if both are
+pub or-none : (a b : ℕ) → bitOr a b ≡ 0 → (a ≡ 0) × (b ≡ 0)
+or-none a b z = omega (arith, or-add-and a b, and-le-l a b, and-le-r a b)
+
 -- a shift by s entries
 pub entryOf-shr : (a s j : ℕ) → entryOf (a / 2 ^ (2 * s)) j ≡ entryOf a (s + j)
 unfolding entryOf
@@ -73,6 +78,24 @@ entryOf-top a j l h z =
     let some : 1 ≤ a / 4 ^ j = le-div-iff-mul-le (pow-pos j) .1 (omega (arith, l)) in
     let few : a / 4 ^ j < 4 = div-lt-iff-lt-mul (pow-pos j) .1 (rw (pow-succ' 4 j) at h) in
     omega (arith, some, few, z)
+
+-- n of k entries stand above the last that is not 0
+pub record TopEntry (k a n : ℕ) : Type 0 where
+  pub few : n < k
+  pub set : entryOf a (k - 1 - n) ≢ 0
+  pub above : (j : ℕ) → k - 1 - n < j → entryOf a j ≡ 0
+
+-- half as many as zeros above the highest set digit
+pub top-entry : (k a : ℕ) → 0 < a → a < 4 ^ k → TopEntry k a (leadingZeros (2 * k) a / 2)
+top-entry k a some h =
+    let top = leading-top (2 * k) a some (rw (four-pow k) at h) in
+    let t : ℕ = k - 1 - leadingZeros (2 * k) a / 2 in
+    let reach : (i : ℕ) → suc (top .0) ≤ 2 * i → a < 4 ^ i = λ i m. rw (four-pow i) (lt-of-lt-of-le (top .3) (pow-mono m)) in
+    record {
+      few = omega (arith, top .1);
+      set = entryOf-top a t (rw (four-pow t) (le-trans (pow-mono (omega (arith, top .1))) (top .2))) (reach (suc t) (omega (arith, top .1)));
+      above = λ j l. entryOf-above a j (reach j (omega (arith, top .1)));
+    }
 
 -- a number with no entry but 0 is 0
 pub entries-zero : (k a : ℕ) → a < 4 ^ k → ((j : ℕ) → j < k → entryOf a j ≡ 0) → a ≡ 0

@@ -2,7 +2,7 @@
 -- One test over every byte, which antt computes, ties a turn's masks to the rule at the byte's four entries.
 -- Assumes nothing.
 use mathlib.Core.Path.{_≡_, refl, sym, ap, _∙_}
-use mathlib.Core.Bool.{Bool, true, false, not}
+use mathlib.Core.Bool.{Bool, true, false}
 use mathlib.Core.List.{List, [], _∷_}
 use Prim.Native.Nat.{ℕ, _+_, _-_, _*_, _/_, _%_, _≤_, _<_}
 use native.Mathlib.Numerals.{add-one}
@@ -18,6 +18,7 @@ use Rattle.rules.specs.Tests.{both}
 use Rattle.rules.specs.Entries.{entryOf, entriesOf}
 use Rattle.rules.specs.Tables.{isFree, mayFollow, wellAfter, wellFormed}
 use Rattle.rules.proofs.Below.{allBelow, below}
+use Rattle.entries.proofs.Masks.{same, same-eq}
 use Rattle.entries.proofs.well_formed.Statement.{statement}
 use Rattle.entries.proofs.well_formed.Tie as tie
 
@@ -30,17 +31,6 @@ both-assoc false b c = refl
 both-true : (a : Bool) → both a true ≡ a
 both-true true = refl
 both-true false = refl
-
-same : Bool → Bool → Bool
-same true b = b
-same false b = not b
-
-same-eq : (a b : Bool) → T (same a b) → a ≡ b
-unfolding same
-same-eq true true t = refl
-same-eq true false t = absurd t
-same-eq false true t = absurd t
-same-eq false false t = refl
 
 both-T : (a b : Bool) → T (both a b) → T a × T b
 both-T true b t = (tt, t)

@@ -1,11 +1,11 @@
 -- `may_start_in_16`: as long as nothing is found, no run starts in the bytes passed.
 -- Assumes nothing.
 use mathlib.Core.Path.{_≡_}
-use Prim.Native.Nat.{ℕ, _+_, _-_, _*_, _≤_}
+use Prim.Native.Nat.{_+_, _-_, _*_, _≤_}
 use native.Mathlib.Omega.{arith}
-use lib.Bits.{bitOr, or-add-and, and-le-l, and-le-r}
 use borrow.Author.Needs.{needs}
 use Rattle.rules.specs.Entries.{entriesOf}
+use Rattle.rules.proofs.Entries.{or-none}
 use Rattle.freeruns.specs.Starts.{NoStart}
 use Rattle.freeruns.proofs.Starts.{no-start-join, none-at-all}
 use Rattle.freeruns.proofs.may_start_in_16.Statement.{statement}
@@ -16,9 +16,6 @@ Inv-loop table i count any₀ j₀ any j = (j ≤ 16) × (any ≡ 0 → NoStart 
 
 abbrev μ-loop : tie.MeasureT-loop
 μ-loop table i count any₀ j₀ any j = 16 - j
-
-or-none : (a b : ℕ) → bitOr a b ≡ 0 → (a ≡ 0) × (b ≡ 0)
-or-none a b z = omega (arith, or-add-and a b, and-le-l a b, and-le-r a b)
 
 loop-holds : tie.Need-loop-holds Inv-loop μ-loop
 loop-holds c = (search needs, λ z q l h r. omega arith)
