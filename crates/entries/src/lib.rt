@@ -8,6 +8,7 @@ ghost use Rattle.rules.specs.Entries.{entriesOf};
 ghost use Rattle.rules.specs.Tables.{entryAt, wellFormed};
 use memory::Block;
 
+pub mod back;
 pub mod whole;
 
 pub const FREE: u8 = 0;

@@ -13,10 +13,10 @@ use lib.Dec.{eqb}
 use lib.ListN.{length, drop, length-drop, List·getD-eq-default}
 use lib.Seq.{drop-nil, getD-drop}
 use borrow.Author.Tests.{eqb-true, eqb-false, eq-eqb, ne-eqb, leb-true, le-leb}
-use Rattle.rules.specs.Tests.{both, leading}
+use Rattle.rules.specs.Tests.{pick, both, leading}
 use Rattle.rules.specs.Entries.{FREE, HEAD, TAIL, MARK}
-use Rattle.rules.specs.Tables.{entryAt, isFree, isUsed, isHead, isTail, mayFollow, wellAfter, wellFormed, blockCount, freeFrom, fits, firstFrom, firstRun, used, objects, longest}
-use Rattle.rules.specs.Meaning.{Well, Extent, Run, Lowest, Longest}
+use Rattle.rules.specs.Tables.{entryAt, isFree, isUsed, isHead, isTail, mayFollow, wellAfter, wellFormed, blockCount, startOf, freeFrom, fits, firstFrom, firstRun, used, objects, longest}
+use Rattle.rules.specs.Meaning.{Well, Extent, Start, Run, Lowest, Longest}
 use Rattle.rules.proofs.Refusals.{true-not-false, both-left, both-right}
 use Rattle.rules.proofs.Lists.{count-le, leading-le, leading-pass, leading-stop, leading-more}
 
@@ -119,6 +119,45 @@ extent-one es k b c p q = go (decLt b c) (decLt c b)
 
 pub count-is : (es : List ℕ) (k b : ℕ) → Extent es k b → blockCount es k ≡ b
 count-is es k b x = extent-one es k (blockCount es k) b (extent-of es k (omega (arith, x .some-block, x .room))) x
+
+-- the TAILs that follow block k are blocks of its object
+pub count-covers : (es : List ℕ) (k b : ℕ) → k < length es → ((j : ℕ) → k < j → j ≤ b → entryAt es j ≡ TAIL) → b < k + blockCount es k
+count-covers es k b h tails = go (decLt b (k + blockCount es k))
+  where
+    go : Dec (b < k + blockCount es k) → b < k + blockCount es k
+    go (yes l) = l
+    go (no l) = let x = extent-of es k h in absurd (x .next (tails (k + blockCount es k) (omega (arith, x .some-block)) (omega arith)))
+
+-- ---- where an object starts
+
+pub start-says : (es : List ℕ) (k : ℕ) → Start es k (startOf es k)
+unfolding startOf
+start-says es zero = record { from = omega arith; tails = λ j l r. absurd (omega arith); first = λ l. absurd (omega arith) }
+start-says es (suc k) = go (ℕ-discrete (entryAt es (suc k)) TAIL) (start-says es k)
+  where
+    go : Dec (entryAt es (suc k) ≡ TAIL) → Start es k (startOf es k) → Start es (suc k) (pick (isTail (entryAt es (suc k))) (startOf es k) (suc k))
+    go (yes q) s =
+        rw (eq-eqb _ _ q) (record { from = omega (arith, s .from); tails = λ j l r. ⊎-elim (λ e. rw e q) (λ u. s .tails j l (omega arith)) (eq-or-lt-of-le r); first = s .first })
+    go (no q) s = rw (ne-eqb _ _ q) (record { from = omega arith; tails = λ j l r. absurd (omega arith); first = λ l. q })
+
+pub start-one : (es : List ℕ) (k s t : ℕ) → Start es k s → Start es k t → s ≡ t
+start-one es k s t p q = go (decLt s t) (decLt t s)
+  where
+    go : Dec (s < t) → Dec (t < s) → s ≡ t
+    go (yes l) _ = absurd (q .first (omega arith) (p .tails t l (q .from)))
+    go (no _) (yes l) = absurd (p .first (omega arith) (q .tails s l (p .from)))
+    go (no l) (no r) = omega arith
+
+-- a block that is no TAIL starts its own object
+pub start-own : (es : List ℕ) (k : ℕ) → entryAt es k ≢ TAIL → startOf es k ≡ k
+start-own es k other =
+    start-one es k (startOf es k) k (start-says es k) (record { from = omega arith; tails = λ j l r. absurd (omega arith); first = λ l. other })
+
+-- the blocks on the way back from block b have the same start
+pub start-between : (es : List ℕ) (k b s : ℕ) → s ≡ startOf es b → s ≤ k → k ≤ b → startOf es k ≡ s
+start-between es k b s e l r =
+    let w : Start es b s = rw e (start-says es b) in
+    start-one es k (startOf es k) s (start-says es k) (record { from = l; tails = λ j a c. w .tails j a (omega arith); first = w .first })
 
 -- the blocks of an object are used
 pub extent-used : (es : List ℕ) (k b : ℕ) → Extent es k b → entryAt es k ≢ FREE → (j : ℕ) → j < b → entryAt es (k + j) ≢ FREE

@@ -54,6 +54,14 @@ pub record Extent (es : List ℕ) (k b : ℕ) : Type 0 where
   -- the next block, if there is one, is no TAIL
   pub next : entryAt es (k + b) ≢ TAIL
 
+-- the object of block k starts at block s
+pub record Start (es : List ℕ) (k s : ℕ) : Type 0 where
+  pub from : s ≤ k
+  -- the blocks after s up to k are TAILs
+  pub tails : (j : ℕ) → s < j → j ≤ k → entryAt es j ≡ TAIL
+  -- and s is none, unless it is block 0
+  pub first : 0 < s → entryAt es s ≢ TAIL
+
 -- b blocks may start at block s
 pub record Run (es : List ℕ) (b s : ℕ) : Type 0 where
   -- the b blocks from s on are blocks of the table

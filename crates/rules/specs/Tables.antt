@@ -7,7 +7,7 @@ use Prim.Native.Nat.{ℕ, zero, suc, _-_, max}
 use lib.Dec.{eqb, leb}
 use lib.ListN.{getD, drop, replicate}
 use lib.Seq.{sets}
-use Rattle.rules.specs.Tests.{both, count, leading}
+use Rattle.rules.specs.Tests.{pick, both, count, leading}
 use Rattle.rules.specs.Entries.{FREE, HEAD, TAIL, MARK}
 
 -- the entry of block k; outside the table, FREE
@@ -42,6 +42,11 @@ wellFormed es = wellAfter FREE es
 -- how many blocks the object with head k has: the head and all the TAILs directly after it
 unfoldable pub blockCount : List ℕ → ℕ → ℕ
 blockCount es k = suc (leading isTail (drop (suc k) es))
+
+-- where the object of block k starts: at block k if that is no TAIL, else where the object of the block before it does
+unfoldable pub startOf : List ℕ → ℕ → ℕ
+startOf es zero = zero
+startOf es (suc k) = pick (isTail (entryAt es (suc k))) (startOf es k) (suc k)
 
 -- how many consecutive blocks are FREE from block s on
 unfoldable pub freeFrom : List ℕ → ℕ → ℕ
