@@ -9,7 +9,7 @@ use lib.ListN.{length, length-append}
 use Rattle.rules.specs.Tests.{count, leading, tabulate}
 use Rattle.rules.specs.Words.{number, bytesOf, wordAt, withWord, wordsOf}
 use Rattle.rules.specs.Entries.{FREE, entryOf, entriesOf, tableOf}
-use Rattle.rules.specs.Tables.{mayFollow, wellAfter, wellFormed, blockCount, released, used, objects, longest}
+use Rattle.rules.specs.Tables.{mayFollow, wellAfter, wellFormed, blockCount, startOf, released, used, objects, longest}
 use Rattle.rules.specs.Forms.{Form, packed}
 use Rattle.rules.specs.Pointers.{addressOf, goodBase, targetOf, headsObject, headAt, leadsTo}
 use Rattle.rules.specs.Outcomes.{Answer, changeFrom, unlessRefused}
@@ -81,7 +81,7 @@ pub record Computed : Type 0 where
   pub lossy-again : collectIn lossy sampleBase rootB [] (collectIn lossy sampleBase rootB [] m .memory) .answer .refusal ≡ 1
 
 pub computed : Computed
-unfolding count leading tabulate number bytesOf wordAt withWord wordsOf entryOf entriesOf tableOf mayFollow wellAfter wellFormed blockCount released used objects longest addressOf goodBase targetOf headsObject headAt leadsTo changeFrom unlessRefused firstOf goodShape wholeWords pushed visitTo visit walkWords walk drainFor drain trace rootTo markRoot markRoots passBlock passFrom pass rescanFor rescan markAll sweptEntry freeingAfter sweepFrom sweep init placing freed free collecting collect survey store step orRefused perform
+unfolding count leading tabulate number bytesOf wordAt withWord wordsOf entryOf entriesOf tableOf mayFollow wellAfter wellFormed blockCount startOf released used objects longest addressOf goodBase targetOf headsObject headAt leadsTo changeFrom unlessRefused firstOf goodShape wholeWords pushed visitTo visit walkWords walk drainFor drain trace rootTo markRoot markRoots passBlock passFrom pass rescanFor rescan markAll sweptEntry freeingAfter sweepFrom sweep init placing freed free collecting collect survey store step orRefused perform
 computed =
     record {
       usable-lossy = refl;

@@ -13,7 +13,7 @@ use lib.ListN.{length, length-append}
 use Rattle.rules.specs.Tests.{count, leading, tabulate}
 use Rattle.rules.specs.Words.{number, bytesOf, wordAt, withWord, wordsOf}
 use Rattle.rules.specs.Entries.{entryOf, entriesOf, tableOf}
-use Rattle.rules.specs.Tables.{entryAt, mayFollow, wellAfter, wellFormed, blockCount, released, used, objects, longest}
+use Rattle.rules.specs.Tables.{entryAt, mayFollow, wellAfter, wellFormed, blockCount, startOf, released, used, objects, longest}
 use Rattle.rules.specs.Forms.{Form, Faithful, packed}
 use Rattle.rules.specs.Bytewise.{lowBits, lowOnly, bytewise}
 use Rattle.rules.specs.Pointers.{addressOf, goodBase, targetOf, headsObject, headAt, leadsTo}
@@ -58,12 +58,12 @@ pub record Computed (f : Form) : Type 0 where
   pub ac : AcceptedIn (collectIn f sampleBase rootsAC [] (sampleIn f)) × (f .read (collectIn f sampleBase rootsAC [] (sampleIn f) .memory .table) ≡ entriesACDE)
 
 pub packed-computed : Computed packed
-unfolding count leading tabulate number bytesOf wordAt withWord wordsOf entryOf entriesOf tableOf mayFollow wellAfter wellFormed blockCount released used objects longest addressOf goodBase targetOf headsObject headAt leadsTo changeFrom unlessRefused firstOf goodShape wholeWords pushed visitTo visit walkWords walk drainFor drain trace rootTo markRoot markRoots passBlock passFrom pass rescanFor rescan markAll sweptEntry freeingAfter sweepFrom sweep placing freedHeap free collecting collect survey step orRefused perform
+unfolding count leading tabulate number bytesOf wordAt withWord wordsOf entryOf entriesOf tableOf mayFollow wellAfter wellFormed blockCount startOf released used objects longest addressOf goodBase targetOf headsObject headAt leadsTo changeFrom unlessRefused firstOf goodShape wholeWords pushed visitTo visit walkWords walk drainFor drain trace rootTo markRoot markRoots passBlock passFrom pass rescanFor rescan markAll sweptEntry freeingAfter sweepFrom sweep placing freedHeap free collecting collect survey step orRefused perform
 packed-computed =
     record { usable = refl; objects = (refl, refl, refl, refl); b-c = (refl, refl, refl); e-a = (refl, refl, refl); ce = (refl, refl); b = (refl, refl); ac = (refl, refl) }
 
 pub bytewise-computed : Computed bytewise
-unfolding count leading tabulate number bytesOf wordAt withWord wordsOf lowBits lowOnly mayFollow wellAfter wellFormed blockCount released used objects longest addressOf goodBase targetOf headsObject headAt leadsTo changeFrom unlessRefused firstOf goodShape wholeWords pushed visitTo visit walkWords walk drainFor drain trace rootTo markRoot markRoots passBlock passFrom pass rescanFor rescan markAll sweptEntry freeingAfter sweepFrom sweep placing freedHeap free collecting collect survey step orRefused perform
+unfolding count leading tabulate number bytesOf wordAt withWord wordsOf lowBits lowOnly mayFollow wellAfter wellFormed blockCount startOf released used objects longest addressOf goodBase targetOf headsObject headAt leadsTo changeFrom unlessRefused firstOf goodShape wholeWords pushed visitTo visit walkWords walk drainFor drain trace rootTo markRoot markRoots passBlock passFrom pass rescanFor rescan markAll sweptEntry freeingAfter sweepFrom sweep placing freedHeap free collecting collect survey step orRefused perform
 bytewise-computed =
     record { usable = refl; objects = (refl, refl, refl, refl); b-c = (refl, refl, refl); e-a = (refl, refl, refl); ce = (refl, refl); b = (refl, refl); ac = (refl, refl) }
 

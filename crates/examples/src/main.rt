@@ -118,8 +118,22 @@ fn store(example: u64, pool: &mut [u8; 128], table: &[u8; 2], k: u64, i: usize, 
     print::end(table);
 }
 
+fn collect(example: u64, pool: &[u8; 128], table: &mut [u8; 2], roots: &[u8], stack: &mut [u8]) {
+    print::begin(example, &*table);
+    print::text(b" collect from");
+    print::root(roots);
+    print::text(b" with a stack of ");
+    print::number((stack.len() / 4) as u64);
+    let r = collector::collect(Address::of_number(BASE), pool, &mut *table, roots, stack);
+    print::refusal(r.refusal);
+    print::part(b"kept", r.kept);
+    print::part(b"rescans", r.rescans);
+    print::change(r.change);
+    print::end(&*table);
+}
+
 // The heap of examples 9 to 11, where word 0 of block 4 leads to block 0, collected from these roots with this mark stack.
-fn collect(example: u64, roots: &[u8], stack: &mut [u8]) {
+fn collect_linked(example: u64, roots: &[u8], stack: &mut [u8]) {
     let mut pool = [0u8; 128];
     let mut table = [165u8, 169];
     heap::store(
@@ -130,17 +144,7 @@ fn collect(example: u64, roots: &[u8], stack: &mut [u8]) {
         0,
         4096,
     );
-    print::begin(example, &table);
-    print::text(b" collect from");
-    print::root(roots);
-    print::text(b" with a stack of ");
-    print::number((stack.len() / 4) as u64);
-    let r = collector::collect(Address::of_number(BASE), &pool, &mut table, roots, stack);
-    print::refusal(r.refusal);
-    print::part(b"kept", r.kept);
-    print::part(b"rescans", r.rescans);
-    print::change(r.change);
-    print::end(&table);
+    collect(example, &pool, &mut table, roots, stack);
 }
 
 // An empty heap is filled, and its objects are freed, shrunk and grown.
@@ -176,14 +180,14 @@ fn examples_9_to_11() {
     let inside = [1u8, 16, 0, 0];
     let mut stack = [238u8; 256];
     let mut no_stack = [0u8; 0];
-    collect(9, &head, &mut stack);
-    collect(9, &head, &mut no_stack);
-    collect(10, &none, &mut stack);
-    collect(10, &none, &mut no_stack);
-    collect(11, &tail, &mut stack);
-    collect(11, &tail, &mut no_stack);
-    collect(11, &inside, &mut stack);
-    collect(11, &inside, &mut no_stack);
+    collect_linked(9, &head, &mut stack);
+    collect_linked(9, &head, &mut no_stack);
+    collect_linked(10, &none, &mut stack);
+    collect_linked(10, &none, &mut no_stack);
+    collect_linked(11, &tail, &mut stack);
+    collect_linked(11, &tail, &mut no_stack);
+    collect_linked(11, &inside, &mut stack);
+    collect_linked(11, &inside, &mut no_stack);
 }
 
 // A table that is not well-formed.
@@ -204,6 +208,19 @@ fn examples_14_and_15() {
     reallocate(15, &mut pool, &mut table, 8, 0);
 }
 
+// A chain through the third block of one object to the second of another.
+fn example_16() {
+    let root = [96u8, 16, 0, 0];
+    let mut stack = [238u8; 256];
+    let mut no_stack = [0u8; 0];
+    let mut pool = [0u8; 128];
+    let mut table = [169u8, 25];
+    store(16, &mut pool, &table, 6, 0, 4128);
+    store(16, &mut pool, &table, 0, 15, 4176);
+    collect(16, &pool, &mut table, &root, &mut stack);
+    collect(16, &pool, &mut table, &root, &mut no_stack);
+}
+
 fn main() {
     examples_1_to_7();
     example_8();
@@ -215,4 +232,5 @@ fn main() {
     init(13, 4294967184);
     init(13, 0);
     examples_14_and_15();
+    example_16();
 }

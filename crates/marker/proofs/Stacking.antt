@@ -1,21 +1,22 @@
--- The lent stack: what a push and a pop do to the words that are in use, and what a visit leaves.
+-- The lent stack: what a push and a pop do to the words that are in use, and what a push leaves.
 -- Assumes nothing.
-use mathlib.Core.Path.{_≡_, refl, sym, ap}
+use mathlib.Core.Path.{_≡_, refl, sym, ap, _∙_}
+use mathlib.Core.Logic.{⊎-elim}
 use mathlib.Core.Bool.{true}
 use mathlib.Core.List.{List, _∷_}
-use mathlib.Core.Option.{some, none}
 use Prim.Native.Nat.{ℕ, zero, suc, _+_, _-_, _*_, _/_, _^_, _≤_, _<_}
 use native.Mathlib.Numerals.{add-one}
 use native.Mathlib.Omega.{arith}
 use lib.ListN.{length, set}
 use borrow.Author.Tests.{lt-ltb, le-ltb}
 use Rattle.rules.specs.Words.{wordAt, withWord}
-use Rattle.rules.specs.Entries.{entriesOf, MARK}
-use Rattle.rules.specs.Marking.{pushed, visit}
+use Rattle.rules.specs.Entries.{HEAD, MARK, entriesOf}
+use Rattle.rules.specs.Tables.{entryAt, startOf}
+use Rattle.rules.specs.Marking.{State, marked, pushed}
 use Rattle.rules.proofs.Words.{length-withWord, wordAt-withWord, wordAt-other}
+use Rattle.rules.proofs.Marks.{start-marked}
 use Rattle.marker.specs.declared.Marking.{Marking}
-use Rattle.marker.specs.Variables.{unmarkedTo, stacked, contextOf, stateOf, Came}
-use Rattle.marker.proofs.Pointing.{visit-stays, visit-takes}
+use Rattle.marker.specs.Variables.{stacked, contextOf, stateOf, Knows, Remembers, Came}
 
 pub stacked-length : (stack : List ℕ) (d : ℕ) → length (stacked stack d) ≡ d
 stacked-length stack zero = refl
@@ -36,28 +37,39 @@ pub stacked-pop : (stack : List ℕ) (d : ℕ) → 0 < d → stacked stack d ≡
 stacked-pop stack zero h = absurd (omega arith)
 stacked-pop stack (suc d) h = let e : suc d - 1 ≡ d = omega arith in rw e
 
--- the three ends of a visit
-module _ (base : ℕ) (table stack : List ℕ) (m : Marking) (w : ℕ) (deep : m .depth ≤ length stack / 4) (pool : List ℕ) where
-  pub came-stays : none ≡ unmarkedTo base (entriesOf table) w → Came (visit (contextOf base pool stack) w (stateOf table stack m)) table stack m
-  came-stays q = record { same = sym (visit-stays (contextOf base pool stack) w (stateOf table stack m) q); deep = deep }
+-- what is remembered holds when a HEAD becomes MARK
+knows-marked : (es es′ : List ℕ) (k : ℕ) (m : Marking) → entryAt es k ≡ HEAD → es′ ≡ set es k MARK → Knows es m → Knows es′ m
+knows-marked es es′ k m h e q = q ∙ sym (rw e (start-marked es k (m .last .0) h))
 
-  pub came-pushes : (k : ℕ) {table′ stack′ : List ℕ} → some k ≡ unmarkedTo base (entriesOf table) w → k < 2 ^ 32 → m .depth < length stack / 4
-      → entriesOf table′ ≡ set (entriesOf table) k MARK → stack′ ≡ withWord stack (m .depth) k
-      → Came (visit (contextOf base pool stack) w (stateOf table stack m)) table′ stack′ (record { depth = m .depth + 1; overflow = m .overflow })
+-- what is remembered of two ways that hold holds
+pub knows-either : (es : List ℕ) (m r : Marking) (start k : ℕ) → Knows es m → start ≡ startOf es k → Remembers m start k r → Knows es r
+knows-either es m r start k q e w = ⊎-elim (λ a. rw (a .0, a .1) q) (λ a. rw (a .0, a .1) e) (w .way)
+
+pub state-remembers : (table stack : List ℕ) (m r : Marking) (start k : ℕ) → Remembers m start k r → stateOf table stack r ≡ stateOf table stack m
+state-remembers table stack m r start k w = rw (w .depth, w .overflow)
+
+pub came-to : {x y : State} {table stack : List ℕ} {m : Marking} → Came x table stack m → x ≡ y → Came y table stack m
+came-to c e = record { same = c .same ∙ e; deep = c .deep; knows = c .knows }
+
+-- the two ends of a push
+module _ (base : ℕ) (pool table stack : List ℕ) (m : Marking) (k : ℕ) (deep : m .depth ≤ length stack / 4) (knows : Knows (entriesOf table) m)
+    (head : entryAt (entriesOf table) k ≡ HEAD) {table′ : List ℕ} (set-to : entriesOf table′ ≡ set (entriesOf table) k MARK) where
+  pub came-pushes : {stack′ : List ℕ} → k < 2 ^ 32 → m .depth < length stack / 4 → stack′ ≡ withWord stack (m .depth) k
+      → Came (pushed (contextOf base pool stack) k (marked k (stateOf table stack m))) table′ stack′ (record { depth = m .depth + 1; overflow = m .overflow; first = m .first; last = m .last })
   unfolding pushed
-  came-pushes k q b r e f =
+  came-pushes b r f =
       record {
-        same =
-            rw (visit-takes (contextOf base pool stack) w (stateOf table stack m) k q, stacked-length stack (m .depth), lt-ltb (m .depth) (length stack / 4) r, e, f, stacked-push stack k (m .depth) (omega arith) b);
+        same = rw (stacked-length stack (m .depth), lt-ltb (m .depth) (length stack / 4) r, set-to, f, stacked-push stack k (m .depth) (omega arith) b);
         deep = rw (f, length-withWord stack (m .depth) k) (omega arith);
+        knows = knows-marked (entriesOf table) (entriesOf table′) k m head set-to knows;
       }
 
-  pub came-loses : (k : ℕ) {table′ : List ℕ} → some k ≡ unmarkedTo base (entriesOf table) w → length stack / 4 ≤ m .depth
-      → entriesOf table′ ≡ set (entriesOf table) k MARK
-      → Came (visit (contextOf base pool stack) w (stateOf table stack m)) table′ stack (record { depth = m .depth; overflow = true })
+  pub came-loses : length stack / 4 ≤ m .depth
+      → Came (pushed (contextOf base pool stack) k (marked k (stateOf table stack m))) table′ stack (record { depth = m .depth; overflow = true; first = m .first; last = m .last })
   unfolding pushed
-  came-loses k q r e =
+  came-loses r =
       record {
-        same = rw (visit-takes (contextOf base pool stack) w (stateOf table stack m) k q, stacked-length stack (m .depth), le-ltb (m .depth) (length stack / 4) r, e);
+        same = rw (stacked-length stack (m .depth), le-ltb (m .depth) (length stack / 4) r, set-to);
         deep = deep;
+        knows = knows-marked (entriesOf table) (entriesOf table′) k m head set-to knows;
       }

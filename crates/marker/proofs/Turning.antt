@@ -2,22 +2,20 @@
 -- Assumes nothing.
 use mathlib.Core.Path.{_≡_, refl, sym, ap, _∙_}
 use mathlib.Core.Bool.{Bool, true, false}
-use mathlib.Core.Option.{some}
-use mathlib.Core.List.{List, _∷_, List·Memᴰ·head}
+use mathlib.Core.List.{List, _∷_, List·Memᴰ·head, List·Memᴰ·not-nil}
 use Prim.Native.Nat.{ℕ, _+_, _-_, _*_, _/_, _≤_, _<_}
 use native.Mathlib.Omega.{arith}
 use native.Mathlib.Numerals.{add-one}
-use lib.ListN.{length, getD, set, drop}
+use lib.ListN.{length, getD, drop}
 use Rattle.rules.specs.Words.{wordAt, wordsOf}
-use Rattle.rules.specs.Tables.{entryAt, blockCount}
+use Rattle.rules.specs.Tables.{entryAt, blockCount, startOf}
 use Rattle.rules.specs.Entries.{entriesOf, MARK}
 use Rattle.rules.specs.Marking.{Context, State, state, markedIn, visit, walkWords, walk, drain, trace, markRoot, markRoots, passBlock, passFrom, pass, rescan, markAll}
 use Rattle.rules.proofs.Words.{length-wordsOf, getD-wordsOf}
 use Rattle.rules.proofs.Entries.{length-entriesOf}
-use Rattle.rules.proofs.Marking.{words-turn, words-end, roots-turn, pass-walks, pass-turn, pass-end, toDrain, pop-measure, drain-pop, drain-nil, toRescan, pass-measure, rescan-more, rescan-done, markAll-from, Sane, sane-start, sane-pop, sane-walk}
+use Rattle.rules.proofs.Marking.{words-turn, words-end, roots-turn, pass-walks, pass-turn, pass-end, toDrain, pop-less, walk-measure, drain-pop, drain-nil, toRescan, pass-measure, rescan-more, rescan-done, markAll-from, Sane, sane-pop, sane-walk}
 use Rattle.marker.specs.declared.Marking.{Marking}
-use Rattle.marker.specs.Variables.{unmarkedTo, stacked, contextOf, stateOf, idle, Shape, Came, CanDrain}
-use Rattle.marker.proofs.Pointing.{root-marks}
+use Rattle.marker.specs.Variables.{stacked, contextOf, stateOf, idle, Shape, Came, CanTrace}
 use Rattle.marker.proofs.Stacking.{stacked-length, stacked-pop}
 
 -- a stack of the same length makes the same context
@@ -35,66 +33,52 @@ module _ (base : ℕ) (pool stack₀ : List ℕ) where
   unfolding walk
   walk-end k n first i s s₀ h f e r = words-end (contextOf base pool stack₀) first i s h r ∙ rw (f, e)
 
--- what a turn of draining leaves
-pub record Popped (base : ℕ) (pool stack₀ table stack : List ℕ) (m : Marking) (table′ stack′ : List ℕ) (m′ : Marking) : Type 0 where
-  pub can : CanDrain pool table′ stack′ m′
-  pub less : toDrain (stateOf table′ stack′ m′) < toDrain (stateOf table stack m)
-  pub same : drain (contextOf base pool stack₀) (stateOf table′ stack′ m′) ≡ drain (contextOf base pool stack₀) (stateOf table stack m)
-
--- the popped word is a block
-pub top-below : (pool table stack : List ℕ) (m : Marking) → CanDrain pool table stack m → 0 < m .depth → wordAt stack (m .depth - 1) < length (entriesOf table)
-top-below pool table stack m can h =
-    can .below (wordAt stack (m .depth - 1)) (rw (stacked-pop stack (m .depth) h) (List·Memᴰ·head refl))
-
 pub shape-same : (pool table table′ : List ℕ) → Shape pool table → length table′ ≡ length table → Shape pool table′
 shape-same pool table table′ s e = record { small = omega (arith, s .small); whole = rw (length-entriesOf table′, e) (rw (length-entriesOf table) at (s .whole)) }
 
-module _ (base : ℕ) (pool stack₀ table stack : List ℕ) (m : Marking) (can : CanDrain pool table stack m) (long : length stack ≡ length stack₀) where
-  pub sane : Sane (contextOf base pool stack₀) (length (entriesOf table)) (stateOf table stack m)
-  sane = record { long = refl; below = can .below; fits = rw (stacked-length stack (m .depth), ← long) (can .deep) }
+-- at the start of a trace the stack is empty, and block 0 is its own start
+pub can-start : (pool table stack : List ℕ) (m : Marking) → Shape pool table → m .depth ≡ 0 → m .first .0 ≡ 0 → m .last .0 ≡ 0 → CanTrace pool table stack m
+unfolding startOf
+can-start pool table stack m shape e f l =
+    record { shape = shape; deep = omega arith; knows = rw (f, l) refl; below = λ k i. absurd (List·Memᴰ·not-nil (rw e at i)) }
 
-  pub popped : (w : ℕ) (table′ stack′ : List ℕ) (m′ : Marking) → 0 < m .depth → w ≡ wordAt stack (m .depth - 1)
-      → length table′ ≡ length table
-      → Came (walk (contextOf base pool stack) w (stateOf table stack (record { depth = m .depth - 1; overflow = m .overflow }))) table′ stack′ m′
-      → Popped base pool stack₀ table stack m table′ stack′ m′
-  popped w table′ stack′ m′ h e t came =
-      let c : Context = contextOf base pool stack₀ in
-      let st : List ℕ = stacked stack (m .depth - 1) in
-      let rest : State = state (entriesOf table) st (m .overflow) in
-      let full : stateOf table stack m ≡ state (entriesOf table) (w ∷ st) (m .overflow) = rw (e, stacked-pop stack (m .depth) h) in
-      let q : stateOf table′ stack′ m′ ≡ walk c w rest = rw (context-same base pool stack₀ stack long) at (came .same) in
-      let g : Sane c (length (entriesOf table)) (stateOf table′ stack′ m′) = rw q (sane-walk w rest (sane-pop (rw full at sane))) in
+-- the block taken from the stack, with what is then left to trace
+pub record Popped (base : ℕ) (pool stack₀ table stack : List ℕ) (m : Marking) (k : ℕ) (table′ stack′ : List ℕ) (m′ : Marking) (w : ℕ) : Type 0 where
+  pub can : CanTrace pool table′ stack′ m′
+  pub inside : w < length (entriesOf table′)
+  pub less : toDrain (stateOf table′ stack′ m′) < toDrain (stateOf table stack m)
+  pub same : trace (contextOf base pool stack₀) w (stateOf table′ stack′ m′) ≡ trace (contextOf base pool stack₀) k (stateOf table stack m)
+
+-- the walk of an object leaves a state from which the last pushed one is traced
+module _ (base : ℕ) (pool stack₀ table stack : List ℕ) (m : Marking) (can : CanTrace pool table stack m) (long : length stack ≡ length stack₀)
+    (k : ℕ) (table′ stack′ : List ℕ) (m′ : Marking) (t : length table′ ≡ length table) (came : Came (walk (contextOf base pool stack) k (stateOf table stack m)) table′ stack′ m′) where
+  abbrev c : Context
+  c = contextOf base pool stack₀
+
+  walked : stateOf table′ stack′ m′ ≡ walk c k (stateOf table stack m)
+  walked = rw (context-same base pool stack₀ stack long) at (came .same)
+
+  sane : Sane c (length (entriesOf table)) (stateOf table′ stack′ m′)
+  sane = rw walked (sane-walk k (stateOf table stack m) (record { long = refl; below = can .below; fits = rw (stacked-length stack (m .depth), ← long) (can .deep) }))
+
+  pub trace-end : m′ .depth ≡ 0 → idle table′ (m′ .overflow) ≡ trace c k (stateOf table stack m)
+  unfolding trace
+  trace-end e = sym (drain-nil c (entriesOf table′) (m′ .overflow)) ∙ (rw e at (ap (drain c) walked))
+
+  pub popped : (w : ℕ) → 0 < m′ .depth → w ≡ wordAt stack′ (m′ .depth - 1)
+      → Popped base pool stack₀ table stack m k table′ stack′ (record { depth = m′ .depth - 1; overflow = m′ .overflow; first = m′ .first; last = m′ .last }) w
+  unfolding trace
+  popped w h e =
+      let st : List ℕ = stacked stack′ (m′ .depth - 1) in
+      let full : stateOf table′ stack′ m′ ≡ state (entriesOf table′) (w ∷ st) (m′ .overflow) = rw (e, stacked-pop stack′ (m′ .depth) h) in
+      let g : Sane c (length (entriesOf table)) (state (entriesOf table′) (w ∷ st) (m′ .overflow)) = rw full at sane in
       let l : length (entriesOf table′) ≡ length (entriesOf table) = g .long in
       record {
-        can = record { shape = shape-same pool table table′ (can .shape) t; deep = came .deep; below = rw l (g .below) };
-        less = rw (q, full) (pop-measure c (entriesOf table) w st (m .overflow));
-        same = rw (q, full) (sym (drain-pop c (entriesOf table) w st (m .overflow)));
+        can = record { shape = shape-same pool table table′ (can .shape) t; deep = omega (arith, came .deep); knows = came .knows; below = rw l (sane-pop g .below) };
+        inside = rw l (g .below w (List·Memᴰ·head refl));
+        less = omega (arith, walk-measure c k (stateOf table stack m), ap toDrain (sym full ∙ walked), pop-less (entriesOf table′) w st (m′ .overflow));
+        same = sym (drain-pop c (entriesOf table′) w st (m′ .overflow)) ∙ ap (drain c) (sym full ∙ walked);
       }
-
-pub drain-end : (c : Context) (table stack : List ℕ) (m : Marking) {z : State} → m .depth ≤ 0 → drain c (stateOf table stack m) ≡ z → idle table (m .overflow) ≡ z
-drain-end c table stack m h i =
-    let e : m .depth ≡ 0 = omega arith in
-    sym (drain-nil c (entriesOf table) (m .overflow)) ∙ (rw e at i)
-
--- the walk of an object from an empty stack leaves what can be drained, and draining that ends the trace
-module _ (base : ℕ) (pool table stack : List ℕ) (overflow : Bool) (k : ℕ) (table′ stack′ : List ℕ) (m′ : Marking)
-    (came : Came (walk (contextOf base pool stack) k (idle table overflow)) table′ stack′ m′) where
-  pub walked-can : Shape pool table → length table′ ≡ length table → CanDrain pool table′ stack′ m′
-  walked-can shape t =
-      let c : Context = contextOf base pool stack in
-      let g : Sane c (length (entriesOf table)) (stateOf table′ stack′ m′) = rw (came .same) (sane-walk k (idle table overflow) (sane-start (entriesOf table) overflow refl)) in
-      let l : length (entriesOf table′) ≡ length (entriesOf table) = g .long in
-      record { shape = shape-same pool table table′ shape t; deep = came .deep; below = rw l (g .below) }
-
-  pub trace-end : {z : State} → length stack′ ≡ length stack → z ≡ drain (contextOf base pool stack′) (stateOf table′ stack′ m′)
-      → z ≡ trace (contextOf base pool stack) k (idle table overflow)
-  unfolding trace
-  trace-end e q = q ∙ rw (context-same base pool stack stack′ e, came .same)
-
--- a root's block that was a HEAD, marked and traced
-pub root-end : (c : Context) (w k : ℕ) (table table′ : List ℕ) (overflow : Bool) {z : State} → some k ≡ unmarkedTo (c .base) (entriesOf table) w
-    → entriesOf table′ ≡ set (entriesOf table) k MARK → z ≡ trace c k (idle table′ overflow) → z ≡ markRoot c w (idle table overflow)
-root-end c w k table table′ overflow q e r = (rw e at r) ∙ sym (root-marks c w (idle table overflow) k q)
 
 -- a block that is MARK, traced
 pub block-end : (c : Context) (k : ℕ) (s : State) {z : State} → entryAt (s .entries) k ≡ MARK → z ≡ trace c k s → z ≡ passBlock c k s

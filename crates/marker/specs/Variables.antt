@@ -1,27 +1,16 @@
 -- What the code's variables stand for in the rules: the context, the state of the marking, and what the functions ask and leave.
 -- Assumes nothing.
 use mathlib.Core.Path.{_≡_}
+use mathlib.Core.Logic.{_⊎_}
 use mathlib.Core.Bool.{Bool}
 use mathlib.Core.List.{List, [], _∷_, List·Memᴰ}
-use mathlib.Core.Option.{Option, some, none}
 use Prim.Native.Nat.{ℕ, zero, suc, _*_, _/_, _≤_, _<_}
 use lib.ListN.{length}
-use Rattle.rules.specs.Tests.{pick}
 use Rattle.rules.specs.Words.{wordAt}
 use Rattle.rules.specs.Entries.{entriesOf}
-use Rattle.rules.specs.Tables.{entryAt, isHead}
-use Rattle.rules.specs.Pointers.{leadsTo}
+use Rattle.rules.specs.Tables.{startOf}
 use Rattle.rules.specs.Marking.{Context, State, state}
 use Rattle.marker.specs.declared.Marking.{Marking}
-
--- a block, if it is a HEAD
-unfoldable pub ifHead : List ℕ → Option ℕ → Option ℕ
-ifHead es none = none
-ifHead es (some k) = pick (isHead (entryAt es k)) (some k) none
-
--- the block that the word w leads to, if it is not marked
-unfoldable pub unmarkedTo : ℕ → List ℕ → ℕ → Option ℕ
-unmarkedTo base es w = ifHead es (leadsTo base es w)
 
 -- the first d words of the lent stack, the last first
 abbrev pub stacked : List ℕ → ℕ → List ℕ
@@ -45,13 +34,25 @@ pub record Shape (pool table : List ℕ) : Type 0 where
   pub small : length table ≤ 1024
   pub whole : length pool ≡ 16 * length (entriesOf table)
 
--- the variables stand for the state `to`, and the depth is within the stack
+-- what is remembered of a way back holds: the object of block `last` starts at block `first`
+abbrev pub Knows : List ℕ → Marking → Type 0
+Knows es m = m .first .0 ≡ startOf es (m .last .0)
+
+-- the way back from block k to `start` is remembered, or that of before
+pub record Remembers (m : Marking) (start k : ℕ) (r : Marking) : Type 0 where
+  pub depth : r .depth ≡ m .depth
+  pub overflow : r .overflow ≡ m .overflow
+  pub way : ((r .first .0 ≡ m .first .0) × (r .last .0 ≡ m .last .0)) ⊎ ((r .first .0 ≡ start) × (r .last .0 ≡ k))
+
+-- the variables stand for the state `to`, the depth is within the stack, and what is remembered holds
 pub record Came (to : State) (table stack : List ℕ) (m : Marking) : Type 0 where
   pub same : stateOf table stack m ≡ to
   pub deep : m .depth ≤ length stack / 4
+  pub knows : Knows (entriesOf table) m
 
--- what draining asks: the words of the stack that are in use are blocks of the table
-pub record CanDrain (pool table stack : List ℕ) (m : Marking) : Type 0 where
+-- what tracing asks: the words of the stack that are in use are blocks of the table
+pub record CanTrace (pool table stack : List ℕ) (m : Marking) : Type 0 where
   pub shape : Shape pool table
   pub deep : m .depth ≤ length stack / 4
+  pub knows : Knows (entriesOf table) m
   pub below : (k : ℕ) → List·Memᴰ k (stacked stack (m .depth)) → k < length (entriesOf table)

@@ -2,65 +2,123 @@
 ghost use mathlib.Core.Path.{_≡_};
 ghost use mathlib.Core.Bool.{true, false};
 ghost use mathlib.Core.List.{List};
+ghost use mathlib.Core.Option.{some};
 ghost use Prim.Native.Nat.{ℕ, _/_, _≤_, _<_};
 ghost use lib.ListN.{length};
 ghost use Rattle.rules.specs.Words.{wordsOf};
-ghost use Rattle.rules.specs.Entries.{entriesOf};
-ghost use Rattle.rules.specs.Marking.{markedIn, markAll, visit as visitOf, walk as walkOf, drain as drainOf, trace as traceOf, markRoot, markRoots, passBlock, pass};
-ghost use Rattle.memory.specs.Places.{found};
-ghost use Rattle.marker.specs.Variables.{unmarkedTo, contextOf, stateOf, idle, Shape, Came, CanDrain};
+ghost use Rattle.rules.specs.Entries.{HEAD, entriesOf};
+ghost use Rattle.rules.specs.Tables.{entryAt, startOf};
+ghost use Rattle.rules.specs.Pointers.{headAt};
+ghost use Rattle.rules.specs.Marking.{markedIn, markAll, marked, pushed, visitTo, visit as visitOf, walk as walkOf, trace as traceOf, markRoot, markRoots, passBlock, pass};
+ghost use Rattle.marker.specs.Variables.{contextOf, stateOf, idle, Shape, Knows, Remembers, Came};
 use memory::Address;
 use memory::Block;
 use memory::Found;
 
-// How many entries of the mark stack are in use, and whether a block has been lost because it was full.
+// How many entries of the mark stack are in use, and whether a block has been lost because it was full. And the longest way back from a
+// TAIL that was gone: the object of block `last` starts at block `first`.
 pub struct Marking {
     pub depth: usize,
     pub overflow: bool,
+    pub first: Block,
+    pub last: Block,
 }
 
-// The block that the word w leads to, if it is a HEAD and so not marked.
-fn unmarked(base: Address, table: &[u8], w: u32) -> Found
-    requires { ⌜ length (now table) ≤ 1024 ⌝ }
-    ensures { λ r. ⌜ found r ≡ unmarkedTo (base .0) (entriesOf (now (table .entry))) w ⌝ }
-{
-    let target = base.target(entries::blocks(table), w);
-    match target {
-        Found::At(k) => {
-            if entries::entry(table, k) == entries::HEAD {
-                Found::At(k)
-            } else {
-                Found::Nowhere
-            }
-        }
-        Found::Nowhere => Found::Nowhere,
-    }
-}
-
-// A word of a walked object: an unmarked block that it leads to becomes MARK and is pushed, or the overflow is set.
-fn visit(base: Address, table: &mut [u8], stack: &mut [u8], m: Marking, w: u32) -> Marking
-    requires { ⌜ (length (now table) ≤ 1024) × (m .depth ≤ length (now stack) / 4) ⌝ }
-    ensures { λ r. ⌜ ((pool : List ℕ) → Came (visitOf (contextOf (base .0) pool (now (stack .entry))) w (stateOf (now (table .entry)) (now (stack .entry)) m))
+// Block k, a HEAD, becomes MARK and is pushed, or the overflow is set.
+fn push(table: &mut [u8], stack: &mut [u8], m: Marking, k: Block) -> Marking
+    requires { ⌜ (length (now table) ≤ 1024) × ((m .depth ≤ length (now stack) / 4) × Knows (entriesOf (now table)) m) ⌝ }
+    requires { ⌜ entryAt (entriesOf (now table)) (k .0) ≡ HEAD ⌝ }
+    ensures { λ r. ⌜ ((base : ℕ) (pool : List ℕ) → Came (pushed (contextOf base pool (now (stack .entry))) (k .0) (marked (k .0) (stateOf (now (table .entry)) (now (stack .entry)) m)))
         (now (table .exit)) (now (stack .exit)) r) ⌝ }
 {
-    let target = unmarked(base, &*table, w);
-    let Found::At(k) = target else {
-        return m;
-    };
     entries::set_entry(&mut *table, k, entries::MARK);
     let d = m.depth;
+    let first = m.first;
+    let last = m.last;
     if d < stack.len() / 4 {
         memory::set_word(&mut *stack, d, k.to_word());
         let deeper = d + 1;
         return Marking {
             depth: deeper,
             overflow: m.overflow,
+            first,
+            last,
         };
     }
     Marking {
         depth: d,
         overflow: true,
+        first,
+        last,
     }
+}
+
+// Where the object of block k starts: as remembered, or by the table.
+fn start_of(table: &[u8], m: Marking, k: Block) -> Block
+    requires { ⌜ (length (now table) ≤ 1024) × ((k .0 < length (entriesOf (now table))) × Knows (entriesOf (now table)) m) ⌝ }
+    ensures { λ r. ⌜ r .0 ≡ startOf (entriesOf (now (table .entry))) (k .0) ⌝ }
+{
+    if k.is_from(m.first) {
+        if m.last.is_from(k) {
+            return m.first;
+        }
+    }
+    entries::back::start(table, k)
+}
+
+// The way from block k back to the start of its object is remembered, if it is longer than the one before.
+fn remember(m: Marking, start: Block, k: Block) -> Marking
+    requires { ⌜ (m .first .0 ≤ m .last .0) × (start .0 ≤ k .0) ⌝ }
+    ensures { λ r. ⌜ Remembers m (start .0) (k .0) r ⌝ }
+{
+    let mut first = m.first;
+    let mut last = m.last;
+    if first.until(last.index()) < start.until(k.index()) {
+        first = start;
+        last = k;
+    }
+    Marking {
+        depth: m.depth,
+        overflow: m.overflow,
+        first,
+        last,
+    }
+}
+
+// Block k, a TAIL, is the target of a word of a walked object: the object's head, if it is HEAD, becomes MARK and is pushed.
+fn visit_tail(table: &mut [u8], stack: &mut [u8], m: Marking, k: Block) -> Marking
+    requires { ⌜ (length (now table) ≤ 1024) × ((m .depth ≤ length (now stack) / 4) × Knows (entriesOf (now table)) m) ⌝ }
+    requires { ⌜ k .0 < length (entriesOf (now table)) ⌝ }
+    ensures { λ r. ⌜ ((base : ℕ) (pool : List ℕ) → Came
+        (visitTo (contextOf base pool (now (stack .entry))) (stateOf (now (table .entry)) (now (stack .entry)) m) (headAt (entriesOf (now (table .entry))) (some (k .0))))
+        (now (table .exit)) (now (stack .exit)) r) ⌝ }
+{
+    let head = start_of(&*table, m, k);
+    let seen = remember(m, head, k);
+    if entries::entry(&*table, head) != entries::HEAD {
+        return seen;
+    }
+    push(&mut *table, &mut *stack, seen, head)
+}
+
+// A word of a walked object: if it leads to a HEAD, that becomes MARK and is pushed, or the overflow is set.
+fn visit(base: Address, table: &mut [u8], stack: &mut [u8], m: Marking, w: u32) -> Marking
+    requires { ⌜ (length (now table) ≤ 1024) × ((m .depth ≤ length (now stack) / 4) × Knows (entriesOf (now table)) m) ⌝ }
+    ensures { λ r. ⌜ ((pool : List ℕ) → Came (visitOf (contextOf (base .0) pool (now (stack .entry))) w (stateOf (now (table .entry)) (now (stack .entry)) m))
+        (now (table .exit)) (now (stack .exit)) r) ⌝ }
+{
+    let target = base.target(entries::blocks(&*table), w);
+    let Found::At(k) = target else {
+        return m;
+    };
+    let e = entries::entry(&*table, k);
+    if e == entries::HEAD {
+        return push(&mut *table, &mut *stack, m, k);
+    }
+    if e == entries::TAIL {
+        return visit_tail(&mut *table, &mut *stack, m, k);
+    }
+    m
 }
 
 // All the words of the object with head k, from the last to the first.
@@ -73,7 +131,7 @@ fn walk(
     k: Block,
 ) -> Marking
     requires { ⌜ Shape (now pool) (now table) ⌝ }
-    requires { ⌜ (m .depth ≤ length (now stack) / 4) × (k .0 < length (entriesOf (now table))) ⌝ }
+    requires { ⌜ (m .depth ≤ length (now stack) / 4) × ((k .0 < length (entriesOf (now table))) × Knows (entriesOf (now table)) m) ⌝ }
     ensures { λ r. ⌜ Came (walkOf (contextOf (base .0) (now (pool .entry)) (now (stack .entry))) (k .0) (stateOf (now (table .entry)) (now (stack .entry)) m))
         (now (table .exit)) (now (stack .exit)) r ⌝ }
 {
@@ -93,26 +151,7 @@ fn walk(
     walked
 }
 
-// The last pushed object is walked, until the stack is empty. Returns the overflow.
-fn drain(base: Address, pool: &[u8], table: &mut [u8], stack: &mut [u8], m: Marking) -> bool
-    requires { ⌜ CanDrain (now pool) (now table) (now stack) m ⌝ }
-    ensures { λ r. ⌜ idle (now (table .exit)) r
-        ≡ drainOf (contextOf (base .0) (now (pool .entry)) (now (stack .entry))) (stateOf (now (table .entry)) (now (stack .entry)) m) ⌝ }
-{
-    let mut left = m;
-    while 0 < left.depth {
-        let d = left.depth - 1;
-        let k = Block::of_word(memory::word(&*stack, d));
-        let popped = Marking {
-            depth: d,
-            overflow: left.overflow,
-        };
-        left = walk(base, pool, &mut *table, &mut *stack, popped, k);
-    }
-    left.overflow
-}
-
-// The object with head k is walked, and then what that pushed. Returns the overflow.
+// The object with head k is walked, and then the last pushed one, until the stack is empty. Returns the overflow.
 fn trace(
     base: Address,
     pool: &[u8],
@@ -126,12 +165,32 @@ fn trace(
     ensures { λ r. ⌜ idle (now (table .exit)) r
         ≡ traceOf (contextOf (base .0) (now (pool .entry)) (now (stack .entry))) (k .0) (idle (now (table .entry)) overflow) ⌝ }
 {
-    let empty = Marking { depth: 0, overflow };
-    let walked = walk(base, pool, &mut *table, &mut *stack, empty, k);
-    drain(base, pool, &mut *table, &mut *stack, walked)
+    let mut left = Marking {
+        depth: 0,
+        overflow,
+        first: Block::first(),
+        last: Block::first(),
+    };
+    let mut next = k;
+    loop {
+        let walked = walk(base, pool, &mut *table, &mut *stack, left, next);
+        if walked.depth == 0 {
+            return walked.overflow;
+        }
+        let d = walked.depth - 1;
+        next = Block::of_word(memory::word(&*stack, d));
+        let first = walked.first;
+        let last = walked.last;
+        left = Marking {
+            depth: d,
+            overflow: walked.overflow,
+            first,
+            last,
+        };
+    }
 }
 
-// A root: an unmarked block that it leads to becomes MARK and is traced. Returns the overflow.
+// A root: if it leads to a HEAD, that becomes MARK and is traced. Returns the overflow.
 fn mark_root(
     base: Address,
     pool: &[u8],
@@ -144,12 +203,16 @@ fn mark_root(
     ensures { λ r. ⌜ idle (now (table .exit)) r
         ≡ markRoot (contextOf (base .0) (now (pool .entry)) (now (stack .entry))) w (idle (now (table .entry)) overflow) ⌝ }
 {
-    let target = unmarked(base, &*table, w);
+    let target = base.target(entries::blocks(&*table), w);
     let Found::At(k) = target else {
         return overflow;
     };
-    entries::set_entry(&mut *table, k, entries::MARK);
-    trace(base, pool, &mut *table, &mut *stack, overflow, k)
+    let head = entries::back::start(&*table, k);
+    if entries::entry(&*table, head) != entries::HEAD {
+        return overflow;
+    }
+    entries::set_entry(&mut *table, head, entries::MARK);
+    trace(base, pool, &mut *table, &mut *stack, overflow, head)
 }
 
 // The roots in list order. Returns the overflow.

@@ -74,6 +74,13 @@ impl Block {
         self.0 < n
     }
 
+    // Whether it is the other block, or one after it.
+    pub fn is_from(self, other: Block) -> bool
+        ensures { λ r. ⌜ r ≡ leb (other .0) (self .0) ⌝ }
+    {
+        other.0 <= self.0
+    }
+
     // How many of n blocks there are from this one on.
     pub fn until(self, n: usize) -> usize
         requires { ⌜ self .0 ≤ n ⌝ }

@@ -8,7 +8,6 @@ use mathlib.Core.List.{List, [], _∷_, List·Memᴰ, List·Memᴰ·head, List·
 use mathlib.Core.Option.{Option, some}
 use Prim.Native.Nat.{ℕ, zero, suc, _+_, _*_, _≤_, _<_}
 use native.Mathlib.Omega.{arith}
-use lib.Dec.{eqb}
 use lib.ListN.{length, getD, replicate, length-replicate}
 use borrow.Author.Tests.{eq-eqb, ne-eqb, eqb-true}
 use Rattle.rules.specs.Tests.{pick}
@@ -23,7 +22,7 @@ use Rattle.keeping.specs.Keeping.{marking}
 use Rattle.keeping.proofs.Sound.{sound}
 use Rattle.keeping.proofs.Complete.{complete}
 use Rattle.plain.specs.Objects.{Object, Plain, end, find}
-use Rattle.plain.specs.Tracing.{View, isIn, ledTo, trace, among}
+use Rattle.plain.specs.Tracing.{View, isIn, addresses, ledTo, trace, among}
 use Rattle.plain.specs.Reaching.{Reachable, root, edge, Keeps}
 use Rattle.plain.specs.Replies.{left}
 use Rattle.plain.specs.Refines.{ListKeepsReachable}
@@ -54,7 +53,7 @@ of-at (w ∷ ws) (suc i) h = List·Memᴰ·tail (of-at ws i (omega arith))
 pub led-member : (base w : ℕ) (os : List Object) {o : Object} → ledTo base w os ≡ some o → List·Memᴰ o os
 unfolding ledTo
 led-member base w [] e = let z : _≡_ {A = ℕ} 0 1 = cc in absurd (omega arith)
-led-member base w (x ∷ os) {o} e = go (eqb w (base + 16 * x .start)) e (led-member base w os)
+led-member base w (x ∷ os) {o} e = go (isIn w (addresses base x)) e (led-member base w os)
   where
     go : (t : Bool) → pick t (some x) (ledTo base w os) ≡ some o → (ledTo base w os ≡ some o → List·Memᴰ o os) → List·Memᴰ o (x ∷ os)
     go true q rest = let p : o ≡ x = cc in List·Memᴰ·head p

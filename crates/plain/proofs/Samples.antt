@@ -8,6 +8,7 @@ use native.Mathlib.Omega.{arith}
 use lib.Dec.{eqb}
 use lib.IntN.{pos}
 use lib.ListN.{replicate, set}
+use Rattle.rules.specs.Tests.{tabulate}
 use Rattle.rules.specs.Entries.{entriesOf}
 use Rattle.rules.specs.Tables.{used}
 use Rattle.rules.specs.Pointers.{addressOf, goodBase}
@@ -16,7 +17,7 @@ use Rattle.rules.specs.Calls.{blocksFor}
 use Rattle.rules.specs.Memory.{afterIn, answersIn}
 use Rattle.rules.proofs.Memory.{packed-faithful}
 use Rattle.plain.specs.Objects.{Object, object, total, find, lowestGap, insert, replace}
-use Rattle.plain.specs.Tracing.{ledTo, trace, among}
+use Rattle.plain.specs.Tracing.{isIn, ledTo, trace, among}
 use Rattle.plain.specs.Reaching.{Reachable, root, edge, Keeps}
 use Rattle.plain.specs.Replies.{places, allocatedAt, onObject, named, loadedFrom, storedIn, reply, left}
 use Rattle.plain.specs.Refines.{AnswersAsList, ListKeepsReachable, counted}
@@ -79,7 +80,7 @@ run-keeps = rw filling-left at (list-keeps-reachable 12 filling runBase 1 runRoo
 
 -- a chain of two words from the second root
 pub c-reachable : Reachable runBase filled runRoots c
-unfolding ledTo addressOf
+unfolding tabulate isIn ledTo addressOf
 c-reachable =
     let r : Reachable runBase filled runRoots e = root {w = addressOf runBase 7} (List·Memᴰ·tail (List·Memᴰ·head refl)) refl in
     let q : Reachable runBase filled runRoots d = edge {x = e} {w = addressOf runBase 5} r (of-at (e .words) 15 (omega arith)) refl in
@@ -91,7 +92,7 @@ c-kept = run-keeps .all c c-reachable
 
 -- no root and no word of another object leads to f
 all-but-f : Closed runBase filled runRoots (λ o. not (eqb (o .start) 11))
-unfolding allOf leadsInto ledTo addressOf
+unfolding allOf leadsInto tabulate isIn ledTo addressOf
 all-but-f = record { roots-in = tt; words-in = tt }
 
 -- so f is not kept

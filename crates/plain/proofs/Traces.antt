@@ -1,29 +1,31 @@
 -- The marking of a table follows the marking of the plain list step by step: the same objects marked, the same on the stack, the same flag.
 -- Assumes nothing.
 use mathlib.Core.Path.{_≡_, refl, sym, ap, _∙_}
-use mathlib.Core.Logic.{_≢_, ⊎-elim}
+use mathlib.Core.Logic.{_≢_, inl, ⊎-elim}
 use mathlib.Core.Bool.{Bool, true, false}
 use mathlib.Core.List.{List, [], _∷_, map, List·Memᴰ, List·Memᴰ·head, List·Memᴰ·tail, List·Memᴰ·cases-cons, List·Memᴰ·not-nil}
 use mathlib.Core.Option.{Option, some, none}
-use Prim.Native.Nat.{ℕ, zero, suc, _+_, _-_, _*_, _/_, _%_, _≤_, _<_}
+use Prim.Native.Nat.{ℕ, zero, suc, _+_, _-_, _*_, _≤_, _<_}
 use native.Mathlib.Decide.{ℕ-discrete}
 use native.Mathlib.Omega.{arith}
-use lib.Dec.{eqb, leb, ltb}
+use lib.Dec.{eqb, ltb}
 use lib.ListN.{length, getD, set, length-map}
 use lib.Seq.{getD-set-same, getD-set-other}
-use borrow.Author.Tests.{eq-eqb, ne-eqb, lt-ltb, le-leb, leb-true, eqb-true, eqb-false}
-use Rattle.rules.specs.Tests.{pick, both, either}
+use borrow.Author.Tests.{eq-eqb, ne-eqb, eqb-true, eqb-false}
+use Rattle.rules.specs.Tests.{pick, either, tabulate}
 use Rattle.rules.specs.Words.{wordAt}
 use Rattle.rules.specs.Entries.{FREE, HEAD, MARK}
 use Rattle.rules.specs.Tables.{entryAt, isHead, blockCount, objects}
-use Rattle.rules.specs.Pointers.{targetOf, headsObject, headAt, leadsTo}
+use Rattle.rules.specs.Pointers.{addressOf, leadsTo}
+use Rattle.rules.specs.Meaning.{PointsInto, Leads}
 use Rattle.rules.specs.Marking.{Context, State, state, marked, pushed, visitTo, visit, walkWords, walk, drain, trace, rootTo, markRoot, markRoots, passBlock, passFrom, pass, Marked, rescan, markAll}
 use Rattle.rules.proofs.Refusals.{true-not-false}
 use Rattle.rules.proofs.Tables.{count-is}
+use Rattle.rules.proofs.Pointers.{leads-says, leads-one}
 use Rattle.rules.proofs.Marking.{head-inside, objects-mark, toDrain, pop-measure, drain-nil, drain-pop, pass-skips, toRescan, pass-measure, rescan-done, rescan-more}
 use Rattle.rules.proofs.Marks.{Marks, marks-none, marks-more, marks-count, marks-leads}
 use Rattle.plain.specs.Objects.{Object, end, find}
-use Rattle.plain.specs.Tracing.{View, Progress, progress, isIn, ledTo, mark, push, followTo, follow, followAll, emptyFor, empty, subtree, fromRootTo, fromRoots, goThrough, again, Traced, againFor}
+use Rattle.plain.specs.Tracing.{View, Progress, progress, isIn, addresses, ledTo, mark, push, followTo, follow, followAll, emptyFor, empty, subtree, fromRootTo, fromRoots, goThrough, again, Traced, againFor}
 use Rattle.plain.specs.Tracing as list
 use Rattle.plain.proofs.Laid.{Holds, Lies, Laid, done, next, lies-extent, laid-unmarked, Found, missing, there, finds}
 use Rattle.plain.proofs.Gaps.{laid-objects}
@@ -41,51 +43,87 @@ pub data Led (pool es : List ℕ) : Option Object → Option ℕ → Type 0 wher
   nowhere : Led pool es none none
   object : (o : Object) → Known pool es o → Led pool es (some o) (some (o .start))
 
--- an address is that of a block
-led-find : (base w k : ℕ) → w ≡ base + 16 * k → (os : List Object) → ledTo base w os ≡ find k os
-unfolding ledTo find
-led-find base w k e [] = refl
-led-find base w k e (o ∷ os) = go (ℕ-discrete (o .start) k) (led-find base w k e os)
+-- where a list of values has a number
+record Among (n : ℕ) (f : ℕ → ℕ) (w : ℕ) : Type 0 where
+  index : ℕ
+  below : index < n
+  is : w ≡ f index
+
+among-of : (n : ℕ) (f : ℕ → ℕ) (w : ℕ) → isIn w (tabulate n f) ≡ true → Among n f w
+unfolding isIn tabulate
+among-of zero f w q = absurd (true-not-false q refl)
+among-of (suc n) f w q = go (eqb w (f 0)) refl q (among-of n (λ (i : ℕ). f (suc i)) w)
   where
-    go : Dec (o .start ≡ k) → ledTo base w os ≡ find k os → pick (eqb w (base + 16 * o .start)) (some o) (ledTo base w os) ≡ pick (eqb (o .start) k) (some o) (find k os)
-    go (yes q) i = rw (eq-eqb (o .start) k q, eq-eqb w (base + 16 * o .start) (omega arith))
-    go (no q) i = rw (ne-eqb (o .start) k q, ne-eqb w (base + 16 * o .start) (λ u. q (omega arith))) i
+    go : (t : Bool) → eqb w (f 0) ≡ t → either t (isIn w (tabulate n (λ (i : ℕ). f (suc i)))) ≡ true
+        → (isIn w (tabulate n (λ (i : ℕ). f (suc i))) ≡ true → Among n (λ (i : ℕ). f (suc i)) w) → Among (suc n) f w
+    go true e q rest = record { index = 0; below = omega arith; is = eqb-true _ _ e }
+    go false e q rest = let a = rest q in record { index = suc (a .index); below = omega (arith, a .below); is = a .is }
 
-module _ (pool es : List ℕ) where
-  found-led : (k : ℕ) {x : Option Object} → entryAt es k ≢ MARK → Found pool es k x → Led pool es x (headAt es (some k))
-  unfolding headAt headsObject
-  found-led k unmarked (missing n) = rw (ne-eqb (entryAt es k) HEAD n, ne-eqb (entryAt es k) MARK unmarked) nowhere
-  found-led k unmarked (there o s y x) =
-      rw (← s) (rw (y .head) (object o (record { head = y .head; count = count-is es (o .start) (o .blocks) (rw (← s) at x); words = y .words })))
+of-among : (n : ℕ) (f : ℕ → ℕ) (w i : ℕ) → i < n → w ≡ f i → isIn w (tabulate n f) ≡ true
+unfolding isIn tabulate
+of-among zero f w i l e = absurd (omega arith)
+of-among (suc n) f w zero l e = rw (eq-eqb w (f 0) e)
+of-among (suc n) f w (suc i) l e = rw (of-among n (λ (j : ℕ). f (suc j)) w i (omega arith) e) (go (eqb w (f 0)))
+  where
+    go : (t : Bool) → either t true ≡ true
+    go true = refl
+    go false = refl
 
-  module _ (base w : ℕ) where
-    -- w is the address of a block
-    abbrev targets : Bool
-    targets = both (leb base w) (both (eqb ((w - base) % 16) 0) (ltb ((w - base) / 16) (length es)))
+-- an object with that address is found, or one before it
+led-there : (base w k : ℕ) (os : List Object) (o : Object) → find k os ≡ some o → isIn w (addresses base o) ≡ true → ledTo base w os ≢ none
+unfolding find ledTo
+led-there base w k [] o q i = let z : _≡_ {A = ℕ} 0 1 = cc in absurd (omega arith)
+led-there base w k (x ∷ os) o q i = go (isIn w (addresses base x)) refl (eqb (x .start) k) q (led-there base w k os o)
+  where
+    go : (t : Bool) → isIn w (addresses base x) ≡ t → (u : Bool) → pick u (some x) (find k os) ≡ some o
+        → (find k os ≡ some o → isIn w (addresses base o) ≡ true → ledTo base w os ≢ none) → pick t (some x) (ledTo base w os) ≢ none
+    go true e u q rest = λ n. let z : _≡_ {A = ℕ} 0 1 = cc in omega arith
+    go false e true q rest = let p : x ≡ o = cc in absurd (true-not-false (rw p i) e)
+    go false e false q rest = rest q i
 
-    led-none : {from : ℕ} {os : List Object} → Laid pool es from os → targets ≡ false → ledTo base w os ≡ none
-    unfolding ledTo
-    led-none (done r g) f = refl
-    led-none (next {o = o} l g y e r) f =
-        let b = y .some-block in
-        rw (ne-eqb w (base + 16 * o .start)
-        (λ q. true-not-false
-        (let m : (w - base) % 16 ≡ 0 = omega arith in
-        rw (le-leb base w (omega arith), eq-eqb ((w - base) % 16) 0 m, lt-ltb ((w - base) / 16) (length es) (omega arith))) f)) (led-none r f)
+module _ (pool es : List ℕ) (base w : ℕ) where
+  -- the object that a word leads to in the list is an object of the table, and the word points into it
+  led-some : {from : ℕ} {os : List Object} {o : Object} → Laid pool es from os → ledTo base w os ≡ some o → Known pool es o × PointsInto base es w (o .start)
+  unfolding ledTo addressOf
+  led-some (done r g) q = let z : _≡_ {A = ℕ} 0 1 = cc in absurd (omega arith)
+  led-some {o = o} (next {o = x} {os = os} l g y e r) q = go (isIn w (addresses base x)) refl q (led-some r)
+    where
+      count : blockCount es (x .start) ≡ x .blocks
+      count = count-is es (x .start) (x .blocks) (lies-extent y r)
 
-    pub leads-agree : {os : List Object} → Laid pool es 0 os → Led pool es (ledTo base w os) (leadsTo base es w)
-    unfolding leadsTo targetOf headAt
-    leads-agree {os} d = go (leb base w) refl (eqb ((w - base) % 16) 0) refl (ltb ((w - base) / 16) (length es)) refl
-      where
-        go : (a : Bool) → leb base w ≡ a → (b : Bool) → eqb ((w - base) % 16) 0 ≡ b → (c : Bool) → ltb ((w - base) / 16) (length es) ≡ c
-            → Led pool es (ledTo base w os) (headAt es (pick (both a (both b c)) (some ((w - base) / 16)) none))
-        go true p true q true u =
-            let i = leb-true base w p in
-            let j = eqb-true ((w - base) % 16) 0 q in
-            rw (led-find base w ((w - base) / 16) (omega arith) os) (found-led ((w - base) / 16) (laid-unmarked d ((w - base) / 16)) (finds d ((w - base) / 16) (omega arith)))
-        go true p true q false u = rw (led-none d (rw (p, q, u))) nowhere
-        go true p false q c u = rw (led-none d (rw (p, q))) nowhere
-        go false p b q c u = rw (led-none d (rw p)) nowhere
+      into : Among (x .blocks) (λ (i : ℕ). base + 16 * (x .start + i)) w → PointsInto base es w (x .start)
+      into a = record { head = inl (y .head); block = x .start + a .index; from = omega arith; to = rw count (omega (arith, a .below)); address = a .is }
+
+      go : (t : Bool) → isIn w (addresses base x) ≡ t → pick t (some x) (ledTo base w os) ≡ some o
+          → (ledTo base w os ≡ some o → Known pool es o × PointsInto base es w (o .start)) → Known pool es o × PointsInto base es w (o .start)
+      go true i q rest =
+          let p : x ≡ o = cc in
+          rw (← p) (record { head = y .head; count = count; words = y .words }, into (among-of _ _ w i))
+      go false i q rest = rest q
+
+  -- and where it leads to none in the list, it points into no object of the table
+  led-none : {os : List Object} → Laid pool es 0 os → ledTo base w os ≡ none → (k : ℕ) → PointsInto base es w k → ⊥
+  unfolding addressOf
+  led-none {os} d q k p = go (find k os) refl (finds d k (omega arith))
+    where
+      head : entryAt es k ≡ HEAD
+      head = ⊎-elim (λ h. h) (λ m. absurd (laid-unmarked d k m)) (p .head)
+
+      go : (x : Option Object) → find k os ≡ x → Found pool es k x → ⊥
+      go x e (missing n) = n head
+      go x e (there o s y t) =
+          led-there base w k os o e (of-among (o .blocks) (λ (i : ℕ). base + 16 * (o .start + i)) w (p .block - k)
+          (omega (arith, p .from, p .to, count-is es k (o .blocks) t)) (omega (arith, p .from, p .address))) q
+
+  pub leads-agree : {os : List Object} → Laid pool es 0 os → Led pool es (ledTo base w os) (leadsTo base es w)
+  unfolding Leads
+  leads-agree {os} d = go (ledTo base w os) refl
+    where
+      go : (x : Option Object) → ledTo base w os ≡ x → Led pool es x (leadsTo base es w)
+      go none q = rw (leads-one base es w (leadsTo base es w) none (leads-says base es w) (led-none d q)) nowhere
+      go (some o) q =
+          let l = led-some d q in
+          rw (leads-one base es w (leadsTo base es w) (some (o .start)) (leads-says base es w) (l .1)) (object o (l .0))
 
 -- ---- steps of the marking
 

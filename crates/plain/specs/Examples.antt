@@ -1,4 +1,4 @@
--- The worked examples 1 to 11 of a heap of 8 blocks at base 4,096, computed on the plain list: each call's answer and the list it leaves. And calls in a row.
+-- The worked examples 1 to 11 and a chain, in heaps of 8 blocks at base 4,096, computed on the plain list: each call's answer and the list it leaves. And calls in a row.
 -- Assumes nothing.
 use mathlib.Core.Path.{_≡_, refl}
 use mathlib.Core.Bool.{false}
@@ -49,6 +49,17 @@ full = zeros 0 1 ∷ zeros 1 3 ∷ zeros 4 4 ∷ []
 abbrev pub linked : List Object
 linked = zeros 0 1 ∷ zeros 1 3 ∷ pointing ∷ []
 
+-- its last word holds the address of block 5, or one inside it
+abbrev pub reaching : ℕ → Object
+reaching w = object 0 4 (set (replicate 16 0) 15 w)
+
+-- word 0 of block 6 holds the address of block 2
+abbrev pub pointingInto : Object
+pointingInto = object 6 1 (set (replicate 4 0) 0 4128)
+
+abbrev pub chained : ℕ → List Object
+chained w = reaching w ∷ zeros 4 2 ∷ pointingInto ∷ []
+
 unfoldable pub examples : List Example
 examples =
     -- 1 to 4: allocate
@@ -68,10 +79,15 @@ examples =
     -- 9: collect, with a mark stack of 64 entries and of none
     ∷ example (reply (Collect 4096 (bytesOf 4160)) (replicate 256 7) (eight linked)) (collectedTo 2 0 (minus 3)) (zeros 0 1 ∷ pointing ∷ [])
     ∷ example (reply (Collect 4096 (bytesOf 4160)) [] (eight linked)) (collectedTo 2 1 (minus 3)) (zeros 0 1 ∷ pointing ∷ [])
-    -- 10 and 11: no roots, the address of a block inside an object, an address inside a block
+    -- 10 and 11: no roots, the address of the middle block of object 1, an address inside a block
     ∷ example (reply (Collect 4096 []) (replicate 256 7) (eight linked)) (collectedTo 0 0 (minus 8)) []
-    ∷ example (reply (Collect 4096 (bytesOf 4128)) (replicate 256 7) (eight linked)) (collectedTo 0 0 (minus 8)) []
+    ∷ example (reply (Collect 4096 (bytesOf 4128)) (replicate 256 7) (eight linked)) (collectedTo 1 0 (minus 5)) (zeros 1 3 ∷ [])
     ∷ example (reply (Collect 4096 (bytesOf 4097)) (replicate 256 7) (eight linked)) (collectedTo 0 0 (minus 8)) []
+    -- a chain through the third block of object 0, with and without a mark stack; one that ends at an address inside a block; the address of a block of none
+    ∷ example (reply (Collect 4096 (bytesOf 4192)) (replicate 256 7) (eight (chained 4176))) (collectedTo 3 0 (pos 0)) (chained 4176)
+    ∷ example (reply (Collect 4096 (bytesOf 4192)) [] (eight (chained 4176))) (collectedTo 3 2 (pos 0)) (chained 4176)
+    ∷ example (reply (Collect 4096 (bytesOf 4192)) (replicate 256 7) (eight (chained 4177))) (collectedTo 2 0 (minus 2)) (reaching 4177 ∷ pointingInto ∷ [])
+    ∷ example (reply (Collect 4096 (bytesOf 4208)) (replicate 256 7) (eight (chained 4176))) (collectedTo 0 0 (minus 7)) []
     ∷ []
 
 -- every example is as it should be

@@ -7,7 +7,7 @@ use mathlib.Core.Option.{Option, some, none}
 use Prim.Native.Nat.{ℕ, zero, suc, _+_, _*_}
 use lib.Dec.{eqb, ltb}
 use lib.ListN.{length}
-use Rattle.rules.specs.Tests.{pick, either}
+use Rattle.rules.specs.Tests.{pick, either, tabulate}
 use Rattle.plain.specs.Objects.{Object}
 
 -- what the marking reads: the base, the objects, and how many entries the mark stack has room for
@@ -32,10 +32,14 @@ isIn k (j ∷ js) = either (eqb k j) (isIn k js)
 abbrev pub isMarked : Object → Progress → Bool
 isMarked o s = isIn (o .start) (s .marked)
 
--- a word leads to the object whose first block has that address
+-- the addresses of an object's blocks
+abbrev pub addresses : ℕ → Object → List ℕ
+addresses base o = tabulate (o .blocks) (λ (i : ℕ). base + 16 * (o .start + i))
+
+-- a word leads to the object of which a block has that address
 unfoldable pub ledTo : ℕ → ℕ → List Object → Option Object
 ledTo base w [] = none
-ledTo base w (o ∷ os) = pick (eqb w (base + 16 * o .start)) (some o) (ledTo base w os)
+ledTo base w (o ∷ os) = pick (isIn w (addresses base o)) (some o) (ledTo base w os)
 
 abbrev pub mark : Object → Progress → Progress
 mark o s = progress (o .start ∷ s .marked) (s .stack) (s .overflow)

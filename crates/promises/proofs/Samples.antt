@@ -6,16 +6,16 @@ use mathlib.Core.Logic.{_≢_, ⊎-elim, inl, inr}
 use mathlib.Core.Bool.{true}
 use mathlib.Core.List.{List, [], _∷_, List·Memᴰ·head}
 use mathlib.Core.Option.{some, none}
-use Prim.Native.Nat.{ℕ, zero, _+_, _*_, _<_}
+use Prim.Native.Nat.{ℕ, zero, _+_, _*_, _≤_, _<_}
 use native.Mathlib.Omega.{arith}
 use lib.IntN.{ℤ, pos, negℤ, _+ℤ_, natAbs}
 use lib.ListN.{replicate}
 use Rattle.rules.specs.Tests.{count, leading, tabulate}
 use Rattle.rules.specs.Words.{number, bytesOf, wordAt, withWord, wordsOf}
 use Rattle.rules.specs.Entries.{HEAD, entryOf, entriesOf}
-use Rattle.rules.specs.Tables.{entryAt, mayFollow, wellAfter, wellFormed, blockCount, freeFrom, fits, firstFrom, firstRun, placed, released, extended, used, objects, longest}
+use Rattle.rules.specs.Tables.{entryAt, mayFollow, wellAfter, wellFormed, blockCount, startOf, freeFrom, fits, firstFrom, firstRun, placed, released, extended, used, objects, longest}
 use Rattle.rules.specs.Pointers.{addressOf, goodBase, targetOf, headsObject, headAt, leadsTo}
-use Rattle.rules.specs.Meaning.{Heads, Lowest, Longest, Points, Leads, ShapeInBytes, Passed, Accepted}
+use Rattle.rules.specs.Meaning.{Lowest, Longest, Points, PointsInto, Leads, ShapeInBytes, Passed, Accepted}
 use Rattle.rules.specs.Outcomes.{Heap, Answer, Outcome, heapOf, onlyRefusal, loaded, surveyed, leaves, changeFrom, unlessRefused, clearedBlocks}
 use Rattle.rules.specs.Refusals.{firstOf, goodShape, wholeWords}
 use Rattle.rules.specs.Reach.{Reachable, root, edge}
@@ -25,7 +25,9 @@ use Rattle.rules.specs.Runs.{Call, Init, Allocate, Reallocate, Collect, step}
 use Rattle.rules.specs.Forms.{packed}
 use Rattle.rules.specs.Memory.{memory, result, perform}
 use Rattle.rules.proofs.Entries.{length-entriesOf}
-use Rattle.rules.proofs.Tables.{first-lowest, longest-says, le-run, well-says}
+use Rattle.rules.proofs.Tables.{first-lowest, longest-says, le-run, well-says, extent-of}
+use Rattle.rules.proofs.Pointers.{into-used}
+use Rattle.rules.proofs.Marking.{head-inside}
 use Rattle.promises.specs.Conditions.{First, RoomAfter, ofAllocate, ofFree, ofReallocate, ofCollect, ofWord}
 use Rattle.promises.specs.Promises.{Object, blocksOf, Surveyed}
 use Rattle.promises.specs.Samples.{sampleBase, sampleTable, samplePool, sampleHeap, sampleMemory, sampleRoots, sampleStack}
@@ -67,7 +69,7 @@ pub record Computed : Type 0 where
   pub collects : Accepted (collect base h sampleRoots (sampleStack 256))
 
 pub computed : Computed
-unfolding count leading tabulate number bytesOf wordAt withWord wordsOf entryOf entriesOf mayFollow wellAfter wellFormed blockCount freeFrom fits firstFrom firstRun placed released extended used objects longest addressOf goodBase targetOf headsObject headAt leadsTo changeFrom unlessRefused clearedBlocks firstOf goodShape wholeWords pushed visitTo visit walkWords walk drainFor drain trace rootTo markRoot markRoots passBlock passFrom pass rescanFor rescan markAll sweptEntry freeingAfter sweepFrom sweep blocksFor taken placing init allocate freed free shrunk grown moved movesTo wayToGrow wayTo along reallocate collecting collect survey load store
+unfolding count leading tabulate number bytesOf wordAt withWord wordsOf entryOf entriesOf mayFollow wellAfter wellFormed blockCount startOf freeFrom fits firstFrom firstRun placed released extended used objects longest addressOf goodBase targetOf headsObject headAt leadsTo changeFrom unlessRefused clearedBlocks firstOf goodShape wholeWords pushed visitTo visit walkWords walk drainFor drain trace rootTo markRoot markRoots passBlock passFrom pass rescanFor rescan markAll sweptEntry freeingAfter sweepFrom sweep blocksFor taken placing init allocate freed free shrunk grown moved movesTo wayToGrow wayTo along reallocate collecting collect survey load store
 computed = record {
   shape = record { some = omega arith; few = omega arith; size = refl; aligned = refl; above = omega arith; below = omega arith };
   well = refl;
@@ -285,28 +287,40 @@ pub target-end : targetOf base 12 536871104 ≡ none
 unfolding Points addressOf
 target-end = target-one base 12 536871104 none (λ k l e. omega arith)
 
--- the address of a head leads to its object
-leads-head : (k : ℕ) → k < 12 → Object h k → leadsTo base (h .entries) (base + 16 * k) ≡ some k
-unfolding Leads addressOf entriesOf entryOf
-leads-head k l head = lead-one base (h .entries) (base + 16 * k) (some k) (l, refl, inl head)
+-- the address of a block of an object leads to it
+leads-block : (k b : ℕ) → Object h k → k ≤ b → b < k + blocksOf h k → leadsTo base (h .entries) (base + 16 * b) ≡ some k
+unfolding Leads addressOf
+leads-block k b head from to = lead-one base (h .entries) (base + 16 * b) (some k) (record { head = inl head; block = b; from = from; to = to; address = refl })
 
--- that of block 1, a TAIL, to none
-pub leads-tail : leadsTo base (h .entries) 536870928 ≡ none
+leads-head : (k : ℕ) → Object h k → leadsTo base (h .entries) (base + 16 * k) ≡ some k
+leads-head k head = leads-block k k head (omega arith) (omega (arith, extent-of (h .entries) k (head-inside (h .entries) k head) .some-block))
+
+-- that of block 4 to the object at block 2, whose third and last block it is
+pub leads-third : leadsTo base (h .entries) 536870976 ≡ some 2
+leads-third = leads-block 2 4 (computed .heads .1) (omega arith) (omega (arith, computed .counts .1))
+
+-- that of block 5, which is FREE and directly after it, to none
+pub leads-free : leadsTo base (h .entries) 536870992 ≡ none
 unfolding Leads addressOf entriesOf entryOf
-leads-tail = lead-one base (h .entries) 536870928 none (λ k l heads e. not-1 k heads (omega arith))
+leads-free = lead-one base (h .entries) 536870992 none not-5
   where
-    not-1 : (k : ℕ) → Heads (h .entries) k → k ≢ 1
-    not-1 k heads e = ⊎-elim (λ head. omega (arith, rw e at head)) (λ mark. omega (arith, rw e at mark)) heads
+    not-5 : (k : ℕ) → PointsInto base (h .entries) 536870992 k → ⊥
+    not-5 k p = let e : p .block ≡ 5 = omega (arith, p .address) in into-used base (h .entries) 536870992 k p (rw e refl)
+
+-- and an address inside block 4 to none
+pub leads-inside : leadsTo base (h .entries) 536870977 ≡ none
+unfolding Leads addressOf
+leads-inside = lead-one base (h .entries) 536870977 none (λ k p. omega (arith, p .address))
 
 -- ---- collect: the first object is reachable from its address, and the third from its last word
 
 reach-0 : Reachable base h (wordsOf sampleRoots) 0
 unfolding tabulate number bytesOf wordAt wordsOf
-reach-0 = root (List·Memᴰ·head refl) (leads-head 0 (omega arith) (computed .heads .0))
+reach-0 = root (List·Memᴰ·head refl) (leads-head 0 (computed .heads .0))
 
 reach-7 : Reachable base h (wordsOf sampleRoots) 7
 unfolding number bytesOf wordAt withWord
-reach-7 = edge reach-0 (record { word = 7; inside = omega (arith, computed .counts .0); leads = leads-head 7 (omega arith) (computed .heads .2) })
+reach-7 = edge reach-0 (record { word = 7; inside = omega (arith, computed .counts .0); leads = leads-head 7 (computed .heads .2) })
 
 abbrev kept : Outcome
 kept = collect base h sampleRoots (sampleStack 256)

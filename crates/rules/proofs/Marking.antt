@@ -168,9 +168,12 @@ pub walk-measure : (c : Context) (k : ℕ) (s : State) → toDrain (walk c k s) 
 unfolding walk
 walk-measure c k s = words-measure c (4 * k) (4 * blockCount (s .entries) k) s
 
-pub pop-measure : (c : Context) (es : List ℕ) (k : ℕ) (st : List ℕ) (o : Bool) → toDrain (walk c k (state es st o)) < toDrain (state es (k ∷ st) o)
+pub pop-less : (es : List ℕ) (k : ℕ) (st : List ℕ) (o : Bool) → toDrain (state es st o) < toDrain (state es (k ∷ st) o)
 unfolding toDrain
-pop-measure c es k st o = omega (arith, walk-measure c k (state es st o))
+pop-less es k st o = omega arith
+
+pub pop-measure : (c : Context) (es : List ℕ) (k : ℕ) (st : List ℕ) (o : Bool) → toDrain (walk c k (state es st o)) < toDrain (state es (k ∷ st) o)
+pop-measure c es k st o = omega (arith, walk-measure c k (state es st o), pop-less es k st o)
 
 -- any number that is enough gives the same
 drain-enough : (c : Context) (m n : ℕ) (es st : List ℕ) (o : Bool) → toDrain (state es st o) ≤ m → toDrain (state es st o) ≤ n

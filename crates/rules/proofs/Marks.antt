@@ -2,19 +2,16 @@
 -- Assumes nothing.
 use mathlib.Core.Path.{_≡_, refl, ap, sym, _∙_}
 use mathlib.Core.Logic.{_⊎_, inl, inr, ⊎-elim}
-use mathlib.Core.Bool.{Bool, true, false}
 use mathlib.Core.List.{List, [], _∷_}
 use mathlib.Core.Option.{Option, some, none}
-use Prim.Native.Nat.{ℕ, suc, _+_}
+use Prim.Native.Nat.{ℕ, zero, suc, _+_}
 use native.Mathlib.Omega.{arith}
 use native.Mathlib.Decide.{ℕ-discrete}
-use lib.Dec.{eqb}
 use lib.ListN.{length, set, drop, length-set, length-drop}
 use lib.Seq.{getD-set-same, getD-set-other, getD-drop}
-use borrow.Author.Tests.{eq-eqb, ne-eqb, eqb-true}
-use Rattle.rules.specs.Tests.{pick, either, leading}
-use Rattle.rules.specs.Entries.{FREE, HEAD, TAIL, MARK}
-use Rattle.rules.specs.Tables.{entryAt, isTail, blockCount}
+use Rattle.rules.specs.Tests.{leading}
+use Rattle.rules.specs.Entries.{FREE, HEAD, MARK}
+use Rattle.rules.specs.Tables.{entryAt, isTail, blockCount, startOf}
 use Rattle.rules.specs.Pointers.{targetOf, headsObject, headAt, leadsTo}
 use Rattle.rules.proofs.Marking.{head-inside}
 
@@ -54,55 +51,41 @@ mark-cases es k i m = go (ℕ-discrete i k)
 pub mark-here : (es : List ℕ) (k : ℕ) → entryAt es k ≡ HEAD → entryAt (set es k MARK) k ≡ MARK
 mark-here es k h = getD-set-same es k MARK FREE (head-inside es k h)
 
--- the same TAILs, and so objects of the same length
-leading-same : (xs ys : List ℕ) → length xs ≡ length ys → ((i : ℕ) → entryAt xs i ≡ TAIL → entryAt ys i ≡ TAIL)
-    → ((i : ℕ) → entryAt ys i ≡ TAIL → entryAt xs i ≡ TAIL) → leading isTail xs ≡ leading isTail ys
-unfolding leading
-leading-same [] [] l f g = refl
-leading-same [] (y ∷ ys) l f g = absurd (omega arith)
-leading-same (x ∷ xs) [] l f g = absurd (omega arith)
-leading-same (x ∷ xs) (y ∷ ys) l f g = go (ℕ-discrete x TAIL) (leading-same xs ys (omega arith) (λ i. f (suc i)) (λ i. g (suc i)))
-  where
-    go : Dec (x ≡ TAIL) → leading isTail xs ≡ leading isTail ys → leading isTail (x ∷ xs) ≡ leading isTail (y ∷ ys)
-    go (yes q) r = rw (eq-eqb x TAIL q, eq-eqb y TAIL (f 0 q)) (ap suc r)
-    go (no q) r = rw (ne-eqb x TAIL q, ne-eqb y TAIL (λ k. q (g 0 k)))
+-- the same TAILs
+tails-same : (es₀ es : List ℕ) (k : ℕ) → Marks es₀ es → isTail (entryAt es k) ≡ isTail (entryAt es₀ k)
+tails-same es₀ es k s = ⊎-elim (λ q. rw q) (λ q. rw (q .0, q .1)) (s .at k)
 
+leading-same : (xs ys : List ℕ) → length xs ≡ length ys → ((i : ℕ) → isTail (entryAt xs i) ≡ isTail (entryAt ys i)) → leading isTail xs ≡ leading isTail ys
+unfolding leading
+leading-same [] [] l e = refl
+leading-same [] (y ∷ ys) l e = absurd (omega arith)
+leading-same (x ∷ xs) [] l e = absurd (omega arith)
+leading-same (x ∷ xs) (y ∷ ys) l e = rw (e 0, leading-same xs ys (omega arith) (λ i. e (suc i)))
+
+-- so objects of the same length
 pub marks-count : (es₀ es : List ℕ) (k : ℕ) → Marks es₀ es → blockCount es k ≡ blockCount es₀ k
 unfolding blockCount
 marks-count es₀ es k s =
-    ap suc (leading-same (drop (suc k) es) (drop (suc k) es₀) (simp (length-drop, s .long))
-    (λ i h. rw getD-drop (to (suc k + i) (rw getD-drop at h))) (λ i h. rw getD-drop (from (suc k + i) (rw getD-drop at h))))
-  where
-    to : (i : ℕ) → entryAt es i ≡ TAIL → entryAt es₀ i ≡ TAIL
-    to i h = ⊎-elim (λ q. omega arith) (λ q. absurd (omega arith)) (s .at i)
+    ap suc (leading-same (drop (suc k) es) (drop (suc k) es₀) (simp (length-drop, s .long)) (λ i. rw (getD-drop, getD-drop) (tails-same es₀ es (suc k + i) s)))
 
-    from : (i : ℕ) → entryAt es₀ i ≡ TAIL → entryAt es i ≡ TAIL
-    from i h = ⊎-elim (λ q. omega arith) (λ q. absurd (omega arith)) (s .at i)
+-- which start at the same blocks
+starts-same : (es₀ es : List ℕ) (k : ℕ) → Marks es₀ es → startOf es k ≡ startOf es₀ k
+unfolding startOf
+starts-same es₀ es zero s = refl
+starts-same es₀ es (suc k) s = rw (tails-same es₀ es (suc k) s, starts-same es₀ es k s)
 
--- a word leads to the same object, marked or not
+pub start-marked : (es : List ℕ) (k b : ℕ) → entryAt es k ≡ HEAD → startOf (set es k MARK) b ≡ startOf es b
+start-marked es k b h = starts-same es (set es k MARK) b (marks-more es es k (marks-none es) h)
+
 heads-same : (es₀ es : List ℕ) (k : ℕ) → Marks es₀ es → headsObject (entryAt es k) ≡ headsObject (entryAt es₀ k)
 unfolding headsObject
 heads-same es₀ es k s = ⊎-elim (λ q. rw q) (λ q. rw (q .0, q .1)) (s .at k)
 
+-- a word leads to the same object, marked or not
 pub marks-leads : (base : ℕ) (es₀ es : List ℕ) (w : ℕ) → Marks es₀ es → leadsTo base es w ≡ leadsTo base es₀ w
 unfolding leadsTo headAt
 marks-leads base es₀ es w s = rw (s .long) (go (targetOf base (length es₀) w))
   where
     go : (o : Option ℕ) → headAt es o ≡ headAt es₀ o
     go none = refl
-    go (some k) = rw (heads-same es₀ es k s)
-
--- and that is a head of the table
-pub leads-head : (base : ℕ) (es : List ℕ) (w k : ℕ) → leadsTo base es w ≡ some k → (entryAt es k ≡ HEAD) ⊎ (entryAt es k ≡ MARK)
-unfolding leadsTo headAt headsObject
-leads-head base es w k q = go (targetOf base (length es) w) q
-  where
-    at : (j : ℕ) (a : Bool) → eqb (entryAt es j) HEAD ≡ a → (b : Bool) → eqb (entryAt es j) MARK ≡ b
-        → pick (either a b) (some j) none ≡ some k → (entryAt es k ≡ HEAD) ⊎ (entryAt es k ≡ MARK)
-    at j true p b r l = let e : j ≡ k = cc in inl (rw (← e) (eqb-true _ _ p))
-    at j false p true r l = let e : j ≡ k = cc in inr (rw (← e) (eqb-true _ _ r))
-    at j false p false r l = let z : _≡_ {A = ℕ} 0 1 = cc in absurd (omega arith)
-
-    go : (o : Option ℕ) → headAt es o ≡ some k → (entryAt es k ≡ HEAD) ⊎ (entryAt es k ≡ MARK)
-    go none l = let z : _≡_ {A = ℕ} 0 1 = cc in absurd (omega arith)
-    go (some j) l = at j (eqb (entryAt es j) HEAD) refl (eqb (entryAt es j) MARK) refl l
+    go (some k) = rw (starts-same es₀ es k s, heads-same es₀ es (startOf es₀ k) s)

@@ -1,20 +1,22 @@
 -- What a word's target is and what a word leads to: the definitions match their sentences, and a sentence has one answer.
 -- Assumes nothing.
-use mathlib.Core.Path.{_≡_, refl, ap, subst}
-use mathlib.Core.Logic.{inl, inr, ⊎-elim}
+use mathlib.Core.Path.{_≡_, refl, ap, subst, _∙_}
+use mathlib.Core.Logic.{_≢_, _⊎_, inl, inr, ⊎-elim}
 use mathlib.Core.Bool.{Bool, true, false}
 use mathlib.Core.List.{List}
 use mathlib.Core.Option.{Option, some, none}
-use Prim.Native.Nat.{ℕ, _+_, _-_, _/_, _%_, _<_}
+use Prim.Native.Nat.{ℕ, _+_, _-_, _/_, _%_, _≤_, _<_}
 use native.Mathlib.Omega.{arith}
 use lib.Dec.{eqb, leb, ltb}
 use lib.ListN.{length}
 use borrow.Author.Tests.{eqb-true, eqb-false, leb-true, leb-false, ltb-true, ltb-false}
 use Rattle.rules.specs.Tests.{pick, both, either}
-use Rattle.rules.specs.Entries.{HEAD, MARK}
-use Rattle.rules.specs.Tables.{entryAt, blockCount}
+use Rattle.rules.specs.Entries.{FREE, HEAD, MARK}
+use Rattle.rules.specs.Tables.{entryAt, blockCount, startOf}
 use Rattle.rules.specs.Pointers.{addressOf, targetOf, headsObject, headAt, leadsTo}
-use Rattle.rules.specs.Meaning.{Points, Heads, Leads}
+use Rattle.rules.specs.Meaning.{Points, Heads, PointsInto, Leads, Extent, Start}
+use Rattle.rules.proofs.Refusals.{true-not-false}
+use Rattle.rules.proofs.Tables.{entry-inside, extent-of, extent-used, count-covers, start-says, start-one}
 
 pub target-points : (base n w : ℕ) → Points base n w (targetOf base n w)
 unfolding Points targetOf addressOf
@@ -34,35 +36,95 @@ points-one base n w (some k) none x y = absurd (y k (x .0) (x .1))
 points-one base n w none (some j) x y = absurd (x j (y .0) (y .1))
 points-one base n w none none x y = refl
 
+-- ---- what a word leads to
+
+heads-true : (e : ℕ) → headsObject e ≡ true → (e ≡ HEAD) ⊎ (e ≡ MARK)
+unfolding headsObject
+heads-true e = go (eqb e HEAD) (eqb e MARK) refl refl
+  where
+    go : (a b : Bool) → eqb e HEAD ≡ a → eqb e MARK ≡ b → either a b ≡ true → (e ≡ HEAD) ⊎ (e ≡ MARK)
+    go true b p r q = inl (eqb-true _ _ p)
+    go false true p r q = inr (eqb-true _ _ r)
+    go false false p r q = absurd (true-not-false q refl)
+
+heads-of : (e : ℕ) → (e ≡ HEAD) ⊎ (e ≡ MARK) → headsObject e ≡ true
+unfolding headsObject
+heads-of e = ⊎-elim (λ q. rw q) (λ q. rw q)
+
+heads-inside : (es : List ℕ) (k : ℕ) → Heads es k → k < length es
+heads-inside es k h = entry-inside es k (λ f. ⊎-elim (λ q. omega arith) (λ q. omega arith) h)
+
+-- a block into which a word points is used
+pub into-used : (base : ℕ) (es : List ℕ) (w k : ℕ) (p : PointsInto base es w k) → entryAt es (p .block) ≢ FREE
+into-used base es w k p =
+    let inside : k < length es = heads-inside es k (p .head) in
+    let e : k + (p .block - k) ≡ p .block = omega (arith, p .from) in
+    rw e at (extent-used es k (blockCount es k) (extent-of es k inside) (λ f. ⊎-elim (λ q. omega arith) (λ q. omega arith) (p .head)) (p .block - k) (omega (arith, p .from, p .to)))
+
+-- its object starts at the head
+into-start : (base : ℕ) (es : List ℕ) (w k : ℕ) (p : PointsInto base es w k) → Start es (p .block) k
+into-start base es w k p = record {
+  from = p .from;
+  tails = λ j l r. let e : k + (j - k) ≡ j = omega arith in rw e at (x .tail (j - k) (omega arith) (omega (arith, p .to)));
+  first = λ l t. ⊎-elim (λ q. omega arith) (λ q. omega arith) (p .head);
+}
+  where
+    x : Extent es k (blockCount es k)
+    x = extent-of es k (heads-inside es k (p .head))
+
 pub leads-says : (base : ℕ) (es : List ℕ) (w : ℕ) → Leads base es w (leadsTo base es w)
-unfolding Points Leads addressOf headsObject headAt leadsTo
+unfolding Points Leads addressOf headAt leadsTo
 leads-says base es w = to (targetOf base (length es) w) (target-points base (length es) w)
   where
-    at : (k : ℕ) (a b : Bool) → eqb (entryAt es k) HEAD ≡ a → eqb (entryAt es k) MARK ≡ b → Points base (length es) w (some k)
-        → Leads base es w (pick (either a b) (some k) none)
-    at k true b p q t = (t .0, t .1, inl (eqb-true _ _ p))
-    at k false true p q t = (t .0, t .1, inr (eqb-true _ _ q))
-    at k false false p q t = λ j l h e.
-        let same : j ≡ k = omega (arith, t .1) in
-        ⊎-elim (eqb-false _ _ p) (eqb-false _ _ q) (subst (Heads es) same h)
+    -- the target is block b, and its object starts at block s, which is a head or is none
+    at : (b s : ℕ) → (b < length es) × (w ≡ addressOf base b) → Start es b s → (t : Bool) → headsObject (entryAt es s) ≡ t → Leads base es w (pick t (some s) none)
+    at b s o u true q =
+        let h : Heads es s = heads-true (entryAt es s) q in
+        record { head = h; block = b; from = u .from; to = count-covers es s b (heads-inside es s h) (u .tails); address = o .1 }
+    at b s o u false q = λ k p.
+        let same : p .block ≡ b = omega (arith, o .1, p .address) in
+        let starts : k ≡ s = start-one es b k s (rw same at (into-start base es w k p)) u in
+        true-not-false (heads-of (entryAt es s) (subst (Heads es) starts (p .head))) q
 
     to : (o : Option ℕ) → Points base (length es) w o → Leads base es w (headAt es o)
-    to none t = λ k l h. t k l
-    to (some k) t = at k (eqb (entryAt es k) HEAD) (eqb (entryAt es k) MARK) refl refl t
+    to none t = λ k p. t (p .block) (omega (arith, p .to, extent-of es k (heads-inside es k (p .head)) .room)) (p .address)
+    to (some b) t = at b (startOf es b) t (start-says es b) (headsObject (entryAt es (startOf es b))) refl
 
 pub leads-one : (base : ℕ) (es : List ℕ) (w : ℕ) (x y : Option ℕ) → Leads base es w x → Leads base es w y → x ≡ y
 unfolding Leads addressOf
-leads-one base es w (some k) (some j) x y = ap some (omega (arith, x .1, y .1))
-leads-one base es w (some k) none x y = absurd (y k (x .0) (x .2) (x .1))
-leads-one base es w none (some j) x y = absurd (x j (y .0) (y .2) (y .1))
+leads-one base es w (some k) (some j) x y =
+    let same : y .block ≡ x .block = omega (arith, x .address, y .address) in
+    ap some (start-one es (x .block) k j (into-start base es w k x) (rw same at (into-start base es w j y)))
+leads-one base es w (some k) none x y = absurd (y k x)
+leads-one base es w none (some j) x y = absurd (x j y)
 leads-one base es w none none x y = refl
+
+-- and that is a head of the table
+pub leads-head : (base : ℕ) (es : List ℕ) (w k : ℕ) → leadsTo base es w ≡ some k → Heads es k
+unfolding Leads
+leads-head base es w k q = let l : PointsInto base es w k = rw q at (leads-says base es w) in l .head
 
 -- a word leads to the same object in another table of that length which has each of its blocks
 pub leads-stays : (base : ℕ) (es es′ : List ℕ) (w k : ℕ) → length es′ ≡ length es → ((i : ℕ) → i < blockCount es k → entryAt es′ (k + i) ≡ entryAt es (k + i))
     → leadsTo base es w ≡ some k → leadsTo base es′ w ≡ some k
-unfolding Leads blockCount
-leads-stays base es es′ w k long same q =
-    let l : Leads base es w (some k) = rw q at (leads-says base es w) in
-    let first : k + 0 ≡ k = omega arith in
-    let e : entryAt es′ k ≡ entryAt es k = rw first at (same 0 (omega arith)) in
-    leads-one base es′ w (leadsTo base es′ w) (some k) (leads-says base es′ w) (omega (arith, long, l .0), l .1, rw e (l .2))
+unfolding Leads
+leads-stays base es es′ w k long same q = leads-one base es′ w (leadsTo base es′ w) (some k) (leads-says base es′ w) again
+  where
+    p : PointsInto base es w k
+    p = rw q at (leads-says base es w)
+
+    -- each of the object's blocks
+    at : (j : ℕ) → k ≤ j → j ≤ p .block → entryAt es′ j ≡ entryAt es j
+    at j l r = let e : k + (j - k) ≡ j = omega arith in rw e at (same (j - k) (omega (arith, p .to)))
+
+    head : Heads es′ k
+    head = rw (at k (omega arith) (p .from)) (p .head)
+
+    again : PointsInto base es′ w k
+    again = record {
+      head = head;
+      block = p .block;
+      from = p .from;
+      to = count-covers es′ k (p .block) (heads-inside es′ k head) (λ j l r. at j (omega arith) r ∙ into-start base es w k p .tails j l r);
+      address = p .address;
+    }

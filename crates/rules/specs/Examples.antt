@@ -1,4 +1,4 @@
--- The worked examples 1 to 12 of a heap of 8 blocks at base 4,096, computed: each call's answer, and the table, the pool and the mark stack it leaves.
+-- The worked examples 1 to 12 and a chain, in heaps of 8 blocks at base 4,096, computed: each call's answer, and the table, the pool and the mark stack it leaves.
 -- Assumes nothing.
 use mathlib.Core.Path.{_≡_, refl}
 use mathlib.Core.List.{List, [], _∷_, _++_, map}
@@ -8,7 +8,7 @@ use lib.ListN.{length, replicate}
 use Rattle.rules.specs.Tests.{count, leading, tabulate}
 use Rattle.rules.specs.Words.{number, bytesOf, wordAt, wordsOf}
 use Rattle.rules.specs.Entries.{entryOf, entriesOf, tableOf}
-use Rattle.rules.specs.Tables.{mayFollow, wellAfter, wellFormed, blockCount, freeFrom, fits, firstFrom, firstRun, placed, released, extended, used, objects}
+use Rattle.rules.specs.Tables.{mayFollow, wellAfter, wellFormed, blockCount, startOf, freeFrom, fits, firstFrom, firstRun, placed, released, extended, used, objects}
 use Rattle.rules.specs.Pointers.{addressOf, goodBase, targetOf, headsObject, headAt, leadsTo}
 use Rattle.rules.specs.Outcomes.{Heap, Answer, Outcome, heapOf, onlyRefusal, changeFrom, placedAt, collectedTo, unlessRefused, clearedBlocks}
 use Rattle.rules.specs.Refusals.{firstOf, goodShape, wholeWords}
@@ -62,6 +62,13 @@ linkedPool = zeros 64 ++ 0 ∷ 16 ∷ 0 ∷ 0 ∷ zeros 60
 abbrev pub linked : Heap
 linked = heapOf linkedPool (165 ∷ 169 ∷ [])
 
+-- Object 6 leads to the third block of object 0, whose last word leads to the second block of object 4 if `low` is 80, the lowest byte of its address 4,176
+abbrev pub chainedPool : ℕ → List ℕ
+chainedPool low = zeros 60 ++ low ∷ 16 ∷ 0 ∷ 0 ∷ zeros 32 ++ 32 ∷ 16 ∷ 0 ∷ 0 ∷ zeros 28
+
+abbrev pub chained : ℕ → Heap
+chained low = heapOf (chainedPool low) (169 ∷ 25 ∷ [])
+
 abbrev pub minus : ℕ → ℤ
 minus n = negℤ (pos n)
 
@@ -84,10 +91,15 @@ examples =
     -- 9: collect, with a mark stack of 64 entries and of none; the root 4,160 is given in bytes, and as a word
     ∷ collects (collect 4096 linked (64 ∷ 16 ∷ 0 ∷ 0 ∷ []) (sevens 256)) (collectedTo 2 0 (minus 3)) (1 ∷ 169 ∷ []) linkedPool (zeros 256)
     ∷ collects (collect 4096 linked (bytesOf 4160) []) (collectedTo 2 1 (minus 3)) (1 ∷ 169 ∷ []) linkedPool []
-    -- 10 and 11: no roots, the address of a TAIL, an address inside a block
+    -- 10 and 11: no roots, the address of the middle block of object 1, an address inside a block
     ∷ collects (collect 4096 linked [] (sevens 256)) (collectedTo 0 0 (minus 8)) (0 ∷ 0 ∷ []) linkedPool (zeros 256)
-    ∷ collects (collect 4096 linked (bytesOf 4128) (sevens 256)) (collectedTo 0 0 (minus 8)) (0 ∷ 0 ∷ []) linkedPool (zeros 256)
+    ∷ collects (collect 4096 linked (bytesOf 4128) (sevens 256)) (collectedTo 1 0 (minus 5)) (164 ∷ 0 ∷ []) linkedPool (zeros 256)
     ∷ collects (collect 4096 linked (bytesOf 4097) (sevens 256)) (collectedTo 0 0 (minus 8)) (0 ∷ 0 ∷ []) linkedPool (zeros 256)
+    -- a chain through the third block of object 0, with and without a mark stack; one that ends at an address inside a block; the address of a FREE block
+    ∷ collects (collect 4096 (chained 80) (bytesOf 4192) (sevens 256)) (collectedTo 3 0 (pos 0)) (169 ∷ 25 ∷ []) (chainedPool 80) (zeros 256)
+    ∷ collects (collect 4096 (chained 80) (bytesOf 4192) []) (collectedTo 3 2 (pos 0)) (169 ∷ 25 ∷ []) (chainedPool 80) []
+    ∷ collects (collect 4096 (chained 81) (bytesOf 4192) (sevens 256)) (collectedTo 2 0 (minus 2)) (169 ∷ 16 ∷ []) (chainedPool 81) (zeros 256)
+    ∷ collects (collect 4096 (chained 80) (bytesOf 4208) (sevens 256)) (collectedTo 0 0 (minus 7)) (0 ∷ 0 ∷ []) (chainedPool 80) (zeros 256)
     -- 12: a TAIL in block 0, a MARK, a TAIL after a FREE
     ∷ example (allocate 4096 (small 2 0) 1) (onlyRefusal 2) (2 ∷ 0 ∷ []) stale
     ∷ example (allocate 4096 (small 3 0) 1) (onlyRefusal 2) (3 ∷ 0 ∷ []) stale
@@ -100,7 +112,7 @@ examples =
     ∷ []
 
 -- there are so many
-pub examples-number : length examples ≡ 23
+pub examples-number : length examples ≡ 27
 unfolding examples
 examples-number = refl
 
@@ -111,5 +123,5 @@ words-hold = (refl, refl)
 
 -- every example is as it should be
 pub examples-hold : map (λ (x : Example). x .is) examples ≡ map (λ (x : Example). x .ought) examples
-unfolding examples count leading tabulate number bytesOf wordAt wordsOf entryOf entriesOf tableOf mayFollow wellAfter wellFormed blockCount freeFrom fits firstFrom firstRun placed released extended used objects addressOf goodBase targetOf headsObject headAt leadsTo changeFrom unlessRefused clearedBlocks firstOf goodShape wholeWords pushed visitTo visit walkWords walk drainFor drain trace rootTo markRoot markRoots passBlock passFrom pass rescanFor rescan markAll sweptEntry freeingAfter sweepFrom sweep blocksFor taken placing allocate freed free shrunk grown moved movesTo wayToGrow wayTo along reallocate collecting collect
+unfolding examples count leading tabulate number bytesOf wordAt wordsOf entryOf entriesOf tableOf mayFollow wellAfter wellFormed blockCount startOf freeFrom fits firstFrom firstRun placed released extended used objects addressOf goodBase targetOf headsObject headAt leadsTo changeFrom unlessRefused clearedBlocks firstOf goodShape wholeWords pushed visitTo visit walkWords walk drainFor drain trace rootTo markRoot markRoots passBlock passFrom pass rescanFor rescan markAll sweptEntry freeingAfter sweepFrom sweep blocksFor taken placing allocate freed free shrunk grown moved movesTo wayToGrow wayTo along reallocate collecting collect
 examples-hold = refl

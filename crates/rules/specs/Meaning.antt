@@ -8,7 +8,7 @@ use mathlib.Core.Option.{Option, some, none}
 use Prim.Native.Nat.{ℕ, suc, _+_, _*_, _%_, _^_, _≤_, _<_}
 use lib.ListN.{length, getD}
 use Rattle.rules.specs.Entries.{FREE, HEAD, TAIL, MARK, entriesOf}
-use Rattle.rules.specs.Tables.{entryAt, wellFormed}
+use Rattle.rules.specs.Tables.{entryAt, wellFormed, blockCount}
 use Rattle.rules.specs.Pointers.{addressOf}
 use Rattle.rules.specs.Outcomes.{Heap, Outcome}
 
@@ -29,10 +29,18 @@ Points base n w none = (k : ℕ) → k < n → w ≢ addressOf base k
 abbrev pub Heads : List ℕ → ℕ → Type 0
 Heads es k = (entryAt es k ≡ HEAD) ⊎ (entryAt es k ≡ MARK)
 
--- the object that the word w leads to: the one whose head has w as its address. It leads to none if it is no head's address
+-- the word w is the address of a block of the object with head k: of the head, or of one of the TAILs directly after it
+pub record PointsInto (base : ℕ) (es : List ℕ) (w k : ℕ) : Type 0 where
+  pub head : Heads es k
+  pub block : ℕ
+  pub from : k ≤ block
+  pub to : block < k + blockCount es k
+  pub address : w ≡ addressOf base block
+
+-- the object that the word w leads to: the one with a block that has w as its address. It leads to none if no block of an object has
 unfoldable pub Leads : ℕ → List ℕ → ℕ → Option ℕ → Type 0
-Leads base es w (some k) = (k < length es) × (w ≡ addressOf base k) × Heads es k
-Leads base es w none = (k : ℕ) → k < length es → Heads es k → w ≢ addressOf base k
+Leads base es w (some k) = PointsInto base es w k
+Leads base es w none = (k : ℕ) → PointsInto base es w k → ⊥
 
 -- the table is well-formed
 pub record Well (es : List ℕ) : Type 0 where

@@ -9,7 +9,7 @@ use lib.ListN.{length, replicate}
 use Rattle.rules.specs.Tests.{count, leading, tabulate}
 use Rattle.rules.specs.Words.{number, bytesOf, wordAt, withWord, wordsOf}
 use Rattle.rules.specs.Entries.{entryOf, entriesOf, tableOf}
-use Rattle.rules.specs.Tables.{mayFollow, wellAfter, wellFormed, blockCount, used, objects}
+use Rattle.rules.specs.Tables.{mayFollow, wellAfter, wellFormed, blockCount, startOf, used, objects}
 use Rattle.rules.specs.Pointers.{addressOf, goodBase, targetOf, headsObject, headAt, leadsTo}
 use Rattle.rules.specs.Outcomes.{Heap, heapOf, changeFrom, collectedTo, unlessRefused}
 use Rattle.rules.specs.Refusals.{firstOf, goodShape, wholeWords}
@@ -61,5 +61,5 @@ unfolding orders
 orders-number = refl
 
 pub orders-hold : map (λ (x : Example). x .is) orders ≡ map (λ (x : Example). x .ought) orders
-unfolding orders count leading tabulate number bytesOf wordAt withWord wordsOf entryOf entriesOf tableOf mayFollow wellAfter wellFormed blockCount used objects addressOf goodBase targetOf headsObject headAt leadsTo changeFrom unlessRefused firstOf goodShape wholeWords pushed visitTo visit walkWords walk drainFor drain trace rootTo markRoot markRoots passBlock passFrom pass rescanFor rescan markAll sweptEntry freeingAfter sweepFrom sweep collecting collect
+unfolding orders count leading tabulate number bytesOf wordAt withWord wordsOf entryOf entriesOf tableOf mayFollow wellAfter wellFormed blockCount startOf used objects addressOf goodBase targetOf headsObject headAt leadsTo changeFrom unlessRefused firstOf goodShape wholeWords pushed visitTo visit walkWords walk drainFor drain trace rootTo markRoot markRoots passBlock passFrom pass rescanFor rescan markAll sweptEntry freeingAfter sweepFrom sweep collecting collect
 orders-hold = refl

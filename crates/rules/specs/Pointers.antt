@@ -8,7 +8,7 @@ use lib.Dec.{eqb, leb, ltb}
 use lib.ListN.{length}
 use Rattle.rules.specs.Tests.{pick, both, either}
 use Rattle.rules.specs.Entries.{HEAD, MARK}
-use Rattle.rules.specs.Tables.{entryAt}
+use Rattle.rules.specs.Tables.{entryAt, startOf}
 
 -- the address of block k
 unfoldable pub addressOf : ℕ → ℕ → ℕ
@@ -29,10 +29,11 @@ targetOf base n w =
 unfoldable pub headsObject : ℕ → Bool
 headsObject e = either (eqb e HEAD) (eqb e MARK)
 
+-- the head of the object that has a target as one of its blocks, if there is such an object: no FREE block is in one
 unfoldable pub headAt : List ℕ → Option ℕ → Option ℕ
 headAt es none = none
-headAt es (some k) = pick (headsObject (entryAt es k)) (some k) none
+headAt es (some k) = pick (headsObject (entryAt es (startOf es k))) (some (startOf es k)) none
 
--- the head of the object that the word w leads to, if it leads to one: w counts only if its target is a head (Meaning: Leads)
+-- the head of the object that the word w leads to, if it leads to one: that of which w is the address of a block, HEAD or TAIL (Meaning: Leads)
 unfoldable pub leadsTo : ℕ → List ℕ → ℕ → Option ℕ
 leadsTo base es w = headAt es (targetOf base (length es) w)

@@ -5,9 +5,10 @@ use Prim.Native.Nat.{_+_, _*_, _/_, _≤_}
 use native.Mathlib.Omega.{arith}
 use borrow.Author.Needs.{needs}
 use lib.ListN.{length}
+use Rattle.rules.specs.Entries.{entriesOf}
 use Rattle.rules.specs.Marking.{walkWords}
 use Rattle.rules.proofs.Entries.{length-entriesOf}
-use Rattle.marker.specs.Variables.{contextOf, stateOf}
+use Rattle.marker.specs.Variables.{contextOf, stateOf, Knows}
 use Rattle.marker.proofs.Turning.{walk-turn, walk-end}
 use Rattle.marker.proofs.walk.Statement.{statement}
 use Rattle.marker.proofs.walk.Tie as tie
@@ -18,13 +19,14 @@ Inv-loop base pool table₀ stack₀ first i₀ walked₀ table stack i walked =
     × (walked .depth ≤ length stack / 4)
     × (length table ≡ length table₀)
     × (length stack ≡ length stack₀)
+    × Knows (entriesOf table) walked
     × (walkWords (contextOf (base .0) pool stack₀) first i (stateOf table stack walked) ≡ walkWords (contextOf (base .0) pool stack₀) first i₀ (stateOf table₀ stack₀ walked₀))
 
 abbrev μ-loop : tie.MeasureT-loop
 μ-loop base pool table₀ stack₀ first i₀ walked₀ table stack i walked = i
 
 first-word-requires : tie.Need-first-word-requires Inv-loop μ-loop
-first-word-requires c κs = omega (arith, c .before .before .before .pre .0 .small, c .before .before .before .pre .1 .1, length-entriesOf (c .before .before .before .args .table .now))
+first-word-requires c κs = omega (arith, c .before .before .before .pre .0 .small, c .before .before .before .pre .1 .1 .0, length-entriesOf (c .before .before .before .args .table .now))
 
 block-count-requires : tie.Need-block-count-requires Inv-loop μ-loop
 block-count-requires c κs = search needs
@@ -33,7 +35,7 @@ mul-i : tie.Need-mul-i Inv-loop μ-loop
 mul-i c = omega (arith, c .block-count .ensures .1, c .before .before .before .before .before .before .pre .0 .small, length-entriesOf (c .before .before .before .before .before .before .args .table .now))
 
 loop-holds : tie.Need-loop-holds Inv-loop μ-loop
-loop-holds c = (omega arith, c .before .before .before .before .before .before .pre .1 .0, refl, refl, refl)
+loop-holds c = (omega arith, c .before .before .before .before .before .before .pre .1 .0, refl, refl, c .before .before .before .before .before .before .pre .1 .1 .1, refl)
 
 sub-i : tie.Need-sub-i Inv-loop μ-loop
 sub-i c = search needs
@@ -49,7 +51,7 @@ word-requires : tie.Need-word-requires Inv-loop μ-loop
 word-requires c κs = omega (arith, within c, c .before .before .loop-test .taken)
 
 visit-requires : tie.Need-visit-requires Inv-loop μ-loop
-visit-requires c κs = (omega (arith, c .before .before .before .before .loop .inv .2, c .before .before .before .before .before .before .before .before .before .before .before .pre .0 .small), c .before .before .before .before .loop .inv .1)
+visit-requires c κs = (omega (arith, c .before .before .before .before .loop .inv .2, c .before .before .before .before .before .before .before .before .before .before .before .pre .0 .small), (c .before .before .before .before .loop .inv .1, c .before .before .before .before .loop .inv .4))
 
 loop-less : tie.Need-loop-less Inv-loop μ-loop
 loop-less c = search needs
@@ -63,8 +65,9 @@ loop-again c =
       v .ensures (a .pool .now) .deep,
       v .kept .1 .0 ∙ l .inv .2,
       v .kept .1 .1 .0 ∙ l .inv .3,
+      v .ensures (a .pool .now) .knows,
       walk-turn (a .base .0) (a .pool .now) (a .stack .now) (c .before .before .before .before .before .before .before .before .before .before .before .before .first-word .result) (l .i) (c .before .before .before .before .before .word .result) (l .stack)
-          (stateOf (l .table) (l .stack) (l .walked)) (omega arith) (l .inv .3) (c .before .before .before .before .before .word .ensures) (v .ensures (a .pool .now) .same) (l .inv .4),
+          (stateOf (l .table) (l .stack) (l .walked)) (omega arith) (l .inv .3) (c .before .before .before .before .before .word .ensures) (v .ensures (a .pool .now) .same) (l .inv .5),
     )
 
 same-length : tie.Need-same-length Inv-loop μ-loop
@@ -81,8 +84,9 @@ returns c =
       same =
           walk-end (a .base .0) (a .pool .now) (a .stack .now) (a .k .0) (c .before .before .block-count .result) (c .before .before .before .before .first-word .result) (l .i)
           (stateOf (l .table) (l .stack) (l .walked)) (stateOf (a .table .now) (a .stack .now) (a .m))
-          (c .loop-test .left) (c .before .before .before .before .first-word .ensures) (c .before .before .block-count .ensures .0) (l .inv .4);
+          (c .loop-test .left) (c .before .before .before .before .first-word .ensures) (c .before .before .block-count .ensures .0) (l .inv .5);
       deep = l .inv .1;
+      knows = l .inv .4;
     }
 
 pub walk-spec : {M : Type 1} → statement M

@@ -1,0 +1,77 @@
+-- The object's start is found; the object is pushed if that is HEAD.
+-- Assumes nothing.
+use mathlib.Core.Path.{sym, ap, _∙_}
+use native.Mathlib.Omega.{arith}
+use borrow.Author.Needs.{needs}
+use Rattle.rules.specs.Entries.{entriesOf}
+use Rattle.rules.specs.Marking.{State, marked, pushed}
+use Rattle.rules.proofs.Tables.{start-says}
+use Rattle.marker.specs.Variables.{contextOf, stateOf}
+use Rattle.marker.proofs.Pointing.{visit-takes, visit-stays}
+use Rattle.marker.proofs.Stacking.{knows-either, state-remembers, came-to}
+use Rattle.marker.proofs.visit_tail.Statement.{statement}
+use Rattle.marker.proofs.visit_tail.Tie as tie
+
+start-of-requires : tie.Need-start-of-requires
+start-of-requires c κs = search needs
+
+remember-requires : tie.Need-remember-requires
+remember-requires c κs =
+    let a = c .before .before .before .before .args in
+    let es = entriesOf (a .table .now) in
+    (omega (arith, c .before .before .before .before .pre .0 .1 .1, start-says es (a .m .last .0) .from), omega (arith, c .start-of .ensures, start-says es (a .k .0) .from))
+
+entry-requires : tie.Need-entry-requires
+entry-requires c κs =
+    let a = c .before .before .before .before .before .before .args in
+    omega (arith, c .before .before .start-of .ensures, start-says (entriesOf (a .table .now)) (a .k .0) .from, c .before .before .before .before .before .before .pre .1)
+
+same-length : tie.Need-same-length
+same-length c = search needs
+
+returns : tie.Need-returns
+returns c base pool =
+    let a = c .before .before .before .before .before .before .before .before .args in
+    let h = c .before .before .before .before .start-of in
+    let r = c .before .before .before .remember in
+    record {
+      same = state-remembers (a .table .now) (a .stack .now) (a .m) (r .result) (h .result .0) (a .k .0) (r .ensures)
+          ∙ sym (visit-stays (contextOf base pool (a .stack .now)) (stateOf (a .table .now) (a .stack .now) (a .m)) (a .k .0) (h .result .0) (h .ensures) (λ q. c .if1 .taken (c .before .entry .ensures ∙ q)));
+      deep = rw (r .ensures .depth) (c .before .before .before .before .before .before .before .before .pre .0 .1 .0);
+      knows = knows-either (entriesOf (a .table .now)) (a .m) (r .result) (h .result .0) (a .k .0) (c .before .before .before .before .before .before .before .before .pre .0 .1 .1) (h .ensures) (r .ensures);
+    }
+
+push-requires : tie.Need-push-requires
+push-requires c κs =
+    let a = c .before .before .before .before .before .before .before .before .before .before .args in
+    let r = c .before .before .before .before .before .remember in
+    ((c .before .before .before .before .before .before .before .before .before .before .pre .0 .0, (rw (r .ensures .depth) (c .before .before .before .before .before .before .before .before .before .before .pre .0 .1 .0), knows-either (entriesOf (a .table .now)) (a .m) (r .result) (c .before .before .before .before .before .before .start-of .result .0) (a .k .0) (c .before .before .before .before .before .before .before .before .before .before .pre .0 .1 .1) (c .before .before .before .before .before .before .start-of .ensures) (r .ensures))), sym (c .before .before .before .entry .ensures) ∙ c .before .before .if1 .left)
+
+same-length-2 : tie.Need-same-length-2
+same-length-2 c = search needs
+
+same-length-3 : tie.Need-same-length-3
+same-length-3 c = search needs
+
+returns-2 : tie.Need-returns-2
+returns-2 c base pool =
+    let a = c .before .before .before .before .before .before .before .before .before .before .before .before .before .before .before .args in
+    let h = c .before .before .before .before .before .before .before .before .before .before .before .start-of in
+    let t = contextOf base pool (a .stack .now) in
+    came-to (c .before .before .before .before .push .ensures base pool)
+    (ap (λ (s : State). pushed t (h .result .0) (marked (h .result .0) s)) (state-remembers (a .table .now) (a .stack .now) (a .m) (c .before .before .before .before .before .before .before .before .before .before .remember .result) (h .result .0) (a .k .0) (c .before .before .before .before .before .before .before .before .before .before .remember .ensures))
+    ∙ sym (visit-takes t (stateOf (a .table .now) (a .stack .now) (a .m)) (a .k .0) (h .result .0) (h .ensures) (sym (c .before .before .before .before .before .before .before .before .entry .ensures) ∙ c .before .before .before .before .before .before .before .if1 .left)))
+
+pub visit-tail-spec : {M : Type 1} → statement M
+visit-tail-spec =
+    tie.close
+    (tie.spec
+    start-of-requires
+    remember-requires
+    entry-requires
+    same-length
+    returns
+    push-requires
+    same-length-2
+    same-length-3
+    returns-2)
