@@ -44,9 +44,9 @@ impl ListHeap {
         }
     }
 
-    /// The place in the list of the object whose head has this address.
+    /// The place in the list of the object that a word leads to: one of its blocks has this address.
     fn target(&self, word: u32) -> Option<usize> {
-        self.objects.binary_search_by_key(&u64::from(word), |object| self.address(object)).ok()
+        self.owner(self.block_at(word)?)
     }
 }
 
@@ -114,5 +114,37 @@ impl<'h> Marking<'h> {
         let object = self.heap.target(word)?;
         let fresh = !std::mem::replace(&mut self.marked[object], true);
         fresh.then_some(object)
+    }
+}
+
+#[cfg(test)]
+mod tests {
+    use crate::{ListHeap, Object};
+
+    /// A heap of 12 blocks with objects at blocks 0 to 4 and 9 to 11.
+    fn two_objects() -> ListHeap {
+        let object = |start, blocks| Object { start, blocks, words: Vec::new() };
+        ListHeap { objects: vec![object(0, 5), object(9, 3)], ..ListHeap::empty(4096, 12) }
+    }
+
+    #[test]
+    fn the_address_of_each_block_of_an_object_leads_to_it() {
+        let (head, third, last) = (4096, 4096 + 16 * 2, 4096 + 16 * 4);
+        for word in [head, third, last] {
+            assert_eq!(two_objects().target(word), Some(0), "{word}");
+        }
+        for block in 9..12 {
+            assert_eq!(two_objects().target(4096 + 16 * block), Some(1), "block {block}");
+        }
+    }
+
+    #[test]
+    fn other_words_lead_nowhere() {
+        let free = [5, 6, 7, 8].map(|block| 4096 + 16 * block);
+        let inside = [4096 + 1, 4096 + 16 * 2 + 15, 4096 + 16 * 4 + 4];
+        let outside = [0, 16, 4096 - 16, 4096 + 16 * 12, u32::MAX - 15];
+        for word in [&free[..], &inside, &outside].concat() {
+            assert_eq!(two_objects().target(word), None, "{word}");
+        }
     }
 }

@@ -106,8 +106,17 @@ impl ListHeap {
         self.objects.iter().map(|object| object.blocks).sum()
     }
 
-    pub fn address(&self, object: &Object) -> u64 {
-        self.base + BLOCK_BYTES * object.start
+    /// The block that has this address, whether or not the heap has so many blocks.
+    pub fn block_at(&self, word: u32) -> Option<u64> {
+        let offset = u64::from(word).checked_sub(self.base)?;
+        (offset % BLOCK_BYTES == 0).then_some(offset / BLOCK_BYTES)
+    }
+
+    /// The place in the list of the object that the block is a part of.
+    pub fn owner(&self, block: u64) -> Option<usize> {
+        let index = self.objects.partition_point(|object| object.end() <= block);
+        let object = self.objects.get(index)?;
+        (object.start <= block).then_some(index)
     }
 
     /// The place in the list of the object whose head is `block`.
