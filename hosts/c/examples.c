@@ -229,7 +229,7 @@ static bool example_10(void)
 static bool example_11(void)
 {
     const uint32_t tail = 4128, inside = 4097;
-    return from_linked() && collects(&tail, 64, 0, 0, -8) && table_is(0, 0)
+    return from_linked() && collects(&tail, 64, 1, 0, -5) && table_is(164, 0)
         && from_linked() && collects(&inside, 64, 0, 0, -8) && table_is(0, 0);
 }
 
@@ -269,6 +269,21 @@ static bool example_15(void)
     return from(165, 169) && reallocates(8, 0, BLOCKHEAP_ZERO_BYTES, 0, 0) && table_is(165, 169);
 }
 
+/* Word 0 of block 6 leads to block 2, which is the third of its object. The last word of that object is given. */
+static bool from_linked_by_tails(uint32_t last)
+{
+    return from(169, 25) && stores(6, 0, 4128) && stores(0, 15, last) && surveys(7, 3, 1);
+}
+
+static bool example_16(void)
+{
+    const uint32_t root = 4192, free_block = 4208, tail = 4176, inside = 4177;
+    return from_linked_by_tails(tail) && collects(&root, 64, 3, 0, 0) && table_is(169, 25)
+        && from_linked_by_tails(tail) && collects(&root, 0, 3, 2, 0) && table_is(169, 25)
+        && from_linked_by_tails(inside) && collects(&root, 64, 2, 0, -2) && table_is(169, 16)
+        && from_linked_by_tails(tail) && collects(&free_block, 64, 0, 0, -7) && table_is(0, 0);
+}
+
 static const struct {
     const char *title;
     bool (*holds)(void);
@@ -283,11 +298,12 @@ static const struct {
     {"grow by moving", example_8},
     {"collect from one root", example_9},
     {"collect from no roots", example_10},
-    {"roots that count for nothing", example_11},
+    {"roots at a tail and inside a block", example_11},
     {"ill-formed tables", example_12},
     {"bases at the limits", example_13},
     {"the last word and the one after", example_14},
     {"0 bytes is refused before the block is", example_15},
+    {"a chain through tails", example_16},
 };
 
 static bool holds_everywhere(bool (*holds)(void))

@@ -20,8 +20,19 @@ impl Example<'_> {
 
     /// The heap of examples 9 to 11: word 0 of block 4 leads to block 0.
     fn linked(&mut self, roots: &[u32], stack_entries: usize) -> &mut Self {
-        self.from([165, 169]);
-        self.lent.set_word(16, 4096);
+        self.from([165, 169]).lent.set_word(16, 4096);
+        self.lends(roots, stack_entries)
+    }
+
+    /// The heap of example 16: word 0 of block 6 leads to block 2, which is the third of its object, and
+    /// the last word of that object is given.
+    fn linked_by_tails(&mut self, last: u32, root: u32, stack_entries: usize) -> &mut Self {
+        self.from([169, 25]).lent.set_word(24, 4128);
+        self.lent.set_word(15, last);
+        self.lends(&[root], stack_entries)
+    }
+
+    fn lends(&mut self, roots: &[u32], stack_entries: usize) -> &mut Self {
         self.lent.set_roots(roots);
         self.lent[Stack] = Guarded::new(&vec![0xEE; 4 * stack_entries]);
         self
@@ -145,11 +156,10 @@ fn example_10_collect_without_roots() {
 }
 
 #[test]
-fn example_11_roots_that_count_for_nothing() {
+fn example_11_roots_at_a_tail_and_inside_a_block() {
     on_every_heap(|heap| {
-        for root in [4128, 4097] {
-            heap.linked(&[root], 64).gives(Call::Collect, [0, 0, -8], [0, 0]);
-        }
+        heap.linked(&[4128], 64).gives(Call::Collect, [1, 0, -5], [164, 0]);
+        heap.linked(&[4097], 64).gives(Call::Collect, [0, 0, -8], [0, 0]);
     });
 }
 
@@ -183,5 +193,15 @@ fn example_14_last_word() {
 fn example_15_zero_bytes_first() {
     on_every_heap(|heap| {
         heap.from([165, 169]).refuses(reallocate(8, 0), 5);
+    });
+}
+
+#[test]
+fn example_16_a_chain_through_tails() {
+    on_every_heap(|heap| {
+        heap.linked_by_tails(4176, 4192, 64).gives(Call::Collect, [3, 0, 0], [169, 25]);
+        heap.linked_by_tails(4176, 4192, 0).gives(Call::Collect, [3, 2, 0], [169, 25]);
+        heap.linked_by_tails(4177, 4192, 64).gives(Call::Collect, [2, 0, -2], [169, 16]);
+        heap.linked_by_tails(4176, 4208, 64).gives(Call::Collect, [0, 0, -7], [0, 0]);
     });
 }
