@@ -1,7 +1,8 @@
-//! What a run has reached: each call with each refusal number that it can give, and some situations
-//! that a number does not show.
+//! What a run has reached: each call with each refusal number that it can give, some situations that a
+//! number does not show, and words of which it matters where they lead.
 
-use crate::{Call, Reply};
+use crate::readings::{self, collect_reading, reads_otherwise, right, Reading};
+use crate::{on_list, Buffer, Call, Lent, Reply};
 use std::collections::BTreeMap;
 use std::fmt::Write;
 
@@ -21,6 +22,32 @@ const SITUATIONS: [Situation; 11] = [
     ("survey", "no free block", |_, reply| reply.parts["longest"] == 0),
     ("survey", "more than 32 in a row", |_, reply| reply.parts["longest"] > 32),
 ];
+
+/// Words that tell a right collection from a wrong one: what they are called, and how the wrong one reads
+/// its roots and the words of its objects. It keeps more objects, or fewer.
+type TellingWords = (&'static str, [Reading; 2]);
+
+const TELLING_WORDS: [TellingWords; 8] = [
+    ("a tail as a root", [readings::heads_alone, right]),
+    ("a tail in an object", [right, readings::heads_alone]),
+    ("a far tail as a root", [readings::near_heads, right]),
+    ("a far tail in an object", [right, readings::near_heads]),
+    ("behind an object as a root", [readings::one_block_longer, right]),
+    ("behind an object in an object", [right, readings::one_block_longer]),
+    ("inside a block as a root", [readings::inside_blocks, right]),
+    ("inside a block in an object", [right, readings::inside_blocks]),
+];
+
+/// Which of the words an accepted collection has that kept so many objects.
+fn telling_words(before: &Lent, kept: i64) -> [bool; TELLING_WORDS.len()] {
+    let heap = on_list(&mut before.clone(), |heap| Ok(heap.clone()));
+    let heap = heap.expect("an accepted collection");
+    let roots = listheap::words_of(&before[Buffer::Roots]);
+    TELLING_WORDS.map(|(_, reading)| {
+        let kept_so = || collect_reading(&mut heap.clone(), &roots, 64, reading).kept as i64;
+        reads_otherwise(&heap, &roots, reading) && kept_so() != kept
+    })
+}
 
 fn grown(reply: &Reply) -> bool {
     reply.parts["change"] > 0
@@ -44,6 +71,7 @@ fn reachable() -> impl Iterator<Item = (&'static str, u32)> {
 pub struct Coverage {
     numbers: BTreeMap<(&'static str, u32), u64>,
     situations: [u64; SITUATIONS.len()],
+    telling_words: [u64; TELLING_WORDS.len()],
 }
 
 impl Coverage {
@@ -51,13 +79,27 @@ impl Coverage {
         self.numbers.values().sum()
     }
 
-    pub fn count(&mut self, call: &Call, reply: &Reply) {
+    pub fn count(&mut self, call: &Call, before: &Lent, reply: &Reply) {
         let name = call.description().name;
         *self.numbers.entry((name, reply.refusal)).or_default() += 1;
         for (count, (of_call, _, shown)) in self.situations.iter_mut().zip(SITUATIONS) {
             let seen = of_call == name && reply.refusal == 0 && shown(call, reply);
             *count += u64::from(seen);
         }
+        if let (0, Call::Collect) = (reply.refusal, call) {
+            let telling = telling_words(before, reply.parts["kept"]);
+            for (count, seen) in self.telling_words.iter_mut().zip(telling) {
+                *count += u64::from(seen);
+            }
+        }
+    }
+
+    /// Each situation and each kind of telling words, and how often it was seen.
+    fn seen(&self) -> impl Iterator<Item = (String, u64)> + '_ {
+        let situations = SITUATIONS.iter().map(|(call, name, _)| format!("{call}: {name}"));
+        let telling_words = TELLING_WORDS.iter().map(|(name, _)| format!("collect: {name}"));
+        let counts = self.situations.iter().chain(&self.telling_words).copied();
+        situations.chain(telling_words).zip(counts)
     }
 
     /// What should have been reached and was not, or the other way round.
@@ -67,13 +109,12 @@ impl Coverage {
         let wrong = self.numbers.keys().filter(|pair| reachable().all(|other| other != **pair));
         let wrong =
             wrong.map(|(name, number)| format!("{name} answered {number}, which it cannot"));
-        let situations = SITUATIONS.iter().zip(self.situations);
-        let unseen = situations.filter(|(_, count)| *count == 0);
-        let unseen = unseen.map(|((call, name, _), _)| format!("never seen: {call}: {name}"));
+        let unseen = self.seen().filter(|(_, count)| *count == 0);
+        let unseen = unseen.map(|(name, _)| format!("never seen: {name}"));
         never.chain(wrong).chain(unseen).collect()
     }
 
-    /// A line for each call, with a column for each refusal number, then a line for each situation.
+    /// A line for each call, with a column for each refusal number, then a line for each thing seen.
     pub fn table(&self) -> String {
         let most = reachable().map(|(_, number)| number).max().unwrap_or(0);
         let mut text = format!("{:<12}", "refusal");
@@ -88,10 +129,59 @@ impl Coverage {
                 write!(text, "{shown:>8}").expect("text can be written");
             }
         }
-        for ((call, name, _), count) in SITUATIONS.iter().zip(self.situations) {
-            let situation = format!("{call}: {name}");
-            write!(text, "\n{situation:<36}{count:>8}").expect("text can be written");
+        for (name, count) in self.seen() {
+            write!(text, "\n{name:<44}{count:>8}").expect("text can be written");
         }
         text
+    }
+}
+
+#[cfg(test)]
+mod tests {
+    use super::*;
+    use crate::second;
+
+    /// An object in block 0, and one in blocks 1 to 310 of 320.
+    fn heap() -> Lent {
+        let mut lent = Lent::new(4096, &[0; 64 * 80], &[0; 80]);
+        for bytes in [1, 16 * 310] {
+            assert_eq!(second(&Call::Allocate { bytes }, &mut lent).refusal, 0);
+        }
+        lent
+    }
+
+    /// The telling words of a collection.
+    fn seen_from(mut lent: Lent, roots: &[u32]) -> Vec<String> {
+        lent.set_roots(roots);
+        let mut coverage = Coverage::default();
+        let reply = second(&Call::Collect, &mut lent.clone());
+        coverage.count(&Call::Collect, &lent, &reply);
+        let seen = coverage.seen().skip(SITUATIONS.len()).filter(|(_, count)| *count == 1);
+        seen.map(|(name, _)| name).collect()
+    }
+
+    fn check(block: u32, inside: u32, names: &[&str]) {
+        let word = 4096 + 16 * block + inside;
+        let of = |place: &str| -> Vec<String> {
+            names.iter().map(|name| format!("collect: {name} {place}")).collect()
+        };
+        assert_eq!(seen_from(heap(), &[word]), of("as a root"), "{word}");
+        let mut holding = heap();
+        holding.set_word(0, word);
+        assert_eq!(seen_from(holding, &[4096]), of("in an object"), "{word}");
+    }
+
+    #[test]
+    fn telling_words_are_seen() {
+        check(1, 0, &[]);
+        check(2, 0, &["a tail"]);
+        check(300, 0, &["a tail"]);
+        check(301, 0, &["a tail", "a far tail"]);
+        check(310, 0, &["a tail", "a far tail"]);
+        check(311, 0, &["behind an object"]);
+        check(312, 0, &[]);
+        check(310, 1, &["inside a block"]);
+        check(311, 1, &[]);
+        check(320, 0, &[]);
     }
 }

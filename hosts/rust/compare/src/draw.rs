@@ -35,11 +35,24 @@ pub fn heads(table: &[u8]) -> Vec<u64> {
     (0..4 * table.len() as u64).filter(|block| entry(table, *block) == HEAD).collect()
 }
 
-/// The first head at or after a random block, or that block if the heap has none.
-fn some_head(random: &mut Random, lent: &Lent) -> u64 {
+/// The first block at or after a random one that has this entry, or that one if the heap has none.
+fn some_block(random: &mut Random, lent: &Lent, wanted: u8) -> u64 {
     let (start, blocks) = (random.below(blocks(lent)), blocks(lent));
     let mut in_turn = (start..blocks).chain(0..start);
-    in_turn.find(|block| entry(&lent[Table], *block) == HEAD).unwrap_or(start)
+    in_turn.find(|block| entry(&lent[Table], *block) == wanted).unwrap_or(start)
+}
+
+fn some_head(random: &mut Random, lent: &Lent) -> u64 {
+    some_block(random, lent, HEAD)
+}
+
+/// Any block of the head's object, the head itself more often than another.
+fn some_part(random: &mut Random, lent: &Lent, head: u64) -> u64 {
+    if random.percent(25) {
+        head
+    } else {
+        head + random.below(object_blocks(&lent[Table], head))
+    }
 }
 
 /// How the objects of a heap lead to each other.
@@ -83,7 +96,9 @@ pub fn heap(random: &mut Random, table_bytes: u64) -> Lent {
 
 fn table(random: &mut Random, table_bytes: u64) -> Vec<u8> {
     let blocks = 4 * table_bytes;
-    let styles = [(1, 0), (1, 2), (3, 3), (9, 1), (9, 20), (blocks, 0), (blocks, blocks), (0, 0)];
+    let long = blocks.div_ceil(3);
+    let styles =
+        [(1, 0), (1, 2), (3, 3), (9, 1), (9, 20), (long, 2), (blocks, 0), (blocks, blocks), (0, 0)];
     let (longest_object, longest_gap) = random.pick(&styles);
     let mut table = vec![0; table_bytes as usize];
     if longest_object == 0 {
@@ -138,7 +153,7 @@ fn fill(random: &mut Random, lent: &mut Lent, head: u64, percent: u64) {
     }
 }
 
-/// Clears an object and puts the targets' addresses at random places in it.
+/// Clears an object and puts addresses of the targets' objects at random places in it.
 fn point(random: &mut Random, lent: &mut Lent, head: u64, targets: [Option<u64>; 2]) {
     let end = head + object_blocks(&lent[Table], head);
     lent[Pool][16 * head as usize..16 * end as usize].fill(0);
@@ -146,7 +161,8 @@ fn point(random: &mut Random, lent: &mut Lent, head: u64, targets: [Option<u64>;
     let places = [random.between(middle, 4 * end - 1), random.between(4 * head, middle - 1)];
     for (place, target) in places.into_iter().zip(targets) {
         if let Some(target) = target {
-            lent.set_word(place as usize, address(lent, target));
+            let part = some_part(random, lent, target);
+            lent.set_word(place as usize, address(lent, part));
         }
     }
 }
@@ -155,19 +171,26 @@ fn address(lent: &Lent, block: u64) -> u32 {
     lent.base.wrapping_add(16 * block) as u32
 }
 
-/// Mostly the address of a head; else one that counts for nothing, or any number.
+/// Mostly an address of an object; else one that counts for nothing, or any number.
 pub fn word_value(random: &mut Random, lent: &Lent) -> u32 {
-    let some_block = random.below(blocks(lent));
+    let any_block = random.below(blocks(lent));
     match random.below(16) {
-        0 => address(lent, some_block),
-        1 => address(lent, some_block) + random.between(1, 15) as u32,
+        0 => address(lent, any_block),
+        1 => address(lent, any_block) + random.between(1, 15) as u32,
         2 => address(lent, blocks(lent)),
         3 => (lent.base as u32).wrapping_sub(16),
-        4 => address(lent, some_block).swap_bytes(),
-        5 => some_block as u32,
+        4 => address(lent, any_block).swap_bytes(),
+        5 => any_block as u32,
         6 => random.number() as u32,
-        _ => address(lent, some_head(random, lent)),
+        7 => address(lent, some_block(random, lent, FREE)),
+        _ => some_address(random, lent),
     }
+}
+
+/// An address of some object.
+fn some_address(random: &mut Random, lent: &Lent) -> u32 {
+    let head = some_head(random, lent);
+    address(lent, some_part(random, lent, head))
 }
 
 /// A call with its arguments; for a collection also roots and mark stack.
@@ -244,18 +267,21 @@ pub fn draw_roots(random: &mut Random, lent: &mut Lent) {
     }
 }
 
-/// Most heads, or a few words, at most 4,096 in all.
+/// Addresses of most objects, of some or of none, and a few words, at most 4,096 in all.
 pub fn good_roots(random: &mut Random, lent: &Lent) -> Vec<u32> {
-    let mut roots = if random.percent(75) { most_heads(random, lent) } else { Vec::new() };
+    let percent = random.pick(&[90, 90, 30, 0]);
+    let mut roots = addresses(random, lent, percent);
     let few = random.below(4);
     roots.extend((0..few).map(|_| word_value(random, lent)));
     roots.truncate(4096);
     roots
 }
 
-fn most_heads(random: &mut Random, lent: &Lent) -> Vec<u32> {
-    let heads = heads(&lent[Table]).into_iter();
-    heads.filter(|_| random.percent(85)).map(|head| address(lent, head)).collect()
+/// An address of each of so many objects in a hundred.
+fn addresses(random: &mut Random, lent: &Lent, percent: u64) -> Vec<u32> {
+    let mut heads = heads(&lent[Table]);
+    heads.retain(|_| random.percent(percent));
+    heads.into_iter().map(|head| address(lent, some_part(random, lent, head))).collect()
 }
 
 /// A stack for the marks, with any content: 0 to 64 entries, at times more, or a piece of one.

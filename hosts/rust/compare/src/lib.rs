@@ -14,6 +14,7 @@ mod lent;
 mod pages;
 mod pairs;
 mod random;
+pub mod readings;
 mod reply;
 mod subject;
 mod walk;

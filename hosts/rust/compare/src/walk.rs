@@ -45,8 +45,9 @@ fn step(
         draw::damage(random, &mut damaged);
         damaged
     });
-    let (reply, after) = compare(subject, &call, damaged.as_ref().unwrap_or(heap))?;
-    coverage.count(&call, &reply);
+    let before = damaged.as_ref().unwrap_or(heap);
+    let (reply, after) = compare(subject, &call, before)?;
+    coverage.count(&call, before, &reply);
     if damaged.is_none() {
         *heap = after;
     }

@@ -10,8 +10,8 @@ const SHARES: [(Sizes, u64); 5] = [
     (Sizes { least: 1, most: 2, calls_per_heap: 20 }, 30),
     (Sizes { least: 1, most: 16, calls_per_heap: 50 }, 45),
     (Sizes { least: 17, most: 128, calls_per_heap: 70 }, 16),
-    (Sizes { least: 129, most: 1024, calls_per_heap: 50 }, 7),
-    (Sizes { least: 1024, most: 1024, calls_per_heap: 50 }, 2),
+    (Sizes { least: 129, most: 1024, calls_per_heap: 20 }, 7),
+    (Sizes { least: 1024, most: 1024, calls_per_heap: 20 }, 2),
 ];
 
 fn calls_wanted() -> u64 {
