@@ -1,6 +1,7 @@
 //! The comparison must notice a wrong heap: each heap here follows all rules but one.
 
 use compare::laws::{self, run_law, Law};
+use compare::readings::{self, collect_reading, Reading};
 use compare::Buffer::{self, Pool, Roots, Stack, Table};
 use compare::{
     entry, object_blocks, on_list, run_pairs, run_walks, second, Call, Guarded, Lent, Reply,
@@ -11,22 +12,51 @@ use std::os::unix::process::ExitStatusExt;
 use std::process::Command;
 
 const SMALL: Sizes = Sizes { least: 1, most: 16, calls_per_heap: 60 };
+const LARGE: Sizes = Sizes { least: 65, most: 1024, calls_per_heap: 20 };
 const MOST_CALLS: u64 = 50_000;
 
 /// What tells the heap from a right one within some thousand calls.
-fn fault_of(subject: Subject) -> String {
-    let outcome = run_walks(subject, SMALL, 5, MOST_CALLS, &mut Coverage::default());
+fn fault_of(subject: Subject, sizes: Sizes) -> String {
+    let outcome = run_walks(subject, sizes, 5, MOST_CALLS, &mut Coverage::default());
     outcome.expect_err("no call told this heap from a right one")
 }
 
 fn must_be_noticed(name: &str, subject: Subject) {
-    say_noticed(name, &fault_of(subject));
+    say_noticed(name, &fault_of(subject, SMALL));
+}
+
+/// The heap must be noticed by how many objects it keeps. Answers that number and the right one.
+fn kept_and_right(name: &str, subject: Subject, sizes: Sizes) -> [u64; 2] {
+    let fault = fault_of(subject, sizes);
+    say_noticed(name, &fault);
+    let words: Vec<&str> = fault.split_whitespace().collect();
+    match words[..] {
+        ["seed", _, "call", _, "kept", "is", kept, "where", right, ..] => {
+            [kept, right].map(|number| number.parse().expect("a number"))
+        }
+        _ => panic!("{name} is noticed, but not by what it keeps"),
+    }
+}
+
+fn keeps_too_few(name: &str, subject: Subject) {
+    let [kept, right] = kept_and_right(name, subject, SMALL);
+    assert!(kept < right, "{kept} and {right}");
+}
+
+fn keeps_too_few_large_objects(name: &str, subject: Subject) {
+    let [kept, right] = kept_and_right(name, subject, LARGE);
+    assert!(kept < right, "{kept} and {right}");
+}
+
+fn keeps_too_many(name: &str, subject: Subject) {
+    let [kept, right] = kept_and_right(name, subject, SMALL);
+    assert!(kept > right, "{kept} and {right}");
 }
 
 /// The heap that does wrong at one buffer must be noticed by that buffer, whichever it is.
 fn must_be_noticed_anywhere(name: &str, heap: &dyn Fn(Buffer, &Call, &mut Lent) -> Reply) {
     for buffer in Buffer::ALL {
-        let fault = fault_of(&|call, lent| heap(buffer, call, lent));
+        let fault = fault_of(&|call, lent| heap(buffer, call, lent), SMALL);
         say_noticed(name, &fault);
         let noticed_by = fault.lines().next().unwrap_or_default();
         assert!(noticed_by.contains(&buffer.to_string()), "{buffer} and not {noticed_by}");
@@ -117,7 +147,7 @@ each! { must_be_noticed:
     clears_only_the_bytes_asked
     moves_into_its_own_blocks
     frees_tails_of_kept_objects
-    counts_addresses_inside_blocks
+    finds_the_block_before_the_head
     misses_the_lowest_start
     cuts_runs_at_every_32_blocks
     surveys_no_last_bytes
@@ -129,6 +159,25 @@ each! { must_be_noticed:
     leaves_the_mark_stack
     clears_freed_bytes
     clears_the_pool_at_init
+}
+
+each! { keeps_too_few:
+    follows_heads_alone
+    finds_no_head_in_an_earlier_byte
+    finds_no_head_in_an_earlier_8_bytes
+    walks_from_the_addressed_block_on
+}
+
+each! { keeps_too_few_large_objects:
+    finds_no_head_in_an_earlier_64_bytes
+    finds_no_head_300_blocks_before
+}
+
+each! { keeps_too_many:
+    follows_the_block_behind_an_object
+    follows_free_blocks
+    counts_addresses_inside_blocks
+    walks_tails_in_a_rescan
 }
 
 each! { must_be_noticed_anywhere:
@@ -191,6 +240,8 @@ fn an_empty_run_has_reached_nothing() {
     let numbers = faults.iter().filter(|fault| fault.contains("never answered")).count();
     let pairs = Call::DESCRIPTIONS.iter().map(|call| call.refusals.len()).sum();
     assert_eq!(numbers, pairs, "pairs of a call and a refusal number");
+    let seen = faults.iter().filter(|fault| fault.contains("never seen")).count();
+    assert_eq!(seen, 19, "situations and kinds of words");
 }
 
 /// Whether the heap's lengths fit each other, so that its blocks can be looked at.
@@ -343,12 +394,88 @@ fn moves_into_its_own_blocks(call: &Call, lent: &mut Lent) -> Reply {
     moved.map_or(reply, |placed| Reply::accepted(call, &[placed.block as i64, placed.change]))
 }
 
+/// How often a right collection rescans.
+fn right_rescans(heap: &ListHeap, roots: &[u32], entries: usize) -> u64 {
+    heap.clone().collect(roots, entries).expect("an accepted collection").rescans
+}
+
+/// A collection that reads roots and words of objects so. It answers the right rescans, and so it is what
+/// it keeps that tells it from a right one.
+fn collect_by_reading(call: &Call, lent: &mut Lent, reading: Reading) -> Reply {
+    collect_by(call, lent, |heap, roots, entries| {
+        let rescans = right_rescans(heap, roots, entries);
+        Collected { rescans, ..collect_reading(heap, roots, entries, [reading; 2]) }
+    })
+}
+
+/// As MicroPython's own collector does.
+fn follows_heads_alone(call: &Call, lent: &mut Lent) -> Reply {
+    collect_by_reading(call, lent, readings::heads_alone)
+}
+
+fn finds_no_head_in_an_earlier_byte(call: &Call, lent: &mut Lent) -> Reply {
+    collect_by_reading(call, lent, readings::heads_in_a_byte)
+}
+
+fn finds_no_head_in_an_earlier_8_bytes(call: &Call, lent: &mut Lent) -> Reply {
+    collect_by_reading(call, lent, readings::heads_in_8_bytes)
+}
+
+fn finds_no_head_in_an_earlier_64_bytes(call: &Call, lent: &mut Lent) -> Reply {
+    collect_by_reading(call, lent, readings::heads_in_64_bytes)
+}
+
+fn finds_no_head_300_blocks_before(call: &Call, lent: &mut Lent) -> Reply {
+    collect_by_reading(call, lent, readings::near_heads)
+}
+
+fn finds_the_block_before_the_head(call: &Call, lent: &mut Lent) -> Reply {
+    collect_by_reading(call, lent, readings::before_the_head)
+}
+
+fn follows_the_block_behind_an_object(call: &Call, lent: &mut Lent) -> Reply {
+    collect_by_reading(call, lent, readings::one_block_longer)
+}
+
+fn follows_free_blocks(call: &Call, lent: &mut Lent) -> Reply {
+    collect_by_reading(call, lent, readings::free_blocks)
+}
+
 fn counts_addresses_inside_blocks(call: &Call, lent: &mut Lent) -> Reply {
-    let roots = lent[Roots].clone();
-    lent[Roots].chunks_exact_mut(4).for_each(|root| root[0] &= 0xF0);
-    let reply = second(call, lent);
-    lent[Roots] = roots;
-    reply
+    collect_by_reading(call, lent, readings::inside_blocks)
+}
+
+/// Marks the head of a root's object, and walks no word of the blocks before the root's own.
+fn walks_from_the_addressed_block_on(call: &Call, lent: &mut Lent) -> Reply {
+    collect_by(call, lent, |heap, roots, entries| {
+        let rescans = right_rescans(heap, roots, entries);
+        let mut walked = heap.clone();
+        for block in roots.iter().filter_map(|root| heap.block_at(*root)) {
+            if let Some(index) = heap.owner(block) {
+                let words_before = 4 * (block - heap.objects[index].start) as usize;
+                walked.objects[index].words[..words_before].fill(0);
+            }
+        }
+        let collected = walked.collect(roots, entries).expect("an accepted collection");
+        heap.objects.retain(|object| walked.owner(object.start).is_some());
+        Collected { rescans, ..collected }
+    })
+}
+
+/// In a rescan it takes every tail for an object, of unmarked objects too.
+fn walks_tails_in_a_rescan(call: &Call, lent: &mut Lent) -> Reply {
+    collect_by(call, lent, |heap, roots, entries| {
+        let rescans = right_rescans(heap, roots, entries);
+        let words_of_tails = heap.objects.iter().flat_map(|object| &object.words[4..]);
+        let words_of_tails: Vec<u32> = words_of_tails.copied().collect();
+        let mut marking = Marking::new(heap, heap.objects.len());
+        marking.roots(roots);
+        if rescans > 0 {
+            marking.roots(&words_of_tails);
+        }
+        let marked = marking.marked;
+        heap.sweep(&marked, rescans)
+    })
 }
 
 /// Takes the second place of a run where that is free too.
@@ -627,9 +754,12 @@ fn answers_the_free_blocks(call: &Call, lent: &mut Lent) -> Reply {
 fn loses_the_object_of_the_last_root(call: &Call, lent: &mut Lent) -> Reply {
     let reply = second(call, lent);
     if let (0, Call::Collect) = (reply.refusal, call) {
-        let roots = listheap::words_of(&lent[Roots]);
-        let block = roots.last().map(|root| u64::from(*root).wrapping_sub(lent.base) / 16);
-        let _ = on_list(lent, |heap| heap.free(block.unwrap_or(u64::MAX)));
+        let last = listheap::words_of(&lent[Roots]).last().copied().unwrap_or(0);
+        let lost = on_list(lent, |heap| {
+            let object = heap.block_at(last).and_then(|block| heap.owner(block));
+            Ok(object.map(|object| heap.objects.remove(object)))
+        });
+        lost.expect("an accepted collection");
     }
     reply
 }
