@@ -201,16 +201,27 @@ typedef struct {
     bool overflow;
 } marking;
 
-/* Marks the word's target, and says whether it was a head that had no mark. */
+/* The head of the object that a tail is a part of; any other block itself. */
+static size_t head_of(const uint8_t *table, size_t block)
+{
+    while (entry_at(table, block) == BLOCKHEAP_TAIL)
+        block--;
+    return block;
+}
+
+/* Marks the word's target, and says whether it was an object that had no mark. */
 static bool mark_target(marking *m, uint32_t word, uint32_t *target)
 {
     if (word < m->base || word % BLOCKHEAP_BLOCK_BYTES != 0)
         return false;
     uint64_t block = (word - m->base) / BLOCKHEAP_BLOCK_BYTES;
-    if (block >= m->blocks || entry_at(m->table, block) != BLOCKHEAP_HEAD)
+    if (block >= m->blocks)
         return false;
-    set_entry(m->table, block, BLOCKHEAP_MARK);
-    *target = (uint32_t)block;
+    size_t head = head_of(m->table, block);
+    if (entry_at(m->table, head) != BLOCKHEAP_HEAD)
+        return false;
+    set_entry(m->table, head, BLOCKHEAP_MARK);
+    *target = (uint32_t)head;
     return true;
 }
 
