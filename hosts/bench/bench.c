@@ -20,7 +20,7 @@ static const double LEAST_NANOSECONDS = 20e6;
 static const uint32_t BASE = 4096;
 
 static uint8_t pool[BLOCKHEAP_MAX_POOL_BYTES];
-static uint8_t table[BLOCKHEAP_MAX_TABLE_BYTES];
+static uint8_t table[BLOCKHEAP_MAX_TABLE_BYTES], prepared_table[BLOCKHEAP_MAX_TABLE_BYTES];
 static uint8_t roots[GRAPH_ROOTS * BLOCKHEAP_WORD_BYTES];
 static uint8_t stack[BLOCKHEAP_MAX_STACK_ENTRIES * BLOCKHEAP_WORD_BYTES];
 static size_t table_bytes, blocks, roots_len;
@@ -72,11 +72,17 @@ static void point(size_t block, size_t word, size_t target)
         put_word(pool + BLOCKHEAP_BLOCK_BYTES * block + BLOCKHEAP_WORD_BYTES * word, address(target));
 }
 
-static void set_roots(size_t count)
+static void set_root(size_t block)
 {
-    roots_len = count * BLOCKHEAP_WORD_BYTES;
-    for (size_t root = 0; root < count; root++)
-        put_word(roots + BLOCKHEAP_WORD_BYTES * root, address(count == 1 ? 0 : random_below((uint32_t)blocks)));
+    roots_len = BLOCKHEAP_WORD_BYTES;
+    put_word(roots, address(block));
+}
+
+static void set_random_roots(void)
+{
+    roots_len = sizeof roots;
+    for (size_t at = 0; at < roots_len; at += BLOCKHEAP_WORD_BYTES)
+        put_word(roots + at, address(random_below((uint32_t)blocks)));
 }
 
 /* Small objects, a quarter as many as there are blocks, so that about half the blocks are used. */
@@ -139,12 +145,12 @@ static void survey(void)
     add(longest);
 }
 
-/* One object in every block, leading nowhere. */
+/* One object in every block, leading nowhere, and no roots. */
 static void only_heads(void)
 {
     memset(table, 0x55, table_bytes);
     memset(pool, 0, sizeof pool);
-    set_roots(0);
+    roots_len = 0;
 }
 
 static void chain(void)
@@ -152,7 +158,7 @@ static void chain(void)
     only_heads();
     for (size_t block = 0; block < blocks; block++)
         point(block, 0, block + 1);
-    set_roots(1);
+    set_root(0);
 }
 
 static void tree(void)
@@ -162,7 +168,7 @@ static void tree(void)
         point(block, 1, 2 * block + 1);
         point(block, 2, 2 * block + 2);
     }
-    set_roots(1);
+    set_root(0);
 }
 
 static void graph(void)
@@ -170,14 +176,37 @@ static void graph(void)
     only_heads();
     for (size_t word = 0; word < 4 * blocks; word++)
         point(word / 4, word % 4, random_below((uint32_t)blocks));
-    set_roots(GRAPH_ROOTS);
+    set_random_roots();
 }
 
+/* One object of all blocks. The root and each of its words lead to the same block of it. */
+static void one_object(size_t target)
+{
+    uint32_t object;
+    int32_t change;
+    must(blockheap_init(HEAP));
+    must(blockheap_allocate(HEAP, BLOCKHEAP_BLOCK_BYTES * blocks, &object, &change));
+    for (size_t word = 0; word < 4 * blocks; word++)
+        point(word / 4, word % 4, target);
+    set_root(target);
+}
+
+static void words_to_the_head(void)
+{
+    one_object(0);
+}
+
+static void words_to_the_last_block(void)
+{
+    one_object(blocks - 1);
+}
+
+/* From the table as it was prepared. */
 static void collect(void)
 {
     uint32_t kept, rescans;
     int32_t change;
-    memset(table, 0x55, table_bytes);
+    memcpy(table, prepared_table, table_bytes);
     must(blockheap_collect(HEAP, roots, roots_len, stack, sizeof stack, &kept, &rescans, &change));
     add(kept);
     add(rescans);
@@ -198,6 +227,9 @@ static const struct work {
     {"collect, a chain", "each object leads to the next: all are kept", chain, collect},
     {"collect, a binary tree", "each object leads to two others: all are kept", tree, collect},
     {"collect, a random graph", "each object leads to four at random, 64 roots: most are kept", graph, collect},
+    {"collect, words to the head", "one object, each word the address of its head", words_to_the_head, collect},
+    {"collect, words to the last block", "the same with the address of its last block, the farthest from the head",
+     words_to_the_last_block, collect},
 };
 enum { WORKS = sizeof works / sizeof works[0] };
 
@@ -236,6 +268,7 @@ static void run(const struct work *work, size_t size)
     random_state = 2018;
     checksum = 0;
     work->prepare();
+    memcpy(prepared_table, table, table_bytes);
     for (int turn = 0; turn < CHECKED_TURNS; turn++)
         work->turn();
     uint32_t checked = checksum;
@@ -246,7 +279,7 @@ static void run(const struct work *work, size_t size)
 static void print_legend(void)
 {
     for (size_t at = 0; at < WORKS; at++)
-        printf("%-28s %s\n", works[at].name, works[at].about);
+        printf("%-32s %s\n", works[at].name, works[at].about);
 }
 
 static void run_all(void)
