@@ -47,7 +47,7 @@ static void show_heap(void)
     putchar('\n');
 }
 
-/* Collects from the station's record and from one object more that is in use just now. */
+/* Collects from the station's record and from one block more, of an object that is in use just now. */
 static void collect(uint32_t held)
 {
     uint8_t roots[BLOCKHEAP_LIST_BYTES(2)], stack[BLOCKHEAP_LIST_BYTES(4)];
@@ -189,6 +189,12 @@ int main(void)
     puts("7. The storm is over: the buffer gives back what it does not need.");
     printf("  reallocate: used blocks change by %d\n", (int)resize_buffer(FIRST_TIP + tips()));
     show_heap();
+    collect(station);
+
+    puts("8. A script holds the address of its buffer's third block and no other: all of the buffer is kept.");
+    uint32_t held = allocate(5 * BLOCKHEAP_BLOCK_BYTES, station) + 2;
+    collect(held);
+    puts("  the script ends, and nothing leads to its buffer");
     collect(station);
 
     uint32_t count = tips();
