@@ -22,8 +22,10 @@
  *   the pool.
  * - A word is 32 bits, lowest byte first on every host. An object of b blocks
  *   has words 0 to 4 * b - 1.
- * - A word is a pointer if it equals the address of a block that is the head
- *   of an object. An address inside a block, or of a tail, counts for nothing.
+ * - A word is a pointer if it equals the address of a block of an object, head
+ *   or tail: base + 16 * k for a block k of it. It leads to the whole object.
+ *   An address inside a block, or of a free block, counts for nothing.
+ *   (MicroPython's own collector follows the addresses of heads only.)
  * - Block 0 is a block like any other. Its address is base, and so 0 is never
  *   an address: a word that is 0 serves as nil.
  *
@@ -172,7 +174,7 @@ uint32_t blockheap_free(uint64_t base, const uint8_t *pool, size_t pool_len,
  * - more, and enough free blocks follow directly: it grows in place;
  * - more otherwise: it moves to the place that blockheap_allocate would take
  *   while the old object still holds its blocks. The old blocks become free,
- *   their bytes stay, and pointers to the old head are the caller's to mend.
+ *   their bytes stay, and pointers to any of them are the caller's to mend.
  * The old bytes are kept, and all bytes of added blocks are 0.
  * Refusals: BAD_SHAPE, BAD_TABLE, ZERO_BYTES, NO_SUCH_BLOCK, NOT_A_HEAD,
  * NO_ROOM (exactly if it can neither grow in place nor move; the object stays
@@ -187,7 +189,8 @@ uint32_t blockheap_reallocate(uint64_t base, uint8_t *pool, size_t pool_len,
 /*
  * Collects garbage: keeps exactly the objects that a chain of pointers leads
  * to from a root, and makes the blocks of all others free. Pool and roots are
- * not written.
+ * not written. A pointer to a tail takes longer to follow: its head is found by
+ * reading the table backwards, 64 bytes at a time.
  * - roots: the root words, four bytes each, lowest byte first; at most 4,096.
  *   A root is followed as a pointer in an object is, and anything else in the
  *   list counts for nothing. Roots may stand in any order and more than once:

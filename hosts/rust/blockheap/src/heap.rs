@@ -64,7 +64,7 @@ impl<'m> Heap<'m> {
 
     /// Resizes an object to so many bytes, rounded up to whole blocks. Its bytes are kept, as many as
     /// fit, and all bytes of added blocks are 0. It moves only if it cannot grow in place; pointers to
-    /// the old head are then the caller's to mend.
+    /// any of its old blocks are then the caller's to mend.
     ///
     /// ```
     /// # use blockheap::{Address, Memory};
@@ -92,10 +92,11 @@ impl<'m> Heap<'m> {
     /// Keeps exactly the objects that a chain of pointers leads to from a root, and makes the blocks
     /// of all others free.
     ///
-    /// A root is followed as a word of an object is: one that is not the address of a head counts for
-    /// nothing. Roots may stand in any order and more than once, and two lists joined keep what one or
-    /// the other keeps. A mark stack of any length keeps the same objects; a short one costs time. A
-    /// second collection at once from the same roots changes nothing.
+    /// A root is followed as a word of an object is: the address of any block of an object leads to it,
+    /// and one inside a block or of a free block counts for nothing. Roots may stand in any order and
+    /// more than once, and two lists joined keep what one or the other keeps. A mark stack of any length
+    /// keeps the same objects; a short one costs time. A second collection at once from the same roots
+    /// changes nothing.
     ///
     /// ```
     /// # use blockheap::{Address, MarkEntry, Memory};
@@ -107,6 +108,22 @@ impl<'m> Heap<'m> {
     /// heap.store(list, 0, heap.address_of(item)?.word())?;
     /// let roots = [Address::NULL, heap.address_of(list)?];
     /// assert_eq!(heap.collect(&roots, &mut [MarkEntry::EMPTY; 8])?.kept, 2);
+    /// # Ok(())
+    /// # }
+    /// ```
+    ///
+    /// An address in the middle of a buffer keeps all of it:
+    ///
+    /// ```
+    /// # use blockheap::{Address, Block, Memory};
+    /// # fn main() -> Result<(), blockheap::Refusal> {
+    /// # let mut memory = Memory::<4>::new();
+    /// # let mut heap = memory.init(Address::from_word(4096))?;
+    /// let buffer = heap.allocate(80)?.block;
+    /// let third = Block::from_number(buffer.number() + 2);
+    /// let root = heap.address_of(third)?;
+    /// assert_eq!(heap.collect(&[root], &mut [])?.change, 0);
+    /// assert_eq!(heap.object(buffer)?.len(), 80);
     /// # Ok(())
     /// # }
     /// ```
