@@ -18,7 +18,7 @@ use Rattle.rules.specs.Tables.{entryAt, isTail, startOf}
 use Rattle.rules.proofs.Below.{allBelow, below}
 use Rattle.rules.proofs.Entries.{entryOf-zero, getD-entriesOf, TopEntry, top-entry}
 use Rattle.rules.proofs.Tables.{start-says, start-one}
-use Rattle.entries.specs.Tails.{Tails, Others, Last, Back}
+use Rattle.entries.specs.Tails.{Tails, NonTails, Last, Back}
 use Rattle.entries.proofs.Masks.{same, same-eq}
 
 -- ---- one byte
@@ -34,9 +34,9 @@ all-right : T (allBelow 256 (λ (b : ℕ). allBelow 4 (λ (j : ℕ). allBelow 4 
 unfolding right same entryOf
 all-right = tt
 
-pub others-are : (b j : ℕ) → b < 256 → j < 4 → Others b j (masked b j)
+pub non-tails-are : (b j : ℕ) → b < 256 → j < 4 → NonTails b j (masked b j)
 unfolding right
-others-are b j hb hj m hm =
+non-tails-are b j hb hj m hm =
     same-eq _ _
     (below 4 (right b j) (below 4 (λ (j : ℕ). allBelow 4 (right b j)) (below 256 (λ (b : ℕ). allBelow 4 (λ (j : ℕ). allBelow 4 (right b j))) all-right b hb) j hj) m hm)
 
@@ -48,12 +48,12 @@ pub last-is : (a : ℕ) → 0 < a → a < 256 → Last a (3 - leadingZeros 8 a /
 last-is a some h = let t = top a some h in record { inside = omega arith; set = t .set; above = λ m l r. t .above m l }
 
 -- an entry up to j with no bit is TAIL
-other-none : (b j others m : ℕ) → Others b j others → m < 4 → m ≤ j → entryOf others m ≡ 0 → entryOf b m ≡ TAIL
-other-none b j others m o h l z = eqb-true _ _ (sym (rw (le-ltb j m l) at (o m h)) ∙ eq-eqb _ _ z)
+bit-none : (b j bits m : ℕ) → NonTails b j bits → m < 4 → m ≤ j → entryOf bits m ≡ 0 → entryOf b m ≡ TAIL
+bit-none b j bits m o h l z = eqb-true _ _ (sym (rw (le-ltb j m l) at (o m h)) ∙ eq-eqb _ _ z)
 
 -- and one with a bit is none, and is none above j
-other-some : (b j others m : ℕ) → Others b j others → m < 4 → entryOf others m ≢ 0 → (m ≤ j) × (entryOf b m ≢ TAIL)
-other-some b j others m o h n = go (decLt j m)
+bit-some : (b j bits m : ℕ) → NonTails b j bits → m < 4 → entryOf bits m ≢ 0 → (m ≤ j) × (entryOf b m ≢ TAIL)
+bit-some b j bits m o h n = go (decLt j m)
   where
     e : either (ltb j m) (isTail (entryOf b m)) ≡ false
     e = sym (o m h) ∙ ne-eqb _ _ n
@@ -72,7 +72,7 @@ tails-join es a b c p q k l r = go (decLt k b)
     go (yes h) = p k l h
     go (no h) = q k (omega arith) r
 
-module _ (t : List ℕ) (i j others : ℕ) (h : j < 4) (o : Others (getD t i 0) j others) where
+module _ (t : List ℕ) (i j bits : ℕ) (h : j < 4) (o : NonTails (getD t i 0) j bits) where
   -- entry m of byte i
   at : (m : ℕ) → m < 4 → entryAt (entriesOf t) (4 * i + m) ≡ entryOf (getD t i 0) m
   at m l =
@@ -80,26 +80,26 @@ module _ (t : List ℕ) (i j others : ℕ) (h : j < 4) (o : Others (getD t i 0) 
       let e : (4 * i + m) % 4 ≡ m = omega arith in
       rw (d, e) at (getD-entriesOf t (4 * i + m))
 
-  tail : (k : ℕ) → 4 * i ≤ k → k ≤ 4 * i + j → entryOf others (k - 4 * i) ≡ 0 → entryAt (entriesOf t) k ≡ TAIL
+  tail : (k : ℕ) → 4 * i ≤ k → k ≤ 4 * i + j → entryOf bits (k - 4 * i) ≡ 0 → entryAt (entriesOf t) k ≡ TAIL
   tail k l r z =
       let e : 4 * i + (k - 4 * i) ≡ k = omega arith in
-      rw e at (at (k - 4 * i) (omega arith) ∙ other-none (getD t i 0) j others (k - 4 * i) o (omega arith) (omega arith) z)
+      rw e at (at (k - 4 * i) (omega arith) ∙ bit-none (getD t i 0) j bits (k - 4 * i) o (omega arith) (omega arith) z)
 
-  -- the entries up to j of byte i are TAILs if there is no other
-  pub tails-byte : others ≡ 0 → Tails (entriesOf t) (4 * i) (4 * i + j + 1)
+  -- the entries up to j of byte i are TAILs if no bit is set
+  pub tails-byte : bits ≡ 0 → Tails (entriesOf t) (4 * i) (4 * i + j + 1)
   tails-byte z k l r = tail k l (omega arith) (rw z (entryOf-zero (k - 4 * i)))
 
-  -- else the last other is the first that is met on the way back from block b, where TAILs are before it
-  pub back-to : (b r : ℕ) → Last others r → 4 * i + j < b → Tails (entriesOf t) (4 * i + j + 1) b → Back (entriesOf t) b (4 * i + r)
+  -- else the scan back from block b ends at the last entry with a bit, if there are TAILs between
+  pub back-to : (b r : ℕ) → Last bits r → 4 * i + j < b → Tails (entriesOf t) (4 * i + j + 1) b → Back (entriesOf t) b (4 * i + r)
   back-to b r u l tails =
-      let n = other-some (getD t i 0) j others r o (u .inside) (u .set) in
+      let n = bit-some (getD t i 0) j bits r o (u .inside) (u .set) in
       record { from = omega (arith, n .0); tails = λ k a c. go k a c (decLt (4 * i + j) k); first = λ _. rw (at r (u .inside)) (n .1) }
     where
       go : (k : ℕ) → 4 * i + r < k → k < b → Dec (4 * i + j < k) → entryAt (entriesOf t) k ≡ TAIL
       go k a c (yes d) = tails k (omega arith) c
       go k a c (no d) = tail k (omega arith) (omega arith) (u .above (k - 4 * i) (omega arith) (omega arith))
 
--- or block 0 is, if there are TAILs only
+-- or at block 0, if there are TAILs only
 pub back-first : (es : List ℕ) (b : ℕ) → Tails es 0 b → Back es b 0
 back-first es b tails = record { from = omega arith; tails = λ k a c. tails k (omega arith) c; first = λ l. absurd (omega arith) }
 
@@ -109,14 +109,14 @@ start-back es b k s u tails h =
     start-one es k (startOf es k) s (start-says es k)
     (record { from = h; tails = λ m a c. tails-join es (s + 1) b (k + 1) (λ j d e. u .tails j (omega arith) e) tails m (omega arith) (omega arith); first = u .first })
 
-module _ (t : List ℕ) (k others : ℕ) (o : Others (getD t (k / 4) 0) (k % 4) others) where
+module _ (t : List ℕ) (k bits : ℕ) (o : NonTails (getD t (k / 4) 0) (k % 4) bits) where
   -- in the byte of block k
-  pub start-here : (r : ℕ) → Last others r → startOf (entriesOf t) k ≡ 4 * (k / 4) + r
+  pub start-here : (r : ℕ) → Last bits r → startOf (entriesOf t) k ≡ 4 * (k / 4) + r
   start-here r u =
-      let b = back-to t (k / 4) (k % 4) others (omega arith) o (k + 1) r u (omega arith) (λ m a c. absurd (omega arith)) in
-      start-back (entriesOf t) (k + 1) k (4 * (k / 4) + r) b (λ m a c. absurd (omega arith)) (omega (arith, other-some (getD t (k / 4) 0) (k % 4) others r o (u .inside) (u .set) .0))
+      let b = back-to t (k / 4) (k % 4) bits (omega arith) o (k + 1) r u (omega arith) (λ m a c. absurd (omega arith)) in
+      start-back (entriesOf t) (k + 1) k (4 * (k / 4) + r) b (λ m a c. absurd (omega arith)) (omega (arith, bit-some (getD t (k / 4) 0) (k % 4) bits r o (u .inside) (u .set) .0))
 
   -- or before it
-  pub start-before : (s : ℕ) → others ≡ 0 → Back (entriesOf t) (4 * (k / 4)) s → startOf (entriesOf t) k ≡ s
+  pub start-before : (s : ℕ) → bits ≡ 0 → Back (entriesOf t) (4 * (k / 4)) s → startOf (entriesOf t) k ≡ s
   start-before s z b =
-      start-back (entriesOf t) (4 * (k / 4)) k s b (λ m a c. tails-byte t (k / 4) (k % 4) others (omega arith) o z m a (omega arith)) (omega (arith, b .from))
+      start-back (entriesOf t) (4 * (k / 4)) k s b (λ m a c. tails-byte t (k / 4) (k % 4) bits (omega arith) o z m a (omega arith)) (omega (arith, b .from))

@@ -13,9 +13,9 @@ use Rattle.rules.specs.Tables.{entryAt, isTail}
 abbrev pub Tails : List ℕ → ℕ → ℕ → Type 0
 Tails es a b = (k : ℕ) → a ≤ k → k < b → entryAt es k ≡ TAIL
 
--- `others` has a bit of each entry of the byte b up to entry j that is no TAIL, and of no other
-abbrev pub Others : ℕ → ℕ → ℕ → Type 0
-Others b j others = (m : ℕ) → m < 4 → eqb (entryOf others m) 0 ≡ either (ltb j m) (isTail (entryOf b m))
+-- `bits` has a bit of each entry of the byte b up to entry j that is no TAIL, and of no other
+abbrev pub NonTails : ℕ → ℕ → ℕ → Type 0
+NonTails b j bits = (m : ℕ) → m < 4 → eqb (entryOf bits m) 0 ≡ either (ltb j m) (isTail (entryOf b m))
 
 -- entry j is the last of a byte of which a bit is set
 pub record Last (bits j : ℕ) : Type 0 where

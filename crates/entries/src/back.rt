@@ -4,13 +4,13 @@ ghost use Prim.Native.Nat.{_+_, _*_, _≤_, _<_};
 ghost use lib.ListN.{length};
 ghost use Rattle.rules.specs.Entries.{entriesOf};
 ghost use Rattle.rules.specs.Tables.{startOf};
-ghost use Rattle.entries.specs.Tails.{Tails, Others, Last, Back};
+ghost use Rattle.entries.specs.Tails.{Tails, NonTails, Last, Back};
 use memory::Block;
 
 // A bit or two of each entry of a byte, up to entry j, that is no TAIL.
-fn others(b: u8, j: usize) -> u8
+fn non_tails(b: u8, j: usize) -> u8
     requires { ⌜ j < 4 ⌝ }
-    ensures { λ r. ⌜ Others b j r ⌝ }
+    ensures { λ r. ⌜ NonTails b j r ⌝ }
 {
     (b ^ 0xAA) & (255 >> (6 - 2 * j))
 }
@@ -32,14 +32,14 @@ fn block(i: usize, j: usize) -> Block
 }
 
 // Zero if the n bytes from byte i on are all TAILs. No early exit.
-fn others_in(table: &[u8], i: usize, n: usize) -> u8
+fn non_tails_in(table: &[u8], i: usize, n: usize) -> u8
     requires { ⌜ i + n ≤ length (now table) ⌝ }
     ensures { λ r. ⌜ (r ≡ 0 → Tails (entriesOf (now (table .entry))) (4 * i) (4 * (i + n))) ⌝ }
 {
     let mut any: u8 = 0;
     let mut j = 0;
     while j < n {
-        any = any | others(table[i + j], 3);
+        any = any | non_tails(table[i + j], 3);
         j += 1;
     }
     any
@@ -52,7 +52,7 @@ fn pass_by(table: &[u8], i: usize, n: usize) -> usize
 {
     let mut at = i;
     while n <= at {
-        if others_in(table, at - n, n) != 0 {
+        if non_tails_in(table, at - n, n) != 0 {
             return at;
         }
         at -= n;
@@ -68,7 +68,7 @@ fn past_tails(table: &[u8], i: usize) -> Block
     let mut at = pass_by(table, pass_by(table, i, 64), 8);
     while 0 < at {
         at -= 1;
-        let found = others(table[at], 3);
+        let found = non_tails(table[at], 3);
         if found != 0 {
             return block(at, last(found));
         }
@@ -83,7 +83,7 @@ pub fn start(table: &[u8], k: Block) -> Block
 {
     let at = k.index();
     let i = at / 4;
-    let here = others(table[i], at % 4);
+    let here = non_tails(table[i], at % 4);
     if here != 0 {
         return block(i, last(here));
     }

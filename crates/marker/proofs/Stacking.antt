@@ -41,9 +41,9 @@ stacked-pop stack (suc d) h = let e : suc d - 1 ≡ d = omega arith in rw e
 knows-marked : (es es′ : List ℕ) (k : ℕ) (m : Marking) → entryAt es k ≡ HEAD → es′ ≡ set es k MARK → Knows es m → Knows es′ m
 knows-marked es es′ k m h e q = q ∙ sym (rw e (start-marked es k (m .last .0) h))
 
--- what is remembered of two ways that hold holds
+-- of two scans that hold, either may be remembered
 pub knows-either : (es : List ℕ) (m r : Marking) (start k : ℕ) → Knows es m → start ≡ startOf es k → Remembers m start k r → Knows es r
-knows-either es m r start k q e w = ⊎-elim (λ a. rw (a .0, a .1) q) (λ a. rw (a .0, a .1) e) (w .way)
+knows-either es m r start k q e w = ⊎-elim (λ a. rw (a .0, a .1) q) (λ a. rw (a .0, a .1) e) (w .scan)
 
 pub state-remembers : (table stack : List ℕ) (m r : Marking) (start k : ℕ) → Remembers m start k r → stateOf table stack r ≡ stateOf table stack m
 state-remembers table stack m r start k w = rw (w .depth, w .overflow)

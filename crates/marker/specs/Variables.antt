@@ -34,15 +34,15 @@ pub record Shape (pool table : List ℕ) : Type 0 where
   pub small : length table ≤ 1024
   pub whole : length pool ≡ 16 * length (entriesOf table)
 
--- what is remembered of a way back holds: the object of block `last` starts at block `first`
+-- what is remembered of a back scan holds: the object of block `last` starts at block `first`
 abbrev pub Knows : List ℕ → Marking → Type 0
 Knows es m = m .first .0 ≡ startOf es (m .last .0)
 
--- the way back from block k to `start` is remembered, or that of before
+-- the scan from block k back to `start` is remembered, or that of before: which of them is a matter of time alone
 pub record Remembers (m : Marking) (start k : ℕ) (r : Marking) : Type 0 where
   pub depth : r .depth ≡ m .depth
   pub overflow : r .overflow ≡ m .overflow
-  pub way : ((r .first .0 ≡ m .first .0) × (r .last .0 ≡ m .last .0)) ⊎ ((r .first .0 ≡ start) × (r .last .0 ≡ k))
+  pub scan : ((r .first .0 ≡ m .first .0) × (r .last .0 ≡ m .last .0)) ⊎ ((r .first .0 ≡ start) × (r .last .0 ≡ k))
 
 -- the variables stand for the state `to`, the depth is within the stack, and what is remembered holds
 pub record Came (to : State) (table stack : List ℕ) (m : Marking) : Type 0 where

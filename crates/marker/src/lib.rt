@@ -15,8 +15,8 @@ use memory::Address;
 use memory::Block;
 use memory::Found;
 
-// How many entries of the mark stack are in use, and whether a block has been lost because it was full. And the longest way back from a
-// TAIL that was gone: the object of block `last` starts at block `first`.
+// How many entries of the mark stack are in use, and whether a block has been lost because it was full. And the longest back scan from
+// a TAIL so far: the object of block `last` starts at block `first`.
 pub struct Marking {
     pub depth: usize,
     pub overflow: bool,
@@ -58,15 +58,15 @@ fn start_of(table: &[u8], m: Marking, k: Block) -> Block
     requires { ⌜ (length (now table) ≤ 1024) × ((k .0 < length (entriesOf (now table))) × Knows (entriesOf (now table)) m) ⌝ }
     ensures { λ r. ⌜ r .0 ≡ startOf (entriesOf (now (table .entry))) (k .0) ⌝ }
 {
-    if k.is_from(m.first) {
-        if m.last.is_from(k) {
+    if k.is_at_or_after(m.first) {
+        if m.last.is_at_or_after(k) {
             return m.first;
         }
     }
     entries::back::start(table, k)
 }
 
-// The way from block k back to the start of its object is remembered, if it is longer than the one before.
+// The scan from block k back to the start of its object is remembered, if it is longer than the one before.
 fn remember(m: Marking, start: Block, k: Block) -> Marking
     requires { ⌜ (m .first .0 ≤ m .last .0) × (start .0 ≤ k .0) ⌝ }
     ensures { λ r. ⌜ Remembers m (start .0) (k .0) r ⌝ }

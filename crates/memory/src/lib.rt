@@ -75,7 +75,7 @@ impl Block {
     }
 
     // Whether it is the other block, or one after it.
-    pub fn is_from(self, other: Block) -> bool
+    pub fn is_at_or_after(self, other: Block) -> bool
         ensures { λ r. ⌜ r ≡ leb (other .0) (self .0) ⌝ }
     {
         other.0 <= self.0

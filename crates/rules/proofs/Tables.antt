@@ -153,7 +153,7 @@ pub start-own : (es : List ℕ) (k : ℕ) → entryAt es k ≢ TAIL → startOf 
 start-own es k other =
     start-one es k (startOf es k) k (start-says es k) (record { from = omega arith; tails = λ j l r. absurd (omega arith); first = λ l. other })
 
--- the blocks on the way back from block b have the same start
+-- the blocks from there to block b have the same start
 pub start-between : (es : List ℕ) (k b s : ℕ) → s ≡ startOf es b → s ≤ k → k ≤ b → startOf es k ≡ s
 start-between es k b s e l r =
     let w : Start es b s = rw e (start-says es b) in

@@ -1,4 +1,4 @@
--- A block on the way that is remembered has the same start.
+-- A block of the scan that is remembered has the same start.
 -- Assumes nothing.
 use mathlib.Core.Path.{sym, _∙_}
 use borrow.Author.Needs.{needs}
@@ -8,17 +8,17 @@ use Rattle.rules.proofs.Tables.{start-between}
 use Rattle.marker.proofs.start_of.Statement.{statement}
 use Rattle.marker.proofs.start_of.Tie as tie
 
-is-from-requires : tie.Need-is-from-requires
-is-from-requires c κs = search needs
+is-at-or-after-requires : tie.Need-is-at-or-after-requires
+is-at-or-after-requires c κs = search needs
 
-is-from-requires-2 : tie.Need-is-from-requires-2
-is-from-requires-2 c κs = search needs
+is-at-or-after-requires-2 : tie.Need-is-at-or-after-requires-2
+is-at-or-after-requires-2 c κs = search needs
 
 returns : tie.Need-returns
 returns c =
     let a = c .before .before .before .before .before .before .args in
     sym (start-between (entriesOf (a .table .now)) (a .k .0) (a .m .last .0) (a .m .first .0) (c .before .before .before .before .before .before .pre .1 .1)
-    (leb-true _ _ (sym (c .before .before .before .before .is-from .ensures) ∙ c .before .before .before .if1 .taken)) (leb-true _ _ (sym (c .before .before .is-from2 .ensures) ∙ c .before .if2 .taken)))
+    (leb-true _ _ (sym (c .before .before .before .before .is-at-or-after .ensures) ∙ c .before .before .before .if1 .taken)) (leb-true _ _ (sym (c .before .before .is-at-or-after2 .ensures) ∙ c .before .if2 .taken)))
 
 start-requires : tie.Need-start-requires
 start-requires c κs = search needs
@@ -28,4 +28,4 @@ returns-2 c = search needs
 
 pub start-of-spec : {M : Type 1} → statement M
 start-of-spec =
-    tie.close (tie.spec is-from-requires is-from-requires-2 returns start-requires returns-2)
+    tie.close (tie.spec is-at-or-after-requires is-at-or-after-requires-2 returns start-requires returns-2)

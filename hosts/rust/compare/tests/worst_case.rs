@@ -1,4 +1,4 @@
-//! The most rescans that a collection can take, and the longest ways from an address back to a head.
+//! The most rescans that a collection can take, and the longest scans from an address back to a head.
 
 use compare::{compare, library, Buffer, Call, Lent, Reply};
 

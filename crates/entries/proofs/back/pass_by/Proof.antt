@@ -18,8 +18,8 @@ abbrev μ-loop : tie.MeasureT-loop
 loop-holds : tie.Need-loop-holds Inv-loop μ-loop
 loop-holds c = (search needs, λ k l r. absurd (omega arith))
 
-others-in-requires : tie.Need-others-in-requires Inv-loop μ-loop
-others-in-requires c κs = search needs
+non-tails-in-requires : tie.Need-non-tails-in-requires Inv-loop μ-loop
+non-tails-in-requires c κs = search needs
 
 returns : tie.Need-returns Inv-loop μ-loop
 returns c = c .before .before .before .loop .inv
@@ -32,7 +32,7 @@ loop-again c =
     let a = c .before .before .before .before .before .args in
     let l = c .before .before .before .loop in (
       omega arith,
-      tails-join (entriesOf (a .table .now)) (4 * (l .at - a .n)) (4 * l .at) (4 * a .i) (λ k h r. c .before .others-in .ensures (c .if1 .left) k h (omega arith)) (l .inv .1),
+      tails-join (entriesOf (a .table .now)) (4 * (l .at - a .n)) (4 * l .at) (4 * a .i) (λ k h r. c .before .non-tails-in .ensures (c .if1 .left) k h (omega arith)) (l .inv .1),
     )
 
 returns-2 : tie.Need-returns-2 Inv-loop μ-loop
@@ -41,4 +41,4 @@ returns-2 c = c .before .loop .inv
 pub pass-by-spec : {M : Type 1} → statement M
 pass-by-spec =
     tie.close
-    (tie.spec Inv-loop μ-loop loop-holds others-in-requires returns loop-less loop-again returns-2)
+    (tie.spec Inv-loop μ-loop loop-holds non-tails-in-requires returns loop-less loop-again returns-2)

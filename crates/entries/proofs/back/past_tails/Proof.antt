@@ -1,4 +1,4 @@
--- `past_tails`: the bytes passed are TAILs; the first that holds another ends the way back.
+-- `past_tails`: the bytes passed are TAILs; the first that holds another ends the scan.
 -- Assumes nothing.
 use Prim.Native.Nat.{_-_, _*_, _≤_}
 use native.Mathlib.Omega.{arith}
@@ -31,11 +31,11 @@ loop-holds c =
 sub-at : tie.Need-sub-at Inv-loop μ-loop
 sub-at c = search needs
 
-shared-slice-read-others : tie.Need-shared-slice-read-others Inv-loop μ-loop
-shared-slice-read-others c = search needs
+shared-slice-read-non-tails : tie.Need-shared-slice-read-non-tails Inv-loop μ-loop
+shared-slice-read-non-tails c = search needs
 
-others-requires : tie.Need-others-requires Inv-loop μ-loop
-others-requires c κs = search needs
+non-tails-requires : tie.Need-non-tails-requires Inv-loop μ-loop
+non-tails-requires c κs = search needs
 
 last-requires : tie.Need-last-requires Inv-loop μ-loop
 last-requires c κs = search needs
@@ -47,7 +47,7 @@ returns : tie.Need-returns Inv-loop μ-loop
 returns c =
     let a = c .before .before .before .before .before .before .before .before .before .before .args in
     let l = c .before .before .before .before .before .before .loop in
-    let o = c .before .before .before .others in
+    let o = c .before .before .before .non-tails in
     rw (c .block .ensures)
     (back-to (a .table .now) (l .at - 1) 3 (o .result) (omega arith) (o .ensures) (4 * a .i) (c .before .last .result) (c .before .last .ensures) (omega (arith, l .inv .0))
     (λ k h r. l .inv .1 k (omega arith) r))
@@ -59,7 +59,7 @@ loop-again : tie.Need-loop-again Inv-loop μ-loop
 loop-again c =
     let a = c .before .before .before .before .before .before .before .before .args in
     let l = c .before .before .before .before .loop in
-    let o = c .before .others in (
+    let o = c .before .non-tails in (
       omega (arith, l .inv .0),
       tails-join (entriesOf (a .table .now)) (4 * (l .at - 1)) (4 * l .at) (4 * a .i)
           (λ k h r. tails-byte (a .table .now) (l .at - 1) 3 (o .result) (omega arith) (o .ensures) (c .if1 .left) k h (omega arith)) (l .inv .1),
@@ -83,8 +83,8 @@ past-tails-spec =
     pass-by-requires-2
     loop-holds
     sub-at
-    shared-slice-read-others
-    others-requires
+    shared-slice-read-non-tails
+    non-tails-requires
     last-requires
     block-requires
     returns

@@ -13,11 +13,11 @@ use Rattle.entries.proofs.back.start.Tie as tie
 index-requires : tie.Need-index-requires
 index-requires c κs = search needs
 
-shared-slice-read-others : tie.Need-shared-slice-read-others
-shared-slice-read-others c = omega (arith, length-entriesOf (c .before .before .before .args .table .now), c .before .index .ensures, c .before .before .before .pre .1)
+shared-slice-read-non-tails : tie.Need-shared-slice-read-non-tails
+shared-slice-read-non-tails c = omega (arith, length-entriesOf (c .before .before .before .args .table .now), c .before .index .ensures, c .before .before .before .pre .1)
 
-others-requires : tie.Need-others-requires
-others-requires c κs = search needs
+non-tails-requires : tie.Need-non-tails-requires
+non-tails-requires c κs = search needs
 
 last-requires : tie.Need-last-requires
 last-requires c κs = search needs
@@ -32,7 +32,7 @@ returns : tie.Need-returns
 returns c =
     let t = c .before .before .before .before .before .before .before .args .table .now in
     let k = c .before .before .before .before .before .index in
-    c .block .ensures ∙ sym (start-here t (k .result) (c .before .before .before .others .result) (c .before .before .before .others .ensures) (c .before .last .result) (c .before .last .ensures))
+    c .block .ensures ∙ sym (start-here t (k .result) (c .before .before .before .non-tails .result) (c .before .before .before .non-tails .ensures) (c .before .last .result) (c .before .last .ensures))
     ∙ ap (startOf (entriesOf t)) (k .ensures)
 
 past-tails-requires : tie.Need-past-tails-requires
@@ -42,7 +42,7 @@ returns-2 : tie.Need-returns-2
 returns-2 c =
     let t = c .before .before .before .before .before .before .args .table .now in
     let k = c .before .before .before .before .index in
-    sym (start-before t (k .result) (c .before .before .others .result) (c .before .before .others .ensures) (c .past-tails .result .0) (c .before .if1 .left) (c .past-tails .ensures))
+    sym (start-before t (k .result) (c .before .before .non-tails .result) (c .before .before .non-tails .ensures) (c .past-tails .result .0) (c .before .if1 .left) (c .past-tails .ensures))
     ∙ ap (startOf (entriesOf t)) (k .ensures)
 
 pub start-spec : {M : Type 1} → statement M
@@ -50,8 +50,8 @@ start-spec =
     tie.close
     (tie.spec
     index-requires
-    shared-slice-read-others
-    others-requires
+    shared-slice-read-non-tails
+    non-tails-requires
     last-requires
     block-requires
     returns
