@@ -269,15 +269,15 @@ static bool example_15(void)
     return from(165, 169) && reallocates(8, 0, BLOCKHEAP_ZERO_BYTES, 0, 0) && table_is(165, 169);
 }
 
-/* Word 0 of block 6 leads to block 2, which is the third of its object. The last word of that object is given. */
-static bool from_linked_by_tails(uint32_t last)
+/* Word 0 of block 6 leads to block 2, which is the third of its object. Word 0 of that object is given. */
+static bool from_linked_by_tails(uint32_t word)
 {
-    return from(169, 25) && stores(6, 0, 4128) && stores(0, 15, last) && surveys(7, 3, 1);
+    return from(169, 25) && stores(6, 0, 4128) && stores(0, 0, word) && surveys(7, 3, 1);
 }
 
 static bool example_16(void)
 {
-    const uint32_t root = 4192, free_block = 4208, tail = 4176, inside = 4177;
+    const uint32_t root = 4192, free_block = 4208, tail = 4176, inside = 4184;
     return from_linked_by_tails(tail) && collects(&root, 64, 3, 0, 0) && table_is(169, 25)
         && from_linked_by_tails(tail) && collects(&root, 0, 3, 2, 0) && table_is(169, 25)
         && from_linked_by_tails(inside) && collects(&root, 64, 2, 0, -2) && table_is(169, 16)

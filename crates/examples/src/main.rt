@@ -216,7 +216,7 @@ fn example_16() {
     let mut pool = [0u8; 128];
     let mut table = [169u8, 25];
     store(16, &mut pool, &table, 6, 0, 4128);
-    store(16, &mut pool, &table, 0, 15, 4176);
+    store(16, &mut pool, &table, 0, 0, 4176);
     collect(16, &pool, &mut table, &root, &mut stack);
     collect(16, &pool, &mut table, &root, &mut no_stack);
 }

@@ -5,7 +5,7 @@ use mathlib.Core.Bool.{false}
 use mathlib.Core.List.{List, [], _∷_, _++_, map}
 use Prim.Native.Nat.{ℕ, _*_}
 use lib.IntN.{pos}
-use lib.ListN.{replicate, set}
+use lib.ListN.{length, replicate, set}
 use Rattle.rules.specs.Tests.{tabulate}
 use Rattle.rules.specs.Words.{number, bytesOf, wordAt, wordsOf}
 use Rattle.rules.specs.Pointers.{addressOf, goodBase}
@@ -49,9 +49,9 @@ full = zeros 0 1 ∷ zeros 1 3 ∷ zeros 4 4 ∷ []
 abbrev pub linked : List Object
 linked = zeros 0 1 ∷ zeros 1 3 ∷ pointing ∷ []
 
--- its last word holds the address of block 5, or one inside it
+-- its word 0 holds the address of block 5, or one inside it
 abbrev pub reaching : ℕ → Object
-reaching w = object 0 4 (set (replicate 16 0) 15 w)
+reaching w = object 0 4 (set (replicate 16 0) 0 w)
 
 -- word 0 of block 6 holds the address of block 2
 abbrev pub pointingInto : Object
@@ -86,9 +86,14 @@ examples =
     -- a chain through the third block of object 0, with and without a mark stack; one that ends at an address inside a block; the address of a block of none
     ∷ example (reply (Collect 4096 (bytesOf 4192)) (replicate 256 7) (eight (chained 4176))) (collectedTo 3 0 (pos 0)) (chained 4176)
     ∷ example (reply (Collect 4096 (bytesOf 4192)) [] (eight (chained 4176))) (collectedTo 3 2 (pos 0)) (chained 4176)
-    ∷ example (reply (Collect 4096 (bytesOf 4192)) (replicate 256 7) (eight (chained 4177))) (collectedTo 2 0 (minus 2)) (reaching 4177 ∷ pointingInto ∷ [])
+    ∷ example (reply (Collect 4096 (bytesOf 4192)) (replicate 256 7) (eight (chained 4184))) (collectedTo 2 0 (minus 2)) (reaching 4184 ∷ pointingInto ∷ [])
     ∷ example (reply (Collect 4096 (bytesOf 4208)) (replicate 256 7) (eight (chained 4176))) (collectedTo 0 0 (minus 7)) []
     ∷ []
+
+-- there are so many
+pub examples-number : length examples ≡ 20
+unfolding examples
+examples-number = refl
 
 -- every example is as it should be
 pub examples-hold : map (λ (x : Example). x .is) examples ≡ map (λ (x : Example). x .ought) examples

@@ -1,4 +1,4 @@
--- The worked examples 1 to 12 and a chain, in heaps of 8 blocks at base 4,096, computed: each call's answer, and the table, the pool and the mark stack it leaves.
+-- The worked examples 1 to 12, a chain and a rescan, in heaps of 8 blocks at base 4,096, computed: each call's answer, and the table, the pool and the mark stack it leaves.
 -- Assumes nothing.
 use mathlib.Core.Path.{_≡_, refl}
 use mathlib.Core.List.{List, [], _∷_, _++_, map}
@@ -62,12 +62,16 @@ linkedPool = zeros 64 ++ 0 ∷ 16 ∷ 0 ∷ 0 ∷ zeros 60
 abbrev pub linked : Heap
 linked = heapOf linkedPool (165 ∷ 169 ∷ [])
 
--- Object 6 leads to the third block of object 0, whose last word leads to the second block of object 4 if `low` is 80, the lowest byte of its address 4,176
+-- Object 6 leads to the third block of object 0, whose word 0 leads to the second block of object 4 if `low` is 80, the lowest byte of its address 4,176
 abbrev pub chainedPool : ℕ → List ℕ
-chainedPool low = zeros 60 ++ low ∷ 16 ∷ 0 ∷ 0 ∷ zeros 32 ++ 32 ∷ 16 ∷ 0 ∷ 0 ∷ zeros 28
+chainedPool low = low ∷ 16 ∷ 0 ∷ 0 ∷ zeros 92 ++ 32 ∷ 16 ∷ 0 ∷ 0 ∷ zeros 28
 
 abbrev pub chained : ℕ → Heap
 chained low = heapOf (chainedPool low) (169 ∷ 25 ∷ [])
+
+-- Object 0 leads to object 1; nothing leads to object 2, whose TAIL holds the address of object 4
+abbrev pub unledPool : List ℕ
+unledPool = 16 ∷ 16 ∷ 0 ∷ 0 ∷ zeros 44 ++ 64 ∷ 16 ∷ 0 ∷ 0 ∷ zeros 76
 
 abbrev pub minus : ℕ → ℤ
 minus n = negℤ (pos n)
@@ -98,8 +102,10 @@ examples =
     -- a chain through the third block of object 0, with and without a mark stack; one that ends at an address inside a block; the address of a FREE block
     ∷ collects (collect 4096 (chained 80) (bytesOf 4192) (sevens 256)) (collectedTo 3 0 (pos 0)) (169 ∷ 25 ∷ []) (chainedPool 80) (zeros 256)
     ∷ collects (collect 4096 (chained 80) (bytesOf 4192) []) (collectedTo 3 2 (pos 0)) (169 ∷ 25 ∷ []) (chainedPool 80) []
-    ∷ collects (collect 4096 (chained 81) (bytesOf 4192) (sevens 256)) (collectedTo 2 0 (minus 2)) (169 ∷ 16 ∷ []) (chainedPool 81) (zeros 256)
+    ∷ collects (collect 4096 (chained 88) (bytesOf 4192) (sevens 256)) (collectedTo 2 0 (minus 2)) (169 ∷ 16 ∷ []) (chainedPool 88) (zeros 256)
     ∷ collects (collect 4096 (chained 80) (bytesOf 4208) (sevens 256)) (collectedTo 0 0 (minus 7)) (0 ∷ 0 ∷ []) (chainedPool 80) (zeros 256)
+    -- a rescan walks no TAIL
+    ∷ collects (collect 4096 (heapOf unledPool (149 ∷ 1 ∷ [])) (bytesOf 4096) []) (collectedTo 2 1 (minus 3)) (5 ∷ 0 ∷ []) unledPool []
     -- 12: a TAIL in block 0, a MARK, a TAIL after a FREE
     ∷ example (allocate 4096 (small 2 0) 1) (onlyRefusal 2) (2 ∷ 0 ∷ []) stale
     ∷ example (allocate 4096 (small 3 0) 1) (onlyRefusal 2) (3 ∷ 0 ∷ []) stale
@@ -112,7 +118,7 @@ examples =
     ∷ []
 
 -- there are so many
-pub examples-number : length examples ≡ 27
+pub examples-number : length examples ≡ 28
 unfolding examples
 examples-number = refl
 

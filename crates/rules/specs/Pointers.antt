@@ -18,7 +18,7 @@ addressOf base k = base + 16 * k
 unfoldable pub goodBase : ℕ → ℕ → Bool
 goodBase base n = both (eqb (base % 16) 0) (both (leb 16 base) (leb (addressOf base n) (2 ^ 32)))
 
--- the block of n blocks whose address is w, if there is one: w is then a pointer, and the block its target (Meaning: Points)
+-- the target of w: the block of n blocks whose address it is, if there is one (Meaning: Points)
 unfoldable pub targetOf : ℕ → ℕ → ℕ → Option ℕ
 targetOf base n w =
     pick (both (leb base w) (both (eqb ((w - base) % 16) 0) (ltb ((w - base) / 16) n)))

@@ -25,10 +25,10 @@ impl Example<'_> {
     }
 
     /// The heap of example 16: word 0 of block 6 leads to block 2, which is the third of its object, and
-    /// the last word of that object is given.
-    fn linked_by_tails(&mut self, last: u32, root: u32, stack_entries: usize) -> &mut Self {
+    /// word 0 of that object is given.
+    fn linked_by_tails(&mut self, word: u32, root: u32, stack_entries: usize) -> &mut Self {
         self.from([169, 25]).lent.set_word(24, 4128);
-        self.lent.set_word(15, last);
+        self.lent.set_word(0, word);
         self.lends(&[root], stack_entries)
     }
 
@@ -201,7 +201,7 @@ fn example_16_a_chain_through_tails() {
     on_every_heap(|heap| {
         heap.linked_by_tails(4176, 4192, 64).gives(Call::Collect, [3, 0, 0], [169, 25]);
         heap.linked_by_tails(4176, 4192, 0).gives(Call::Collect, [3, 2, 0], [169, 25]);
-        heap.linked_by_tails(4177, 4192, 64).gives(Call::Collect, [2, 0, -2], [169, 16]);
+        heap.linked_by_tails(4184, 4192, 64).gives(Call::Collect, [2, 0, -2], [169, 16]);
         heap.linked_by_tails(4176, 4208, 64).gives(Call::Collect, [0, 0, -7], [0, 0]);
     });
 }
