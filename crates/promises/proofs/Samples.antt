@@ -6,7 +6,7 @@ use mathlib.Core.Logic.{_≢_, ⊎-elim, inl, inr}
 use mathlib.Core.Bool.{true}
 use mathlib.Core.List.{List, [], _∷_, List·Memᴰ·head}
 use mathlib.Core.Option.{some, none}
-use Prim.Native.Nat.{ℕ, zero, _+_, _*_, _≤_, _<_}
+use Prim.Native.Nat.{ℕ, zero, suc, _+_, _*_, _≤_, _<_}
 use native.Mathlib.Omega.{arith}
 use lib.IntN.{ℤ, pos, negℤ, _+ℤ_, natAbs}
 use lib.ListN.{replicate}
@@ -311,6 +311,29 @@ leads-free = lead-one base (h .entries) 536870992 none not-5
 pub leads-inside : leadsTo base (h .entries) 536870977 ≡ none
 unfolding Leads addressOf
 leads-inside = lead-one base (h .entries) 536870977 none (λ k p. omega (arith, p .address))
+
+-- in tables that are not well-formed: the TAIL of an object that is marked leads to it
+pub leads-marked : leadsTo base (3 ∷ 2 ∷ []) 536870928 ≡ some 0
+unfolding Leads addressOf blockCount leading
+leads-marked = lead-one base (3 ∷ 2 ∷ []) 536870928 (some 0) (record { head = inr refl; block = 1; from = omega arith; to = omega arith; address = refl })
+
+-- a TAIL in block 0, and one after FREE, to none
+pub leads-first-tail : leadsTo base (2 ∷ []) 536870912 ≡ none
+unfolding Leads addressOf
+leads-first-tail = lead-one base (2 ∷ []) 536870912 none not-0
+  where
+    not-0 : (k : ℕ) → PointsInto base (2 ∷ []) 536870912 k → ⊥
+    not-0 zero p = ⊎-elim (λ q. omega arith) (λ q. omega arith) (p .head)
+    not-0 (suc k) p = omega (arith, p .address, p .from)
+
+pub leads-stray : leadsTo base (0 ∷ 2 ∷ []) 536870928 ≡ none
+unfolding Leads addressOf
+leads-stray = lead-one base (0 ∷ 2 ∷ []) 536870928 none not-1
+  where
+    not-1 : (k : ℕ) → PointsInto base (0 ∷ 2 ∷ []) 536870928 k → ⊥
+    not-1 zero p = ⊎-elim (λ q. omega arith) (λ q. omega arith) (p .head)
+    not-1 (suc zero) p = ⊎-elim (λ q. omega arith) (λ q. omega arith) (p .head)
+    not-1 (suc (suc k)) p = omega (arith, p .address, p .from)
 
 -- ---- collect: the first object is reachable from its address, and the third from its last word
 

@@ -186,7 +186,7 @@ pub record Reclaimed (base : ℕ) (before : Heap) (roots : List ℕ) (r : Outcom
 pub record Promises : Type 0 where
   -- the target of a word is the block whose address it is
   pub target-points : (base n w : ℕ) → Points base n w (targetOf base n w)
-  -- a word leads to the object whose head has it as its address, and to none if it is no head's address
+  -- a word leads to the object that has a block with that address, and to none if no block of an object has it
   pub leads-says : (base : ℕ) (es : List ℕ) (w : ℕ) → Leads base es w (leadsTo base es w)
   -- the refusal number of each call is that of the first of its conditions that holds
   pub init-refusal : (base : ℕ) (h : Heap) → First (ofInit base h) (init base h .answer .refusal)
