@@ -2,7 +2,7 @@
 //! head many entries at a time, and an object may begin and end at any of them.
 
 use compare::Buffer::{Stack, Table};
-use compare::{library, second, Call, Guarded, Lent, Reply, Subject};
+use compare::{library, second, Call, Guarded, Lent, Random, Reply, Subject};
 use std::ops::Range;
 
 const BASE: u32 = 4096;
@@ -27,6 +27,22 @@ impl Heap {
         let last = blocks - 1;
         let parts = [0..object.start, object.clone(), object.end..last, last..blocks];
         Heap { blocks, objects: parts.into_iter().filter(|part| !part.is_empty()).collect() }
+    }
+
+    /// Objects and gaps of any lengths, and an object in the last blocks.
+    fn drawn(random: &mut Random) -> Heap {
+        let blocks = 4 * random.between(1, 1024);
+        let last = blocks - random.between(1, blocks);
+        let (mut objects, mut start) = (Vec::new(), 0);
+        while start < last {
+            let end = random.between(start + 1, last);
+            if random.percent(80) {
+                objects.push(start as usize..end as usize);
+            }
+            start = end;
+        }
+        objects.push(last as usize..blocks as usize);
+        Heap { blocks: blocks as usize, objects }
     }
 
     /// Those objects alone of which a block has one of these addresses.
@@ -69,6 +85,27 @@ impl Heap {
             lent.set_word(4 * last, word);
             self.collects(subject, &mut lent, &[root, word]);
         }
+    }
+
+    /// All words of the last object are addresses of a few blocks, drawn with the root, which is a block of it.
+    fn collects_from_drawn_words(&self, subject: Subject, random: &mut Random) {
+        let mut lent = self.lent();
+        lent[Stack] = Guarded::zeroed(256);
+        let last = self.objects.last().expect("an object in the last blocks");
+        let mut words =
+            vec![address(random.between(last.start as u64, last.end as u64 - 1) as usize)];
+        lent.set_roots(&words);
+        for _ in 0..random.between(1, 6) {
+            words.push(address(random.below(self.blocks as u64) as usize));
+        }
+        let mut drawn = vec![words[0]];
+        for word in 4 * last.start..4 * last.end {
+            drawn.push(random.pick(&words));
+            lent.set_word(word, drawn[drawn.len() - 1]);
+        }
+        drawn.sort_unstable();
+        drawn.dedup();
+        self.collects(subject, &mut lent, &drawn);
     }
 
     fn lent(&self) -> Lent {
@@ -150,5 +187,14 @@ fn no_other_address_leads_to_an_object() {
     for subject in [&library as Subject, &second] {
         Heap::alone(8, &(2..6)).collects_from_roots(subject, everywhere.clone());
         Heap::between_others(8, &(2..6)).collects_from_words(subject, everywhere.clone());
+    }
+}
+
+/// One collection then follows many addresses, of tails of several objects among them.
+#[test]
+fn many_words_lead_to_the_objects_of_their_blocks() {
+    let mut random = Random::new(2);
+    for _ in 0..2000 {
+        Heap::drawn(&mut random).collects_from_drawn_words(&library, &mut random);
     }
 }
