@@ -170,7 +170,8 @@ uint32_t blockheap_free(uint64_t base, const uint8_t *pool, size_t pool_len,
  * Resizes the object whose head is `block` to `bytes` bytes, rounded up to
  * whole blocks. `new_block` is the number of its head afterwards:
  * - as many blocks as before: nothing changes;
- * - fewer: the last blocks become free, and their bytes stay;
+ * - fewer: the last blocks become free, their bytes stay, and pointers to them
+ *   are the caller's to mend;
  * - more, and enough free blocks follow directly: it grows in place;
  * - more otherwise: it moves to the place that blockheap_allocate would take
  *   while the old object still holds its blocks. The old blocks become free,
@@ -190,7 +191,7 @@ uint32_t blockheap_reallocate(uint64_t base, uint8_t *pool, size_t pool_len,
  * Collects garbage: keeps exactly the objects that a chain of pointers leads
  * to from a root, and makes the blocks of all others free. Pool and roots are
  * not written. A pointer to a tail takes longer to follow: its head is found by
- * reading the table backwards, 64 bytes at a time.
+ * reading the table backwards, up to 64 bytes at a time.
  * - roots: the root words, four bytes each, lowest byte first; at most 4,096.
  *   A root is followed as a pointer in an object is, and anything else in the
  *   list counts for nothing. Roots may stand in any order and more than once:

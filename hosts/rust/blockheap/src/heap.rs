@@ -63,8 +63,8 @@ impl<'m> Heap<'m> {
     }
 
     /// Resizes an object to so many bytes, rounded up to whole blocks. Its bytes are kept, as many as
-    /// fit, and all bytes of added blocks are 0. It moves only if it cannot grow in place; pointers to
-    /// any of its old blocks are then the caller's to mend.
+    /// fit, and all bytes of added blocks are 0. It moves only if it cannot grow in place. Pointers to
+    /// blocks that it no longer has are the caller's to mend.
     ///
     /// ```
     /// # use blockheap::{Address, Memory};
