@@ -179,13 +179,19 @@ static void graph(void)
     set_random_roots();
 }
 
-/* One object of all blocks. The root and each of its words lead to the same block of it. */
-static void one_object(size_t target)
+static size_t allocate_blocks(size_t count)
 {
     uint32_t object;
     int32_t change;
+    must(blockheap_allocate(HEAP, BLOCKHEAP_BLOCK_BYTES * count, &object, &change));
+    return object;
+}
+
+/* One object of all blocks. The root and each of its words lead to the same block of it. */
+static void one_object(size_t target)
+{
     must(blockheap_init(HEAP));
-    must(blockheap_allocate(HEAP, BLOCKHEAP_BLOCK_BYTES * blocks, &object, &change));
+    allocate_blocks(blocks);
     for (size_t word = 0; word < 4 * blocks; word++)
         point(word / 4, word % 4, target);
     set_root(target);
@@ -199,6 +205,31 @@ static void words_to_the_head(void)
 static void words_to_the_last_block(void)
 {
     one_object(blocks - 1);
+}
+
+/* An object of three quarters of the blocks and four equal ones in the rest. The words of the first lead to each of
+ * the five in turn, to its head or to its last block. */
+static void five_objects(int to_last_blocks)
+{
+    size_t targets[5];
+    must(blockheap_init(HEAP));
+    for (size_t at = 0; at < 5; at++) {
+        size_t count = at == 0 ? blocks / 4 * 3 : blocks / 16;
+        targets[at] = allocate_blocks(count) + (to_last_blocks ? count - 1 : 0);
+    }
+    for (size_t word = 0; word < 3 * blocks; word++)
+        point(word / 4, word % 4, targets[word % 5]);
+    set_root(0);
+}
+
+static void words_to_five_heads(void)
+{
+    five_objects(0);
+}
+
+static void words_to_five_last_blocks(void)
+{
+    five_objects(1);
 }
 
 /* From the table as it was prepared. */
@@ -230,6 +261,10 @@ static const struct work {
     {"collect, words to the head", "one object, each word the address of its head", words_to_the_head, collect},
     {"collect, words to the last block", "the same with the address of its last block, the farthest from the head",
      words_to_the_last_block, collect},
+    {"collect, words to five heads", "an object whose words lead to its head and to four others in turn",
+     words_to_five_heads, collect},
+    {"collect, words to five tails", "the same with their last blocks: the worst back scans that are known",
+     words_to_five_last_blocks, collect},
 };
 enum { WORKS = sizeof works / sizeof works[0] };
 
