@@ -43,27 +43,27 @@ pub data Led (pool es : List ℕ) : Option Object → Option ℕ → Type 0 wher
   nowhere : Led pool es none none
   object : (o : Object) → Known pool es o → Led pool es (some o) (some (o .start))
 
--- where a list of values has a number
-record Among (n : ℕ) (f : ℕ → ℕ) (w : ℕ) : Type 0 where
+-- a number is one of the n values of f
+record Tabulated (n : ℕ) (f : ℕ → ℕ) (w : ℕ) : Type 0 where
   index : ℕ
   below : index < n
   is : w ≡ f index
 
-among-of : (n : ℕ) (f : ℕ → ℕ) (w : ℕ) → isIn w (tabulate n f) ≡ true → Among n f w
+tabulated-of : (n : ℕ) (f : ℕ → ℕ) (w : ℕ) → isIn w (tabulate n f) ≡ true → Tabulated n f w
 unfolding isIn tabulate
-among-of zero f w q = absurd (true-not-false q refl)
-among-of (suc n) f w q = go (eqb w (f 0)) refl q (among-of n (λ (i : ℕ). f (suc i)) w)
+tabulated-of zero f w q = absurd (true-not-false q refl)
+tabulated-of (suc n) f w q = go (eqb w (f 0)) refl q (tabulated-of n (λ (i : ℕ). f (suc i)) w)
   where
     go : (t : Bool) → eqb w (f 0) ≡ t → either t (isIn w (tabulate n (λ (i : ℕ). f (suc i)))) ≡ true
-        → (isIn w (tabulate n (λ (i : ℕ). f (suc i))) ≡ true → Among n (λ (i : ℕ). f (suc i)) w) → Among (suc n) f w
+        → (isIn w (tabulate n (λ (i : ℕ). f (suc i))) ≡ true → Tabulated n (λ (i : ℕ). f (suc i)) w) → Tabulated (suc n) f w
     go true e q rest = record { index = 0; below = omega arith; is = eqb-true _ _ e }
     go false e q rest = let a = rest q in record { index = suc (a .index); below = omega (arith, a .below); is = a .is }
 
-of-among : (n : ℕ) (f : ℕ → ℕ) (w i : ℕ) → i < n → w ≡ f i → isIn w (tabulate n f) ≡ true
+of-tabulated : (n : ℕ) (f : ℕ → ℕ) (w i : ℕ) → i < n → w ≡ f i → isIn w (tabulate n f) ≡ true
 unfolding isIn tabulate
-of-among zero f w i l e = absurd (omega arith)
-of-among (suc n) f w zero l e = rw (eq-eqb w (f 0) e)
-of-among (suc n) f w (suc i) l e = rw (of-among n (λ (j : ℕ). f (suc j)) w i (omega arith) e) (go (eqb w (f 0)))
+of-tabulated zero f w i l e = absurd (omega arith)
+of-tabulated (suc n) f w zero l e = rw (eq-eqb w (f 0) e)
+of-tabulated (suc n) f w (suc i) l e = rw (of-tabulated n (λ (j : ℕ). f (suc j)) w i (omega arith) e) (go (eqb w (f 0)))
   where
     go : (t : Bool) → either t true ≡ true
     go true = refl
@@ -91,14 +91,14 @@ module _ (pool es : List ℕ) (base w : ℕ) where
       count : blockCount es (x .start) ≡ x .blocks
       count = count-is es (x .start) (x .blocks) (lies-extent y r)
 
-      into : Among (x .blocks) (λ (i : ℕ). base + 16 * (x .start + i)) w → PointsInto base es w (x .start)
+      into : Tabulated (x .blocks) (λ (i : ℕ). base + 16 * (x .start + i)) w → PointsInto base es w (x .start)
       into a = record { head = inl (y .head); block = x .start + a .index; from = omega arith; to = rw count (omega (arith, a .below)); address = a .is }
 
       go : (t : Bool) → isIn w (addresses base x) ≡ t → pick t (some x) (ledTo base w os) ≡ some o
           → (ledTo base w os ≡ some o → Known pool es o × PointsInto base es w (o .start)) → Known pool es o × PointsInto base es w (o .start)
       go true i q rest =
           let p : x ≡ o = cc in
-          rw (← p) (record { head = y .head; count = count; words = y .words }, into (among-of _ _ w i))
+          rw (← p) (record { head = y .head; count = count; words = y .words }, into (tabulated-of _ _ w i))
       go false i q rest = rest q
 
   -- and where it leads to none in the list, it points into no object of the table
@@ -112,7 +112,7 @@ module _ (pool es : List ℕ) (base w : ℕ) where
       go : (x : Option Object) → find k os ≡ x → Found pool es k x → ⊥
       go x e (missing n) = n head
       go x e (there o s y t) =
-          led-there base w k os o e (of-among (o .blocks) (λ (i : ℕ). base + 16 * (o .start + i)) w (p .block - k)
+          led-there base w k os o e (of-tabulated (o .blocks) (λ (i : ℕ). base + 16 * (o .start + i)) w (p .block - k)
           (omega (arith, p .from, p .to, count-is es k (o .blocks) t)) (omega (arith, p .from, p .address))) q
 
   pub leads-agree : {os : List Object} → Laid pool es 0 os → Led pool es (ledTo base w os) (leadsTo base es w)

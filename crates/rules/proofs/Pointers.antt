@@ -51,15 +51,18 @@ heads-of : (e : ℕ) → (e ≡ HEAD) ⊎ (e ≡ MARK) → headsObject e ≡ tru
 unfolding headsObject
 heads-of e = ⊎-elim (λ q. rw q) (λ q. rw q)
 
+heads-used : (es : List ℕ) (k : ℕ) → Heads es k → entryAt es k ≢ FREE
+heads-used es k h f = ⊎-elim (λ q. omega arith) (λ q. omega arith) h
+
 heads-inside : (es : List ℕ) (k : ℕ) → Heads es k → k < length es
-heads-inside es k h = entry-inside es k (λ f. ⊎-elim (λ q. omega arith) (λ q. omega arith) h)
+heads-inside es k h = entry-inside es k (heads-used es k h)
 
 -- a block into which a word points is used
 pub into-used : (base : ℕ) (es : List ℕ) (w k : ℕ) (p : PointsInto base es w k) → entryAt es (p .block) ≢ FREE
 into-used base es w k p =
     let inside : k < length es = heads-inside es k (p .head) in
     let e : k + (p .block - k) ≡ p .block = omega (arith, p .from) in
-    rw e at (extent-used es k (blockCount es k) (extent-of es k inside) (λ f. ⊎-elim (λ q. omega arith) (λ q. omega arith) (p .head)) (p .block - k) (omega (arith, p .from, p .to)))
+    rw e at (extent-used es k (blockCount es k) (extent-of es k inside) (heads-used es k (p .head)) (p .block - k) (omega (arith, p .from, p .to)))
 
 -- its object starts at the head
 into-start : (base : ℕ) (es : List ℕ) (w k : ℕ) (p : PointsInto base es w k) → Start es (p .block) k
@@ -99,7 +102,7 @@ leads-one base es w (some k) none x y = absurd (y k x)
 leads-one base es w none (some j) x y = absurd (x j y)
 leads-one base es w none none x y = refl
 
--- and that is a head of the table
+-- what a word leads to is a head of the table
 pub leads-head : (base : ℕ) (es : List ℕ) (w k : ℕ) → leadsTo base es w ≡ some k → Heads es k
 unfolding Leads
 leads-head base es w k q = let l : PointsInto base es w k = rw q at (leads-says base es w) in l .head

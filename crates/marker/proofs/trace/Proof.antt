@@ -8,7 +8,7 @@ use lib.ListN.{length}
 use Rattle.rules.specs.Entries.{entriesOf}
 use Rattle.rules.specs.Marking.{trace}
 use Rattle.rules.proofs.Marking.{toDrain}
-use Rattle.marker.specs.Variables.{contextOf, stateOf, idle, CanTrace}
+use Rattle.marker.specs.Variables.{contextOf, stateOf, CanTrace}
 use Rattle.marker.proofs.Turning.{can-start, Popped, popped, trace-end}
 use Rattle.marker.proofs.trace.Statement.{statement}
 use Rattle.marker.proofs.trace.Tie as tie
