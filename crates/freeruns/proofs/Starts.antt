@@ -8,7 +8,7 @@ use Prim.Native.Nat.{ℕ, zero, suc, _+_, _-_, _*_, _/_, _%_, _^_, _≤_, _<_}
 use native.Mathlib.Decide.{decLt}
 use native.Mathlib.Omega.{arith}
 use lib.Dec.{T, eqb, ltb, eqb→eq}
-use lib.ListN.{getD}
+use lib.ListN.{length, getD}
 use lib.Bits.{bitAnd, bitOr}
 use borrow.Author.Tests.{eq-eqb, lt-ltb, le-ltb}
 use Rattle.rules.specs.Tests.{pick, both, either}
@@ -17,7 +17,7 @@ use Rattle.rules.specs.Tables.{entryAt, isFree}
 use Rattle.rules.specs.Meaning.{Run}
 use Rattle.rules.proofs.Below.{allBelow, below}
 use Rattle.rules.proofs.Lists.{one}
-use Rattle.rules.proofs.Entries.{entryOf-zero, getD-entriesOf}
+use Rattle.rules.proofs.Entries.{entryOf-zero, length-entriesOf, getD-entriesOf}
 use Rattle.freeruns.specs.Starts.{NoStart, MayStart}
 
 -- the FREE entries of the byte b, a bit for each: 1, 4, 16 and 64
@@ -148,15 +148,15 @@ no-place t i count c j small hc l h none r =
 
 pub may-start : (t : List ℕ) (i count : ℕ) → ((i : ℕ) → getD t i 0 < 256) → 0 < count
     → MayStart (entriesOf t) count i (left (freeBits (getD t i 0)) (freeBits (getD t (i + 1) 0)) (sparedOf count))
-may-start t i count small h j l none r = go (decLt count 5)
+may-start t i count small h j l none f = go (decLt count 5)
   where
     go : Dec (count < 5) → ⊥
     go (yes m) =
         let e : suc (count - 1) ≡ count = omega arith in
-        no-place t i count (count - 1) j small (omega arith) (omega arith) l (rw e none) r
+        no-place t i count (count - 1) j small (omega arith) (omega arith) l (rw e none) (f .run)
     go (no m) =
         no-place t i count 4 j small (omega arith) (omega arith) l
-        (rw (lt-ltb 1 count (omega arith), lt-ltb 2 count (omega arith), lt-ltb 3 count (omega arith), lt-ltb 4 count (omega arith)) at none) r
+        (rw (lt-ltb 1 count (omega arith), lt-ltb 2 count (omega arith), lt-ltb 3 count (omega arith), lt-ltb 4 count (omega arith)) at none) (f .run)
 
 -- no run starts in byte i before entry n, if no entry before it has a bit
 pub none-before : (es : List ℕ) (b i r n : ℕ) → n ≤ 4 → MayStart es b i r → ((j : ℕ) → j < n → entryOf r j ≡ 0) → NoStart es b (4 * i) (4 * i + n)
@@ -175,3 +175,18 @@ no-start-join es b s m e x y q l h r = go (decLt q m)
     go : Dec (q < m) → ⊥
     go (yes k) = x q l k r
     go (no k) = y q (omega arith) h r
+
+-- ---- whole bytes
+
+-- a run from the front of a byte goes on through a byte that is 0
+pub free-on : (t : List ℕ) (s i : ℕ) → s % 4 ≡ 0 → s / 4 + i < length t → getD t (s / 4 + i) 0 ≡ 0 → Run (entriesOf t) (4 * i) s → Run (entriesOf t) (4 * (i + 1)) s
+free-on t s i front inside zero-byte r = record {
+  room = omega (arith, length-entriesOf t);
+  free = λ j l. go j l (decLt j (4 * i));
+}
+  where
+    go : (j : ℕ) → j < 4 * (i + 1) → Dec (j < 4 * i) → entryAt (entriesOf t) (s + j) ≡ FREE
+    go j l (yes h) = r .free j h
+    go j l (no h) =
+        let d : (s + j) / 4 ≡ s / 4 + i = omega arith in
+        getD-entriesOf t (s + j) ∙ rw (d, zero-byte) (entryOf-zero ((s + j) % 4))

@@ -1,11 +1,12 @@
-// Runs of FREE blocks: where the next may start, up to sixteen bytes at a time, and how long the longest is, 32 entries at a time. Beside
-// `entries` only this crate knows how entries lie in bytes.
+// Runs of FREE blocks: where blocks may next start, up to sixteen bytes at a time, how far a run goes in whole bytes, and how long the longest
+// is, 32 entries at a time. Beside `entries` only this crate knows how entries lie in bytes.
 ghost use mathlib.Core.Path.{_≡_};
 ghost use Prim.Native.Nat.{ℕ, _+_, _-_, _*_, _≤_, _<_};
 ghost use lib.Dec.{ltb};
 ghost use lib.ListN.{length};
 ghost use Rattle.rules.specs.Entries.{entryOf, entriesOf};
 ghost use Rattle.rules.specs.Tables.{isUsed, longest as longestOf};
+ghost use Rattle.rules.specs.Meaning.{Run};
 ghost use Rattle.rules.specs.Tests.{pick};
 ghost use Rattle.freeruns.specs.Rows.{Holds, LowerBits, Picks, Zeros, RowStarts, WholeRow, LongestRow};
 ghost use Rattle.freeruns.specs.Scans.{ReadOn};
@@ -106,6 +107,28 @@ pub fn skip(table: &[u8], from: Block, count: usize) -> Block
         i += 1;
     }
     Block::first().plus(4 * i)
+}
+
+// So many blocks from `from` on, count at most, are FREE: those of the whole bytes that are 0, if `from` is the first block of a byte. There may be
+// more.
+pub fn free_bytes(table: &[u8], from: Block, count: usize) -> usize
+    requires { ⌜ from .0 + count ≤ length (entriesOf (now table)) ⌝ }
+    ensures { λ r. ⌜ (r ≤ count) × Run (entriesOf (now (table .entry))) r (from .0) ⌝ }
+{
+    let at = from.index();
+    if at % 4 != 0 {
+        return 0;
+    }
+    let byte = at / 4;
+    let whole = count / 4;
+    let mut i = 0;
+    while i < whole {
+        if table[byte + i] != 0 {
+            return 4 * i;
+        }
+        i += 1;
+    }
+    4 * whole
 }
 
 // How many of 32 entries stand above the last of which a bit is set, by the zeros above it; 32 if there is none.

@@ -16,12 +16,12 @@ use mir.ValLaws.{toZ-ofZ}
 use Rattle.rules.specs.Tests.{isNone}
 use Rattle.rules.specs.Words.{wordAt, withWord}
 use Rattle.rules.specs.Entries.{entriesOf}
-use Rattle.rules.specs.Tables.{blockCount, firstRun, released, used, objects, longest}
+use Rattle.rules.specs.Tables.{blockCount, firstFit, released, used, objects, longest}
 use Rattle.rules.specs.Meaning.{Shape}
 use Rattle.rules.specs.Outcomes.{heapOf, changeFrom}
 use Rattle.rules.specs.Refusals.{firstOf, goodShape, badShape, noBytes, outside, noHead, noWord, noRoom, heapTests, requestTests, objectTests, wordTests}
 use Rattle.rules.specs.Calls.{init, blocksFor, taken, placing, allocate, free, freed as freedHeap, survey, load, store}
-use Rattle.rules.proofs.Tables.{first-run, extent-of}
+use Rattle.rules.proofs.Tables.{first-fits, extent-of}
 use Rattle.rules.proofs.Refusals.{first-yes, first-last, first-less, first-more, first-none, refuses, accepts, passed, asked, named-object, after-names}
 use Rattle.rules.proofs.Calls.{blocks-some, allocate-change, free-change}
 use Rattle.heap.specs.Answers.{status, placed, unplacedBy, freed, surveyed, loaded}
@@ -57,7 +57,7 @@ module _ (base : ℕ) (pool table : List ℕ) where
     allocate-refused ne =
         sym (refuses r _ _ _ (first-less (requestTests base (heapOf pool table) bytes) _ r (positive ne) (sym test)) (positive ne))
 
-    pub allocate-full : r ≡ 0 → firstRun (entriesOf table) (blocksFor bytes) ≡ none → placed (unplacedBy 9) pool table ≡ allocate base (heapOf pool table) bytes
+    pub allocate-full : r ≡ 0 → firstFit (entriesOf table) (blocksFor bytes) ≡ none → placed (unplacedBy 9) pool table ≡ allocate base (heapOf pool table) bytes
     unfolding allocate
     allocate-full z e =
         sym (refuses 9 _ _ _
@@ -67,14 +67,14 @@ module _ (base : ℕ) (pool table : List ℕ) where
     pub allocate-knows : r ≡ 0 → (0 < bytes) × Shape base (heapOf pool table)
     allocate-knows ok = (asked base (heapOf pool table) bytes [] (sym test ∙ ok), passed base (heapOf pool table) (noBytes bytes ∷ []) (sym test ∙ ok) .shape)
 
-    pub allocate-done : (k : ℕ) (z : ℤ) (pool′ table′ : List ℕ) → r ≡ 0 → firstRun (entriesOf table) (blocksFor bytes) ≡ some k
+    pub allocate-done : (k : ℕ) (z : ℤ) (pool′ table′ : List ℕ) → r ≡ 0 → firstFit (entriesOf table) (blocksFor bytes) ≡ some k
         → heapOf pool′ table′ ≡ taken (heapOf pool table) k (blocksFor bytes) → z ≡ pos (blocksFor bytes)
         → placed (record { refusal = 0; block = record { 0 = k }; change = z }) pool′ table′ ≡ allocate base (heapOf pool table) bytes
     unfolding allocate placing taken
     allocate-done k z pool′ table′ ok found done change =
         let b = blocksFor bytes in
         let more = asked base (heapOf pool table) bytes [] (sym test ∙ ok) in
-        let run = first-run (entriesOf table) b k (blocks-some bytes more) found in
+        let run = first-fits (entriesOf table) b k (blocks-some bytes more) found .run in
         let change′ = change ∙ sym (allocate-change (entriesOf table) k b (blocks-some bytes more) run) in
         rw (done, change′, found) (sym (accepts _ _ _
         (first-more (requestTests base (heapOf pool table) bytes) (noRoom false ∷ []) refl (sym test ∙ ok) ∙ first-last (noRoom false) refl)))

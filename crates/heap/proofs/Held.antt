@@ -10,10 +10,9 @@ use mir.Syntax.{w32}
 use mir.Val.{toZ, ofZ}
 use mir.ValLaws.{toZ-ofZ}
 use Rattle.rules.specs.Entries.{entriesOf}
-use Rattle.rules.specs.Tables.{freeFrom}
-use Rattle.rules.specs.Meaning.{Extent, Run}
+use Rattle.rules.specs.Meaning.{Extent}
 use Rattle.rules.proofs.Entries.{length-entriesOf}
-use Rattle.rules.proofs.Tables.{extent-of, le-run}
+use Rattle.rules.proofs.Tables.{extent-of}
 use Rattle.memory.proofs.Signed.{sub-fits}
 use Rattle.heap.specs.Held.{Held}
 
@@ -26,10 +25,6 @@ module _ {pool table : List ℕ} {k b : ℕ} (held : Held pool table k b) where
 
   pub held-room : k + b ≤ length (entriesOf table)
   held-room = extent .room
-
-  -- free blocks directly after the object
-  pub held-run : (n : ℕ) → n ≤ freeFrom (entriesOf table) (k + b) → Run (entriesOf table) n (k + b)
-  held-run n l = le-run (entriesOf table) n (k + b) held-room l
 
 -- a difference of small numbers, as the answer holds it in 32 bits
 pub change-is : (after before : ℕ) (d : ℤ) → after ≤ 4096 → before ≤ 4096 → d ≡ subℕ after before → toZ w32 (ofZ w32 d) ≡ subℕ after before

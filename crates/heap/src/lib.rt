@@ -5,7 +5,8 @@ ghost use Prim.Native.Nat.{_+_, _-_, _*_, _≤_, _<_};
 ghost use lib.IntN.{pos, negℤ};
 ghost use lib.ListN.{length};
 ghost use Rattle.rules.specs.Entries.{entriesOf};
-ghost use Rattle.rules.specs.Tables.{blockCount, firstRun, freeFrom, released};
+ghost use Rattle.rules.specs.Tables.{blockCount, firstFit, released};
+ghost use Rattle.rules.specs.Meaning.{GrowsInPlace};
 ghost use Rattle.rules.specs.Outcomes.{heapOf, clearedBlocks};
 ghost use Rattle.rules.specs.Calls.{init as initOf, allocate as allocateOf, free as freeOf, reallocate as reallocateOf, survey as surveyOf, load as loadOf, store as storeOf, taken, placing, shrunk, grown, movesTo, along};
 ghost use Rattle.heap.specs.Held.{Held};
@@ -65,7 +66,7 @@ pub fn allocate(base: Address, pool: &mut [u8], table: &mut [u8], bytes: Bytes) 
         return unplaced(9);
     }
     let count = bytes.blocks();
-    match table::first_run(&*table, count) {
+    match table::first_fit(&*table, count) {
         Found::At(k) => {
             take(&mut *pool, &mut *table, k, count);
             Placed {
@@ -157,7 +158,7 @@ pub fn reallocate(
     if new <= old {
         return shrink(&*pool, &mut *table, k, old, new);
     }
-    if table::is_free(&*table, k.plus(old), new - old) {
+    if table::grows_in_place(&*table, k, old, new) {
         return grow(&mut *pool, &mut *table, k, old, new);
     }
     relocate(&mut *pool, &mut *table, k, old, new)
@@ -180,7 +181,7 @@ fn shrink(pool: &[u8], table: &mut [u8], k: Block, old: usize, new: usize) -> Pl
 // The blocks directly after the object join it, all their bytes zero.
 fn grow(pool: &mut [u8], table: &mut [u8], k: Block, old: usize, new: usize) -> Placed
     requires { ⌜ Held (now pool) (now table) (k .0) old ⌝ }
-    requires { ⌜ (old < new) × (new - old ≤ freeFrom (entriesOf (now table)) (k .0 + old)) ⌝ }
+    requires { ⌜ (old < new) × GrowsInPlace (entriesOf (now table)) (k .0) old new ⌝ }
     ensures { λ r. ⌜ placed r (now (pool .exit)) (now (table .exit)) ≡ (let h = heapOf (now (pool .entry)) (now (table .entry)) in placing h (k .0) (grown h (k .0) old new)) ⌝ }
 {
     let end = k.plus(old);
@@ -197,9 +198,9 @@ fn grow(pool: &mut [u8], table: &mut [u8], k: Block, old: usize, new: usize) -> 
 fn relocate(pool: &mut [u8], table: &mut [u8], k: Block, old: usize, new: usize) -> Placed
     requires { ⌜ Held (now pool) (now table) (k .0) old ⌝ }
     requires { ⌜ (old < new) × (new ≤ 4096) ⌝ }
-    ensures { λ r. ⌜ placed r (now (pool .exit)) (now (table .exit)) ≡ (let h = heapOf (now (pool .entry)) (now (table .entry)) in along (movesTo (firstRun (h .entries) new)) h (k .0) old new) ⌝ }
+    ensures { λ r. ⌜ placed r (now (pool .exit)) (now (table .exit)) ≡ (let h = heapOf (now (pool .entry)) (now (table .entry)) in along (movesTo (firstFit (h .entries) new)) h (k .0) old new) ⌝ }
 {
-    match table::first_run(&*table, new) {
+    match table::first_fit(&*table, new) {
         Found::At(s) => {
             table::place(&mut *table, s, new);
             memory::copy(&mut *pool, k.offset(), s.offset(), Bytes::of_blocks(old));

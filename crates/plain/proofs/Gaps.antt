@@ -15,8 +15,8 @@ use lib.Seq.{drop-cons, getD-drop, drop-length}
 use borrow.Author.Tests.{eq-eqb, ne-eqb, lt-ltb, le-ltb, leb-true, leb-false}
 use Rattle.rules.specs.Tests.{pick, count, leading}
 use Rattle.rules.specs.Entries.{FREE}
-use Rattle.rules.specs.Tables.{entryAt, isFree, isUsed, isHead, freeFrom, firstRun, used, objects, longest}
-use Rattle.rules.specs.Meaning.{Run, Lowest}
+use Rattle.rules.specs.Tables.{entryAt, isFree, isUsed, isHead, freeFrom, firstFit, used, objects, longest}
+use Rattle.rules.specs.Meaning.{Run, Fits, Lowest}
 use Rattle.rules.proofs.Lists.{count-cons, leading-is}
 use Rattle.rules.proofs.Tables.{run-le, run-longest, first-is}
 use Rattle.plain.specs.Objects.{Object, end, total, find, lowestGap, longestGap, nextStart}
@@ -25,39 +25,39 @@ use Rattle.plain.proofs.Laid.{Clear, Lies, lies-used, Laid, done, next,
 -- ---- the lowest gap with room
 
 module _ {pool es : List ℕ} (b : ℕ) (some-block : 0 < b) where
-  -- no run reaches into an object
-  run-before : {from : ℕ} {o : Object} → Lies pool es o → ((q : ℕ) → q < from → Run es b q → ⊥) → o .start < from + b → (q : ℕ) → q < end o → Run es b q → ⊥
-  run-before {from} {o} y lower l q h r = go (decLt q from) (decLt (o .start) q)
+  -- no blocks that fit reach into an object
+  fits-before : {from : ℕ} {o : Object} → Lies pool es o → ((q : ℕ) → q < from → Fits es b q → ⊥) → o .start < from + b → (q : ℕ) → q < end o → Fits es b q → ⊥
+  fits-before {from} {o} y lower l q h r = go (decLt q from) (decLt (o .start) q)
     where
       go : Dec (q < from) → Dec (o .start < q) → ⊥
       go (yes u) _ = lower q u r
-      go (no u) (yes v) = let e : q + 0 ≡ q = omega arith in lies-used y q (omega arith) h (rw e at (r .free 0 some-block))
+      go (no u) (yes v) = let e : q + 0 ≡ q = omega arith in lies-used y q (omega arith) h (rw e at (r .run .free 0 some-block))
       go (no u) (no v) =
           let e : q + (o .start - q) ≡ o .start = omega arith in
           let p = y .some-block in
-          lies-used y (o .start) (omega arith) (omega arith) (rw e at (r .free (o .start - q) (omega arith)))
+          lies-used y (o .start) (omega arith) (omega arith) (rw e at (r .run .free (o .start - q) (omega arith)))
 
-  gap-lowest : {from : ℕ} {os : List Object} → Laid pool es from os → ((q : ℕ) → q < from → Run es b q → ⊥) → Lowest es b (lowestGap (length es) b from os)
+  gap-lowest : {from : ℕ} {os : List Object} → Laid pool es from os → ((q : ℕ) → q < from → Fits es b q → ⊥) → Lowest es b (lowestGap (length es) b from os)
   unfolding lowestGap Lowest
   gap-lowest {from} (done r g) lower = go (leb (from + b) (length es)) refl
     where
       go : (t : Bool) → leb (from + b) (length es) ≡ t → Lowest es b (pick t (some from) none)
       go true e =
           let l = leb-true (from + b) (length es) e in
-          (record { room = l; free = λ j h. g (from + j) (omega arith) (omega arith) }, lower)
+          (record { run = record { room = l; free = λ j h. g (from + j) (omega arith) (omega arith) } }, lower)
       go false e =
           let l = leb-false (from + b) (length es) e in
-          λ q u. let m = u .room in lower q (omega arith) u
+          λ q u. let m = u .run .room in lower q (omega arith) u
   gap-lowest {from} (next {o = o} {os = os} l g y e r) lower = go (leb (from + b) (o .start)) refl (gap-lowest r)
     where
-      go : (t : Bool) → leb (from + b) (o .start) ≡ t → (((q : ℕ) → q < end o → Run es b q → ⊥) → Lowest es b (lowestGap (length es) b (end o) os))
+      go : (t : Bool) → leb (from + b) (o .start) ≡ t → (((q : ℕ) → q < end o → Fits es b q → ⊥) → Lowest es b (lowestGap (length es) b (end o) os))
           → Lowest es b (pick t (some from) (lowestGap (length es) b (end o) os))
       go true q rest =
           let u = leb-true (from + b) (o .start) q in
-          (record { room = omega arith; free = λ j h. g (from + j) (omega arith) (omega arith) }, lower)
-      go false q rest = rest (run-before {from = from} y lower (leb-false (from + b) (o .start) q))
+          (record { run = record { room = omega arith; free = λ j h. g (from + j) (omega arith) (omega arith) } }, lower)
+      go false q rest = rest (fits-before {from = from} y lower (leb-false (from + b) (o .start) q))
 
-  pub laid-lowest : {os : List Object} → Laid pool es 0 os → firstRun es b ≡ lowestGap (length es) b 0 os
+  pub laid-lowest : {os : List Object} → Laid pool es 0 os → firstFit es b ≡ lowestGap (length es) b 0 os
   laid-lowest {os} d = first-is es b (lowestGap (length es) b 0 os) some-block (gap-lowest d (λ q h. absurd (omega arith)))
 
 -- ---- the gap after an object

@@ -12,13 +12,13 @@ use lib.Seq.{sets, length-sets}
 use borrow.Author.Tests.{eqb-false}
 use Rattle.rules.specs.Tests.{isNone, orElse}
 use Rattle.rules.specs.Words.{wordAt}
-use Rattle.rules.specs.Tables.{blockCount, firstRun, placed, released}
+use Rattle.rules.specs.Tables.{blockCount, firstFit, placed, released}
 use Rattle.rules.specs.Meaning.{Run}
 use Rattle.rules.specs.Outcomes.{Heap, unlessRefused, clearedBlocks}
 use Rattle.rules.specs.Refusals.{firstOf, noBytes, outside, noHead, noRoom}
 use Rattle.rules.specs.Calls.{blocksFor, taken, placing, allocate, freed, free}
 use Rattle.rules.specs.Runs.{Allocate, Free}
-use Rattle.rules.proofs.Tables.{count-is, first-run}
+use Rattle.rules.proofs.Tables.{count-is, first-fits}
 use Rattle.rules.proofs.Changes.{placed-length, released-length, placed-head, placed-tail, placed-out, released-in, released-out}
 use Rattle.plain.specs.Objects.{Object, object, Plain, end, find, lowestGap, insert, remove}
 use Rattle.plain.specs.Replies.{places, allocatedAt, reply}
@@ -91,17 +91,17 @@ module _ (pool es : List ℕ) (s b : ℕ) (vs : List ℕ) (sized : length pool �
   put-laid ws long at d = laid-insert put-edit (object s b ws) refl refl run (put-lies ws long at) d (omega arith)
 
 module _ {p : Plain} {h : Heap} (r : Represents p h) where
-  pub low : (b : ℕ) → 0 < b → lowestGap (p .size) b 0 (p .objects) ≡ firstRun (h .entries) b
+  pub low : (b : ℕ) → 0 < b → lowestGap (p .size) b 0 (p .objects) ≡ firstFit (h .entries) b
   low b l = ap (λ (n : ℕ). lowestGap n b 0 (p .objects)) (r .size) ∙ sym (laid-lowest b l (r .laid))
 
-  alloc-agrees : (b : ℕ) → 0 < b → (start : Option ℕ) → firstRun (h .entries) b ≡ start
+  alloc-agrees : (b : ℕ) → 0 < b → (start : Option ℕ) → firstFit (h .entries) b ≡ start
       → Agrees (allocatedAt p b start) (unlessRefused (firstOf (noRoom (isNone start) ∷ [])) h [] (placing h (orElse start 0) (taken h (orElse start 0) b)))
   unfolding allocatedAt unlessRefused firstOf taken clearedBlocks
   alloc-agrees b l none q = agree-refused r 9 []
   alloc-agrees b l (some s) q =
       agree-placing r s _ (taken h s b)
       (represents-other r (taken h s b) _ (length-sets (h .pool) (16 * s) (replicate (16 * b) 0)) (placed-length (h .entries) s b)
-      (put-laid (h .pool) (h .entries) s b (replicate (16 * b) 0) (r .pool) (length-replicate (16 * b) 0) l (first-run (h .entries) b s l q)
+      (put-laid (h .pool) (h .entries) s b (replicate (16 * b) 0) (r .pool) (length-replicate (16 * b) 0) l (first-fits (h .entries) b s l q .run)
       (replicate (4 * b) 0) (length-replicate (4 * b) 0) (λ j u. zero-at (4 * b) j ∙ sym (word-zero (16 * b) j)) (r .laid)))
 
   pub allocate-agrees : (base bytes : ℕ) (stack : List ℕ) → Agrees (reply (Allocate base bytes) stack p) (allocate base h bytes)
@@ -110,7 +110,7 @@ module _ {p : Plain} {h : Heap} (r : Represents p h) where
       agree-heap r base _ [] _ _
       (agree-test r (noBytes bytes) _ (eqb bytes 0) [] _ _ (omega arith) refl
       (λ e. let l : 0 < blocksFor bytes = go (eqb-false bytes 0 e) in
-      rw (low (blocksFor bytes) l) (alloc-agrees (blocksFor bytes) l (firstRun (h .entries) (blocksFor bytes)) refl)))
+      rw (low (blocksFor bytes) l) (alloc-agrees (blocksFor bytes) l (firstFit (h .entries) (blocksFor bytes)) refl)))
     where
       go : bytes ≢ 0 → 0 < blocksFor bytes
       go n = omega arith

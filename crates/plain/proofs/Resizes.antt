@@ -15,13 +15,13 @@ use borrow.Author.Tests.{ne-eqb, le-leb, lt-leb, leb-true, ltb-true, ltb-false, 
 use Rattle.rules.specs.Tests.{pick}
 use Rattle.rules.specs.Words.{wordAt}
 use Rattle.rules.specs.Entries.{TAIL}
-use Rattle.rules.specs.Tables.{entryAt, freeFrom, firstRun, placed, released, extended}
+use Rattle.rules.specs.Tables.{entryAt, freeFrom, firstFit, placed, released, extended, growsInPlace}
 use Rattle.rules.specs.Meaning.{Extent, Run}
 use Rattle.rules.specs.Outcomes.{Heap, unlessRefused, clearedBlocks}
 use Rattle.rules.specs.Refusals.{firstOf, noBytes, noRoom}
 use Rattle.rules.specs.Calls.{blocksFor, Way, stay, shrink, grow, isNoWay, shrunk, grown, moved, movesTo, wayToGrow, wayTo, along, reallocate}
 use Rattle.rules.specs.Runs.{Reallocate}
-use Rattle.rules.proofs.Tables.{count-is, first-run}
+use Rattle.rules.proofs.Tables.{count-is, first-fits}
 use Rattle.rules.proofs.Changes.{placed-length, released-length, extended-length, released-in, released-out, extended-in, extended-out}
 use Rattle.plain.specs.Objects.{Object, object, Plain, end, padded, find, lowestGap, nextStart, insert, remove, replace}
 use Rattle.plain.specs.Replies.{Reply, places, movedInto, resized, reply}
@@ -250,20 +250,20 @@ module _ {p : Plain} {h : Heap} (r : Represents p h) (o : Object) (q : find (o .
       (represents-other r _ _ (length-sets (h .pool) (16 * end o) (replicate (16 * (c - o .blocks)) 0)) (extended-length (h .entries) (end o) (c - o .blocks))
       (grow-laid (h .pool) (h .entries) (r .pool) o y (x .room) c u (λ k i j. gap .clear k i (omega arith)) (omega arith) (r .laid) q))
 
-  goes-move : o .blocks < c → (start : Option ℕ) → firstRun (h .entries) c ≡ start → Goes (movedInto p o c start) (movesTo start)
+  goes-move : o .blocks < c → (start : Option ℕ) → firstFit (h .entries) c ≡ start → Goes (movedInto p o c start) (movesTo start)
   unfolding unlessRefused firstOf along moved movedInto movesTo
   goes-move u none e = agree-refused r 9 []
   goes-move u (some s) e =
       agree-placing r s _ (moved h (o .start) (o .blocks) c s)
       (represents-other r _ _ (length-sets (h .pool) (16 * s) (take (16 * o .blocks) (drop (16 * o .start) (h .pool)) ++ replicate (16 * (c - o .blocks)) 0)) (released-length (placed (h .entries) s c) (o .start) (o .blocks) ∙ placed-length (h .entries) s c)
-      (move-laid (h .pool) (h .entries) (r .pool) o y (x .room) c u s (first-run (h .entries) c s (omega arith) e) (r .laid) q))
+      (move-laid (h .pool) (h .entries) (r .pool) o y (x .room) c u s (first-fits (h .entries) c s (omega arith) e .run) (r .laid) q))
 
-  goes-further : o .blocks < c → (t : Bool) → roomAfter ≡ t → Goes (pick t extendedBy movedAway) (pick t grow (movesTo (firstRun (h .entries) c)))
+  goes-further : o .blocks < c → (t : Bool) → roomAfter ≡ t → Goes (pick t extendedBy movedAway) (pick t grow (movesTo (firstFit (h .entries) c)))
   goes-further u true e = goes-grow u (leb-true _ _ e)
-  goes-further u false e = rw (low r c (omega arith)) (goes-move u (firstRun (h .entries) c) refl)
+  goes-further u false e = rw (low r c (omega arith)) (goes-move u (firstFit (h .entries) c) refl)
 
   pub resize-agrees : 0 < c → Goes (resized p o c) (wayTo (h .entries) (o .start) (o .blocks) c)
-  unfolding resized wayTo wayToGrow
+  unfolding resized wayTo wayToGrow growsInPlace
   resize-agrees l = same (eqb c (o .blocks)) refl
     where
       more : o .blocks < c → Goes (pick roomAfter extendedBy movedAway) (wayToGrow (h .entries) (o .start) (o .blocks) c)

@@ -10,8 +10,8 @@ use native.Mathlib.Omega.{arith}
 use lib.ListN.{length}
 use borrow.Author.Tests.{eqb-false}
 use Rattle.rules.specs.Tests.{isNone, orElse}
-use Rattle.rules.specs.Tables.{blockCount, firstRun}
-use Rattle.rules.specs.Meaning.{Run, Lowest, Extent, Passed, Accepted}
+use Rattle.rules.specs.Tables.{blockCount, firstFit}
+use Rattle.rules.specs.Meaning.{Run, Fits, Lowest, Extent, Passed, Accepted}
 use Rattle.rules.specs.Outcomes.{Heap}
 use Rattle.rules.specs.Refusals.{noBytes, noRoom}
 use Rattle.rules.specs.Calls.{taken, placing, blocksFor, allocate}
@@ -31,7 +31,7 @@ module _ (base : ℕ) (h : Heap) (s b : ℕ) (good : Passed base h) (some-block 
 
   run : Run es b s
   unfolding Lowest
-  run = low .0
+  run = low .0 .run
 
   -- the blocks have their bytes in the pool
   taken-inside : 16 * (s + b) ≤ length (h .pool)
@@ -82,22 +82,22 @@ module _ (base : ℕ) (h : Heap) (bytes : ℕ) where
   allocated accepted =
       let e = no-refusal (allocate-checked base h bytes) accepted in
       let c = first-none (noBytes bytes) _ (omega arith) (own-tests base h _ e) in
-      let d = first-none (noRoom (isNone (firstRun (h .entries) (blocksFor bytes)))) [] (omega arith) (c .1) in
+      let d = first-none (noRoom (isNone (firstFit (h .entries) (blocksFor bytes)))) [] (omega arith) (c .1) in
       let some-block : 0 < blocksFor bytes = blocks-some bytes (omega (arith, eqb-false bytes 0 (c .0))) in
       rw (acts (allocate-checked base h bytes) accepted)
       (taken-allocated base h (startOf h bytes) (blocksFor bytes) (passed base h _ e) some-block
-      (found (firstRun (h .entries) (blocksFor bytes)) (d .0) (first-lowest (h .entries) (blocksFor bytes) some-block)))
+      (found (firstFit (h .entries) (blocksFor bytes)) (d .0) (first-lowest (h .entries) (blocksFor bytes) some-block)))
 
   -- where the blocks fit somewhere, allocate is accepted
-  fits-some : (o : Option ℕ) (s : ℕ) → Run (h .entries) (blocksFor bytes) s → Lowest (h .entries) (blocksFor bytes) o → isNone o ≡ false
+  fits-some : (o : Option ℕ) (s : ℕ) → Fits (h .entries) (blocksFor bytes) s → Lowest (h .entries) (blocksFor bytes) o → isNone o ≡ false
   unfolding Lowest
-  fits-some none s run low = absurd (low s run)
-  fits-some (some q) s run low = refl
+  fits-some none s f low = absurd (low s f)
+  fits-some (some q) s f low = refl
 
-  pub room-for : (s : ℕ) → Passed base h → 0 < bytes → Run (h .entries) (blocksFor bytes) s → Accepted (allocate base h bytes)
-  room-for s good more run =
+  pub room-for : (s : ℕ) → Passed base h → 0 < bytes → Fits (h .entries) (blocksFor bytes) s → Accepted (allocate base h bytes)
+  room-for s good more f =
       number (allocate-checked base h bytes)
       ∙ passes base h _ good
       ∙ asks bytes _ more
-      ∙ first-last (noRoom (isNone (firstRun (h .entries) (blocksFor bytes))))
-      (fits-some (firstRun (h .entries) (blocksFor bytes)) s run (first-lowest (h .entries) (blocksFor bytes) (blocks-some bytes more)))
+      ∙ first-last (noRoom (isNone (firstFit (h .entries) (blocksFor bytes))))
+      (fits-some (firstFit (h .entries) (blocksFor bytes)) s f (first-lowest (h .entries) (blocksFor bytes) (blocks-some bytes more)))

@@ -9,7 +9,7 @@ use lib.ListN.{length, replicate}
 use Rattle.rules.specs.Tests.{orElse}
 use Rattle.rules.specs.Words.{wordAt, withWord, wordsOf}
 use Rattle.rules.specs.Entries.{FREE}
-use Rattle.rules.specs.Tables.{blockCount, firstRun, used, objects, longest}
+use Rattle.rules.specs.Tables.{blockCount, firstFit, used, objects, longest}
 use Rattle.rules.specs.Outcomes.{Heap, Outcome, onlyRefusal, surveyed, loaded, leaves, unlessRefused}
 use Rattle.rules.specs.Refusals.{Test, firstOf, noBytes, outside, noHead, noRoom, initTests, heapTests, objectTests, wordTests, collectionTests}
 use Rattle.rules.specs.Marking.{markAll}
@@ -54,7 +54,7 @@ module _ {h : Heap} {stack : List ℕ} {ts : List Test} {act r : Outcome} (c : C
 
 -- where allocate puts the object
 abbrev pub startOf : Heap → ℕ → ℕ
-startOf h bytes = orElse (firstRun (h .entries) (blocksFor bytes)) 0
+startOf h bytes = orElse (firstFit (h .entries) (blocksFor bytes)) 0
 
 module _ (base : ℕ) (h : Heap) where
   pub init-checked : Checked h [] (initTests base h) (leaves (onlyRefusal 0) (record { pool = h .pool; entries = replicate (length (h .entries)) FREE })) (init base h)

@@ -11,7 +11,7 @@ use lib.ListN.{length}
 use borrow.Author.Tests.{eqb-true, eqb-false, leb-true, leb-false, ltb-true, ltb-false}
 use Rattle.rules.specs.Tests.{pick, isNone}
 use Rattle.rules.specs.Entries.{HEAD}
-use Rattle.rules.specs.Tables.{entryAt, isHead, wellFormed, blockCount, firstRun}
+use Rattle.rules.specs.Tables.{entryAt, isHead, wellFormed, blockCount, firstFit}
 use Rattle.rules.specs.Meaning.{Well, Lowest, Shape, Passed, Accepted}
 use Rattle.rules.specs.Outcomes.{Heap}
 use Rattle.rules.specs.Refusals.{Test, firstOf, goodShape, badShape, goodLists, illFormed, manyRoots, longStack, noBytes, outside, noHead, noWord, noRoom, wordTests}
@@ -20,7 +20,7 @@ use Rattle.rules.specs.Runs.{Call, Init, Allocate, Free, Reallocate, Collect, S
 use Rattle.rules.proofs.Refusals.{true-not-false, not-true, not-false, first-yes, first-no, passes, asks, names, shape-true, shape-of, lists-of, lists-say}
 use Rattle.rules.proofs.Tables.{entry-inside, extent-of, well-says, well-of, first-lowest, none-first}
 use Rattle.rules.proofs.Calls.{Ways, stays, shrinks, grows, moves, stuck, way-says, way-is, blocks-some, blocks-enough, blocks-least, blocks-more}
-use Rattle.promises.specs.Conditions.{Condition, when, First, NoRun, NoWay, ofInit, ofAllocate, ofFree, ofReallocate, ofCollect, ofSurvey, ofWord}
+use Rattle.promises.specs.Conditions.{Condition, when, First, NoFit, NoWay, ofInit, ofAllocate, ofFree, ofReallocate, ofCollect, ofSurvey, ofWord}
 use Rattle.promises.specs.Promises.{Object, Refused}
 use Rattle.promises.proofs.Checked.{number, refuses, init-checked, allocate-checked, free-checked, reallocate-checked, collect-checked, survey-checked, load-checked, store-checked}
 
@@ -108,15 +108,15 @@ module _ (base : ℕ) (h : Heap) where
 
   -- ---- no room
 
-  run-says : (b : ℕ) (o : Option ℕ) → Lowest (h .entries) b o → isNone o ≡ true → NoRun h b
+  fit-none : (b : ℕ) (o : Option ℕ) → Lowest (h .entries) b o → isNone o ≡ true → NoFit h b
   unfolding Lowest
-  run-says b none low e = low
-  run-says b (some s) low e = absurd (true-not-false e refl)
+  fit-none b none low e = low
+  fit-none b (some s) low e = absurd (true-not-false e refl)
 
-  run-found : (b : ℕ) (o : Option ℕ) → Lowest (h .entries) b o → isNone o ≡ false → ¬ NoRun h b
+  fit-some : (b : ℕ) (o : Option ℕ) → Lowest (h .entries) b o → isNone o ≡ false → ¬ NoFit h b
   unfolding Lowest
-  run-found b none low e nowhere = true-not-false refl e
-  run-found b (some s) low e nowhere = nowhere s (low .0)
+  fit-some b none low e nowhere = true-not-false refl e
+  fit-some b (some s) low e nowhere = nowhere s (low .0)
 
   way-none : (k c : ℕ) (w : Way) → Ways (h .entries) k (blockCount (h .entries) k) c w → isNoWay w ≡ true → NoWay h k c
   unfolding Lowest
@@ -130,7 +130,7 @@ module _ (base : ℕ) (h : Heap) where
   unfolding Lowest
   way-some k c stay (stays q) e n = omega (arith, n .0)
   way-some k c shrink (shrinks l) e n = omega (arith, n .0)
-  way-some k c grow (grows l run) e n = n .1 run
+  way-some k c grow (grows l g) e n = n .1 g
   way-some k c (move s) (moves l full low) e n = n .2 s (low .0)
   way-some k c noWay (stuck l full low) e n = true-not-false refl e
 
@@ -153,9 +153,9 @@ module _ (base : ℕ) (h : Heap) where
       rw (number (allocate-checked base h bytes))
       (shape-step _ _ (λ _. well-step _ _ (bytes-step bytes _ _ (λ more.
       let low = first-lowest (h .entries) (blocksFor bytes) (blocks-some bytes more) in
-      first-step (noRoom (isNone (firstRun (h .entries) (blocksFor bytes)))) [] (when 9 (NoRun h (blocksFor bytes))) [] refl
-      (run-says (blocksFor bytes) (firstRun (h .entries) (blocksFor bytes)) low)
-      (run-found (blocksFor bytes) (firstRun (h .entries) (blocksFor bytes)) low)
+      first-step (noRoom (isNone (firstFit (h .entries) (blocksFor bytes)))) [] (when 9 (NoFit h (blocksFor bytes))) [] refl
+      (fit-none (blocksFor bytes) (firstFit (h .entries) (blocksFor bytes)) low)
+      (fit-some (blocksFor bytes) (firstFit (h .entries) (blocksFor bytes)) low)
       (λ _. first-end)))))
 
   pub free-refusal : (k : ℕ) → First (ofFree base h k) (free base h k .answer .refusal)
@@ -209,13 +209,13 @@ module _ (base : ℕ) (h : Heap) where
   good-of : Shape base h → wellFormed (h .entries) ≡ true → Passed base h
   good-of s w = record { shape = s; well = w }
 
-  pub allocate-no-room : (bytes : ℕ) → (allocate base h bytes .answer .refusal ≡ 9) ↔ (Passed base h × (0 < bytes) × NoRun h (blocksFor bytes))
+  pub allocate-no-room : (bytes : ℕ) → (allocate base h bytes .answer .refusal ≡ 9) ↔ (Passed base h × (0 < bytes) × NoFit h (blocksFor bytes))
   allocate-no-room bytes = (only, if)
     where
-      low : 0 < bytes → Lowest (h .entries) (blocksFor bytes) (firstRun (h .entries) (blocksFor bytes))
+      low : 0 < bytes → Lowest (h .entries) (blocksFor bytes) (firstFit (h .entries) (blocksFor bytes))
       low more = first-lowest (h .entries) (blocksFor bytes) (blocks-some bytes more)
 
-      only : allocate base h bytes .answer .refusal ≡ 9 → Passed base h × (0 < bytes) × NoRun h (blocksFor bytes)
+      only : allocate base h bytes .answer .refusal ≡ 9 → Passed base h × (0 < bytes) × NoFit h (blocksFor bytes)
       only e =
           let a = first-later (badShape (goodShape base h)) _ 9 (λ q. omega arith) (rw (number (allocate-checked base h bytes)) at e) in
           let b = first-later (illFormed h) _ 9 (λ q. omega arith) (a .1) in
@@ -223,10 +223,10 @@ module _ (base : ℕ) (h : Heap) where
           let more : 0 < bytes = omega (arith, eqb-false bytes 0 (c .0)) in (
             good-of (shape-true base h (not-false _ (a .0))) (not-false _ (b .0)),
             more,
-            run-says (blocksFor bytes) (firstRun (h .entries) (blocksFor bytes)) (low more) (first-last (noRoom _) 9 (omega arith) (c .1)),
+            fit-none (blocksFor bytes) (firstFit (h .entries) (blocksFor bytes)) (low more) (first-last (noRoom _) 9 (omega arith) (c .1)),
           )
 
-      if : Passed base h × (0 < bytes) × NoRun h (blocksFor bytes) → allocate base h bytes .answer .refusal ≡ 9
+      if : Passed base h × (0 < bytes) × NoFit h (blocksFor bytes) → allocate base h bytes .answer .refusal ≡ 9
       if (good, more, nowhere) =
           number (allocate-checked base h bytes)
           ∙ passes base h _ good
@@ -267,8 +267,8 @@ module _ (base : ℕ) (h : Heap) where
 
   -- ---- a request larger than the pool
 
-  larger-nowhere : (bytes : ℕ) → Passed base h → length (h .pool) < bytes → NoRun h (blocksFor bytes)
-  larger-nowhere bytes good larger s run = omega (arith, run .room, good .shape .pool, blocks-more bytes (length (h .entries)) (omega (arith, good .shape .pool)))
+  larger-nowhere : (bytes : ℕ) → Passed base h → length (h .pool) < bytes → NoFit h (blocksFor bytes)
+  larger-nowhere bytes good larger s f = omega (arith, f .run .room, good .shape .pool, blocks-more bytes (length (h .entries)) (omega (arith, good .shape .pool)))
 
   pub allocate-larger : (bytes : ℕ) → Passed base h → length (h .pool) < bytes → allocate base h bytes .answer .refusal ≡ 9
   allocate-larger bytes good larger = allocate-no-room bytes .1 (good, omega arith, larger-nowhere bytes good larger)
@@ -278,7 +278,7 @@ module _ (base : ℕ) (h : Heap) where
       let x = extent-of (h .entries) k (entry-inside (h .entries) k (λ f. omega arith)) in
       let more = blocks-more bytes (length (h .entries)) (omega (arith, good .shape .pool)) in
       reallocate-no-room k bytes .1
-      (good, omega arith, head, (omega (arith, x .room), λ run. omega (arith, run .room), larger-nowhere bytes good larger))
+      (good, omega arith, head, (omega (arith, x .room), λ g. omega (arith, g .run .room), larger-nowhere bytes good larger))
 
 -- ---- a refused call does nothing
 

@@ -27,7 +27,7 @@ use Rattle.rules.proofs.Refusals.{true-not-false}
 use Rattle.rules.proofs.Tables.{entry-inside, well-says, run-shorter}
 use Rattle.rules.proofs.Pointers.{points-one, leads-one}
 use Rattle.keeping.proofs.Owners.{reachable-head}
-use Rattle.promises.specs.Conditions.{when, First, RoomAfter, NoRun, ofInit, ofAllocate, ofFree, ofReallocate, ofCollect, ofSurvey, ofWord}
+use Rattle.promises.specs.Conditions.{when, First, RoomAfter, NoFit, ofInit, ofAllocate, ofFree, ofReallocate, ofCollect, ofSurvey, ofWord}
 use Rattle.promises.specs.Promises.{Object, blocksOf, Same, Counts, Surveyed}
 use Rattle.promises.specs.Determined.{partsOf}
 use Rattle.promises.proofs.Promised.{promises}
@@ -300,21 +300,21 @@ free-again base h k bytes accepted more fits =
 
 module _ (base : ℕ) (h : Heap) (good : Passed base h) where
   -- nowhere are b blocks FREE exactly if the longest run that a survey finds is shorter
-  run-short : (b : ℕ) → NoRun h b ↔ (survey base h .answer .longest < b)
+  run-short : (b : ℕ) → NoFit h b ↔ (survey base h .answer .longest < b)
   run-short b = (short, nowhere)
     where
       l : Longest (h .entries) (survey base h .answer .longest)
       l = survey-says base h good .longest
 
-      short : NoRun h b → survey base h .answer .longest < b
+      short : NoFit h b → survey base h .answer .longest < b
       short none-fits = go (decLt (survey base h .answer .longest) b)
         where
           go : Dec (survey base h .answer .longest < b) → survey base h .answer .longest < b
           go (yes less) = less
-          go (no more) = absurd (none-fits (l .start) (run-shorter (h .entries) (survey base h .answer .longest) b (l .start) (omega arith) (l .run)))
+          go (no more) = absurd (none-fits (l .start) (record { run = run-shorter (h .entries) (survey base h .answer .longest) b (l .start) (omega arith) (l .run) }))
 
-      nowhere : survey base h .answer .longest < b → NoRun h b
-      nowhere less s run = omega (arith, l .most b s run)
+      nowhere : survey base h .answer .longest < b → NoFit h b
+      nowhere less s f = omega (arith, l .most b s (f .run))
 
   -- so a survey tells whether an allocate finds room
   pub allocate-survey : (bytes : ℕ) → 0 < bytes → (allocate base h bytes .answer .refusal ≡ 9) ↔ (survey base h .answer .longest < blocksFor bytes)

@@ -10,7 +10,7 @@ use native.Mathlib.Omega.{arith}
 use lib.ListN.{length}
 use borrow.Author.Tests.{eqb-false}
 use Rattle.rules.specs.Tables.{blockCount, used, placed, released}
-use Rattle.rules.specs.Meaning.{Run, Lowest, Extent, Passed, Named, Accepted}
+use Rattle.rules.specs.Meaning.{Run, Lowest, GrowsInPlace, Extent, Passed, Named, Accepted}
 use Rattle.rules.specs.Outcomes.{Heap, changeFrom}
 use Rattle.rules.specs.Refusals.{noBytes, outside, noHead, noRoom}
 use Rattle.rules.specs.Calls.{Way, stay, shrink, grow, move, noWay, isNoWay, along, shrunk, grown, moved, placing, blocksFor, reallocate, wayOf}
@@ -95,15 +95,18 @@ module _ (base : ℕ) (h : Heap) (k c : ℕ) (good : Passed base h) (object : Na
 
   -- ---- more blocks in place
 
-  module _ (more : b < c) (run : Run es (c - b) (k + b)) where
+  module _ (more : b < c) (grows : GrowsInPlace es k b c) where
+    after : Run es (c - b) (k + b)
+    after = grows .run
+
     grown-others : (o : ℕ) → Object h o → o ≢ k → Same h (grown h k b c) o
     unfolding grown
     grown-others o head other =
         let x = extent-of es o (entry-inside es o (λ f. omega arith)) in
-        let apart = run-apart es o (blockCount es o) (k + b) (c - b) x (omega arith) run head in
+        let apart = run-apart es o (blockCount es o) (k + b) (c - b) x (omega arith) after head in
         record {
-          head = extended-out es (k + b) (c - b) o (λ p q. grown-apart es k (object .head) (c - b) (omega arith) run o head other (omega arith) (omega arith)) ∙ head;
-          blocks = grown-other es k (object .head) (c - b) (omega arith) run o head other;
+          head = extended-out es (k + b) (c - b) o (λ p q. grown-apart es k (object .head) (c - b) (omega arith) after o head other (omega arith) (omega arith)) ∙ head;
+          blocks = grown-other es k (object .head) (c - b) (omega arith) after o head other;
           bytes = λ i l. cleared-out (h .pool) (k + b) (c - b) (16 * o + i) (λ p q. ⊎-elim (λ left. omega arith) (λ right. omega arith) apart);
         }
 
@@ -112,31 +115,31 @@ module _ (base : ℕ) (h : Heap) (k c : ℕ) (good : Passed base h) (object : Na
     grew = record {
       equal = λ e. absurd (omega arith);
       in-place = λ _. refl;
-      elsewhere = λ less full. absurd (full run);
+      elsewhere = λ less full. absurd (full grows);
       head = extended-out es (k + b) (c - b) k (λ p q. omega (arith, extent .some-block)) ∙ object .head;
-      blocks = let e : b + (c - b) ≡ c = omega arith in grown-count es k (object .head) (c - b) (omega arith) run (good .well) ∙ e;
+      blocks = let e : b + (c - b) ≡ c = omega arith in grown-count es k (object .head) (c - b) (omega arith) after (good .well) ∙ e;
       kept = λ i l r. cleared-out (h .pool) (k + b) (c - b) (16 * k + i) (λ p q. omega arith);
       zero = λ i l r.
           let e : 16 * (k + b) + (i - 16 * b) ≡ 16 * k + i = omega arith in
-          rw e at (cleared-in (h .pool) (k + b) (c - b) (i - 16 * b) (omega (arith, run .room, good .shape .pool)) (omega arith));
+          rw e at (cleared-in (h .pool) (k + b) (c - b) (i - 16 * b) (omega (arith, after .room, good .shape .pool)) (omega arith));
       free = λ i among out. absurd (out (among .0, omega (arith, among .1)));
       entries = λ i out out'. extended-out es (k + b) (c - b) i (λ p q. out' (omega arith, omega arith));
       bytes = λ i out. cleared-out (h .pool) (k + b) (c - b) i (λ p q. out (omega arith, omega arith));
       others = grown-others;
-      change = grow-change es k b c (omega arith) run;
+      change = grow-change es k b c (omega arith) after;
       counts = counts-of base h (placing h k (grown h k b c)) (good .shape) (extended-length es (k + b) (c - b)) refl;
       good = record {
         shape = shape-kept base h (grown h k b c) (cleared-length (h .pool) (k + b) (c - b)) (extended-length es (k + b) (c - b)) (good .shape);
-        well = grown-well es k (object .head) (c - b) (omega arith) run (good .well);
+        well = grown-well es k (object .head) (c - b) (omega arith) after (good .well);
       };
     }
 
   -- ---- more blocks elsewhere
 
-  module _ (s : ℕ) (more : b < c) (full : ¬ Run es (c - b) (k + b)) (low : Lowest es c (some s)) where
+  module _ (s : ℕ) (more : b < c) (full : ¬ GrowsInPlace es k b c) (low : Lowest es c (some s)) where
     run : Run es c s
     unfolding Lowest
-    run = low .0
+    run = low .0 .run
 
     new-inside : 16 * (s + c) ≤ length (h .pool)
     new-inside = omega (arith, run .room, good .shape .pool)
@@ -188,7 +191,7 @@ module _ (base : ℕ) (h : Heap) (k c : ℕ) (good : Passed base h) (object : Na
   unfolding along
   goes stay (stays e) _ = stayed e
   goes shrink (shrinks l) _ = shrank l
-  goes grow (grows l run) _ = grew l run
+  goes grow (grows l g) _ = grew l g
   goes (move s) (moves l full low) _ = went s l full low
   goes noWay way e = absurd (true-not-false refl e)
 

@@ -13,7 +13,7 @@ use lib.ListN.{replicate}
 use Rattle.rules.specs.Tests.{count, leading, tabulate}
 use Rattle.rules.specs.Words.{number, bytesOf, wordAt, withWord, wordsOf}
 use Rattle.rules.specs.Entries.{HEAD, entryOf, entriesOf}
-use Rattle.rules.specs.Tables.{entryAt, mayFollow, wellAfter, wellFormed, blockCount, startOf, freeFrom, fits, firstFrom, firstRun, placed, released, extended, used, objects, longest}
+use Rattle.rules.specs.Tables.{entryAt, mayFollow, wellAfter, wellFormed, blockCount, startOf, freeFrom, fits, firstFrom, firstFit, placed, released, extended, used, objects, longest, growsInPlace}
 use Rattle.rules.specs.Pointers.{addressOf, goodBase, targetOf, headsObject, headAt, leadsTo}
 use Rattle.rules.specs.Meaning.{Lowest, Longest, Points, PointsInto, Leads, ShapeInBytes, Passed, Accepted}
 use Rattle.rules.specs.Outcomes.{Heap, Answer, Outcome, heapOf, onlyRefusal, loaded, surveyed, leaves, changeFrom, unlessRefused, clearedBlocks}
@@ -51,7 +51,7 @@ pub record Computed : Type 0 where
   pub heads : (entryAt (h .entries) 0 ≡ HEAD) × (entryAt (h .entries) 2 ≡ HEAD) × (entryAt (h .entries) 7 ≡ HEAD) × (entryAt (h .entries) 11 ≡ HEAD)
   pub counts : (blocksOf h 0 ≡ 2) × (blocksOf h 2 ≡ 3)
   pub findings : (used (h .entries) ≡ 7) × (objects (h .entries) ≡ 4) × (longest (h .entries) ≡ 3)
-  pub starts : (firstRun (h .entries) 2 ≡ some 5) × (firstRun (h .entries) 3 ≡ some 8)
+  pub starts : (firstFit (h .entries) 2 ≡ some 5) × (firstFit (h .entries) 3 ≡ some 8)
   -- the last word of each object
   pub last-0 : load base h 0 7 .answer ≡ loaded 536871024
   pub last-2 : load base h 2 11 .answer ≡ loaded 305419896
@@ -69,7 +69,7 @@ pub record Computed : Type 0 where
   pub collects : Accepted (collect base h sampleRoots (sampleStack 256))
 
 pub computed : Computed
-unfolding count leading tabulate number bytesOf wordAt withWord wordsOf entryOf entriesOf mayFollow wellAfter wellFormed blockCount startOf freeFrom fits firstFrom firstRun placed released extended used objects longest addressOf goodBase targetOf headsObject headAt leadsTo changeFrom unlessRefused clearedBlocks firstOf goodShape wholeWords pushed visitTo visit walkWords walk drainFor drain trace rootTo markRoot markRoots passBlock passFrom pass rescanFor rescan markAll sweptEntry freeingAfter sweepFrom sweep blocksFor taken placing init allocate freed free shrunk grown moved movesTo wayToGrow wayTo along reallocate collecting collect survey load store
+unfolding count leading tabulate number bytesOf wordAt withWord wordsOf entryOf entriesOf mayFollow wellAfter wellFormed blockCount startOf freeFrom fits firstFrom firstFit placed released extended used objects longest addressOf goodBase targetOf headsObject headAt leadsTo changeFrom unlessRefused clearedBlocks firstOf goodShape wholeWords pushed visitTo visit walkWords walk drainFor drain trace rootTo markRoot markRoots passBlock passFrom pass rescanFor rescan markAll sweptEntry freeingAfter sweepFrom sweep blocksFor taken placing init allocate freed free shrunk grown moved movesTo growsInPlace wayToGrow wayTo along reallocate collecting collect survey load store
 computed = record {
   shape = record { some = omega arith; few = omega arith; size = refl; aligned = refl; above = omega arith; below = omega arith };
   well = refl;
@@ -100,7 +100,7 @@ number-on : (c : Call) (stack : List ℕ) → perform packed c stack sampleMemor
 number-on c stack = ap (λ (a : Answer). a .refusal) (on-bytes .as-on-heap packed (on-bytes .packed-faithful) c stack sampleMemory (on-bytes .packed-sound sampleMemory refl) .answer)
 
 -- the lowest start, where the search is computed
-lowest : (b s : ℕ) → 0 < b → firstRun (h .entries) b ≡ some s → Lowest (h .entries) b (some s)
+lowest : (b s : ℕ) → 0 < b → firstFit (h .entries) b ≡ some s → Lowest (h .entries) b (some s)
 lowest b s some-block e = rw e at (first-lowest (h .entries) b some-block)
 
 -- the used blocks that a survey finds after a call that answers the change d
@@ -169,7 +169,7 @@ freed-room = free-again base h 2 48 (computed .frees) (omega arith) (omega (arit
 
 room-after : RoomAfter h 2 (blocksFor 80)
 unfolding blocksFor blockCount freeFrom leading entriesOf entryOf
-room-after = le-run (h .entries) 2 5 (omega arith) (omega arith)
+room-after = record { run = le-run (h .entries) 2 5 (omega arith) (omega arith) }
 
 grown-at : reallocate base h 2 80 .answer .block ≡ 2
 grown-at = promises .reallocated base h 2 80 (computed .grows) .in-place (inr room-after)
@@ -205,7 +205,7 @@ moved-at : reallocate base h 0 48 .answer .block ≡ 8
 unfolding blocksFor blockCount leading entriesOf entryOf
 moved-at =
     start-one (h .entries) 3 (reallocate base h 0 48 .answer .block) 8
-    (promises .reallocated base h 0 48 (computed .moves) .elsewhere (omega arith) (λ room. omega (arith, room .free 0 (omega arith))))
+    (promises .reallocated base h 0 48 (computed .moves) .elsewhere (omega arith) (λ room. omega (arith, room .run .free 0 (omega arith))))
     (lowest 3 8 (omega arith) (computed .starts .1))
 
 pub moved-kept : load base (reallocate base h 0 48 .heap) 8 7 .answer ≡ loaded 536871024
@@ -264,7 +264,7 @@ pub reallocate-full : reallocate base h 0 49 .answer .refusal ≡ 9
 unfolding blocksFor blockCount leading entriesOf entryOf
 reallocate-full =
     reallocate-survey base h good 0 49 (omega arith) (computed .heads .0) .1
-    (omega arith, λ room. omega (arith, room .free 0 (omega arith)), omega (arith, survey-finds .2))
+    (omega arith, λ room. omega (arith, room .run .free 0 (omega arith)), omega (arith, survey-finds .2))
 
 pub reallocate-fits : reallocate base h 0 48 .answer .refusal ≢ 9
 unfolding blocksFor

@@ -3,11 +3,11 @@
 use mathlib.Core.Path.{_≡_}
 use mathlib.Core.Logic.{_≢_, _⊎_}
 use mathlib.Core.List.{List, [], _∷_}
-use Prim.Native.Nat.{ℕ, _+_, _*_, _-_, _/_, _%_, _≤_, _<_}
+use Prim.Native.Nat.{ℕ, _*_, _/_, _%_, _≤_, _<_}
 use lib.ListN.{length}
 use Rattle.rules.specs.Entries.{HEAD}
 use Rattle.rules.specs.Tables.{entryAt, blockCount}
-use Rattle.rules.specs.Meaning.{Well, Run, Shape}
+use Rattle.rules.specs.Meaning.{Well, Fits, GrowsInPlace, Shape}
 use Rattle.rules.specs.Outcomes.{Heap}
 use Rattle.rules.specs.Calls.{blocksFor}
 
@@ -24,23 +24,23 @@ unfoldable pub First : List Condition → ℕ → Type 0
 First [] r = r ≡ 0
 First (c ∷ cs) r = (c .holds × (r ≡ c .number)) ⊎ (¬ (c .holds) × First cs r)
 
--- the b' - b blocks directly after an object of b blocks at k, which is to have b' blocks, are FREE
+-- the object at k, which is to have b' blocks, may get them where it is
 abbrev pub RoomAfter : Heap → ℕ → ℕ → Type 0
-RoomAfter h k b' = Run (h .entries) (b' - blockCount (h .entries) k) (k + blockCount (h .entries) k)
+RoomAfter h k b' = GrowsInPlace (h .entries) k (blockCount (h .entries) k) b'
 
--- nowhere are b consecutive blocks FREE
-abbrev pub NoRun : Heap → ℕ → Type 0
-NoRun h b = (s : ℕ) → ¬ Run (h .entries) b s
+-- nowhere may b blocks start
+abbrev pub NoFit : Heap → ℕ → Type 0
+NoFit h b = (s : ℕ) → ¬ Fits (h .entries) b s
 
--- an object of b blocks at k that is to have more, b', has room neither where it is nor elsewhere
+-- the object at k, which is to have more blocks, b', has room neither where it is nor elsewhere
 abbrev pub NoWay : Heap → ℕ → ℕ → Type 0
-NoWay h k b' = (blockCount (h .entries) k < b') × ¬ RoomAfter h k b' × NoRun h b'
+NoWay h k b' = (blockCount (h .entries) k < b') × ¬ RoomAfter h k b' × NoFit h b'
 
 unfoldable pub ofInit : ℕ → Heap → List Condition
 ofInit base h = when 1 (¬ Shape base h) ∷ []
 
 unfoldable pub ofAllocate : ℕ → Heap → ℕ → List Condition
-ofAllocate base h bytes = when 1 (¬ Shape base h) ∷ when 2 (¬ Well (h .entries)) ∷ when 5 (bytes ≡ 0) ∷ when 9 (NoRun h (blocksFor bytes)) ∷ []
+ofAllocate base h bytes = when 1 (¬ Shape base h) ∷ when 2 (¬ Well (h .entries)) ∷ when 5 (bytes ≡ 0) ∷ when 9 (NoFit h (blocksFor bytes)) ∷ []
 
 unfoldable pub ofFree : ℕ → Heap → ℕ → List Condition
 ofFree base h k =

@@ -16,7 +16,7 @@ use Rattle.rules.specs.Outcomes.{Heap, Outcome, heapOf, onlyRefusal, loaded}
 use Rattle.rules.specs.Reach.{Reachable}
 use Rattle.rules.specs.Calls.{blocksFor, init, allocate, free, reallocate, collect, survey, load, store}
 use Rattle.rules.specs.Runs.{Call, step}
-use Rattle.promises.specs.Conditions.{First, RoomAfter, NoRun, NoWay, ofInit, ofAllocate, ofFree, ofReallocate, ofCollect, ofSurvey, ofWord}
+use Rattle.promises.specs.Conditions.{First, RoomAfter, NoFit, NoWay, ofInit, ofAllocate, ofFree, ofReallocate, ofCollect, ofSurvey, ofWord}
 
 -- ---- parts of a heap and of an outcome
 
@@ -201,7 +201,7 @@ pub record Promises : Type 0 where
   pub rounded-up : (bytes n : ℕ) → (blocksFor bytes ≤ n) ↔ (bytes ≤ 16 * n)
   -- allocate answers 9 exactly if nothing else is refused and nowhere are enough consecutive blocks FREE
   pub allocate-no-room : (base : ℕ) (h : Heap) (bytes : ℕ)
-      → (allocate base h bytes .answer .refusal ≡ 9) ↔ (Passed base h × (0 < bytes) × NoRun h (blocksFor bytes))
+      → (allocate base h bytes .answer .refusal ≡ 9) ↔ (Passed base h × (0 < bytes) × NoFit h (blocksFor bytes))
   -- reallocate answers 9 exactly if nothing else is refused and the object has room neither where it is nor elsewhere
   pub reallocate-no-room : (base : ℕ) (h : Heap) (k bytes : ℕ)
       → (reallocate base h k bytes .answer .refusal ≡ 9) ↔ (Passed base h × (0 < bytes) × Object h k × NoWay h k (blocksFor bytes))

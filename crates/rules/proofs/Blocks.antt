@@ -7,12 +7,12 @@ use Prim.Native.Nat.{ℕ, zero, suc, _≤_, _<_}
 use native.Mathlib.Omega.{arith}
 use lib.ListN.{length}
 use Rattle.rules.specs.Tests.{isNone, orElse}
-use Rattle.rules.specs.Tables.{blockCount, firstRun}
+use Rattle.rules.specs.Tables.{blockCount, firstFit}
 use Rattle.rules.specs.Meaning.{Lowest}
 use Rattle.rules.specs.Outcomes.{Heap, Outcome, unlessRefused}
 use Rattle.rules.specs.Refusals.{Test, firstOf, heapTests, noBytes, outside, noHead, noRoom}
 use Rattle.rules.specs.Calls.{Way, stay, shrink, grow, move, noWay, wayTo, isNoWay, blocksFor, placing, along, allocate, reallocate}
-use Rattle.rules.proofs.Tables.{extent-of, first-run}
+use Rattle.rules.proofs.Tables.{extent-of, first-fits}
 use Rattle.rules.proofs.Refusals.{passed, asked, named-resize}
 use Rattle.rules.proofs.Calls.{blocks-some, Ways, moves, way-says}
 
@@ -24,17 +24,17 @@ unless-small (suc r) h stack acted small = omega arith
 
 pub allocate-block : (base : ℕ) (h : Heap) (bytes : ℕ) → allocate base h bytes .answer .block < 4096
 unfolding allocate placing
-allocate-block base h bytes = unless-small _ _ _ _ (λ ok. go ok (firstRun (h .entries) (blocksFor bytes)) refl)
+allocate-block base h bytes = unless-small _ _ _ _ (λ ok. go ok (firstFit (h .entries) (blocksFor bytes)) refl)
   where
     room : Test
-    room = noRoom (isNone (firstRun (h .entries) (blocksFor bytes)))
+    room = noRoom (isNone (firstFit (h .entries) (blocksFor bytes)))
 
-    go : firstOf (heapTests base h ++ noBytes bytes ∷ room ∷ []) ≡ 0 → (o : Option ℕ) → firstRun (h .entries) (blocksFor bytes) ≡ o → orElse o 0 < 4096
+    go : firstOf (heapTests base h ++ noBytes bytes ∷ room ∷ []) ≡ 0 → (o : Option ℕ) → firstFit (h .entries) (blocksFor bytes) ≡ o → orElse o 0 < 4096
     go ok none e = omega arith
     go ok (some s) e =
         let more = blocks-some bytes (asked base h bytes (room ∷ []) ok) in
         let few = passed base h (noBytes bytes ∷ room ∷ []) ok .shape .few in
-        omega (arith, first-run (h .entries) (blocksFor bytes) s more e .room)
+        omega (arith, first-fits (h .entries) (blocksFor bytes) s more e .run .room)
 
 pub reallocate-block : (base : ℕ) (h : Heap) (k bytes : ℕ) → reallocate base h k bytes .answer .block < 4096
 unfolding reallocate along placing Lowest
@@ -53,7 +53,7 @@ reallocate-block base h k bytes = unless-small _ _ _ _ (λ ok. go ok)
     by-way small few more stay ways = small
     by-way small few more shrink ways = small
     by-way small few more grow ways = small
-    by-way small few more (move s) (moves l full low) = omega (arith, low .0 .room)
+    by-way small few more (move s) (moves l full low) = omega (arith, low .0 .run .room)
     by-way small few more noWay ways = omega arith
 
     go : firstOf (heapTests base h ++ noBytes bytes ∷ outside h k ∷ noHead h k ∷ room ∷ []) ≡ 0 → along (wayTo (h .entries) k b c) h k b c .answer .block < 4096

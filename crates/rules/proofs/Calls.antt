@@ -8,19 +8,18 @@ use mathlib.Core.Option.{Option, some, none}
 use Prim.Native.Nat.{ℕ, zero, suc, _+_, _-_, _*_, _≤_, _<_}
 use native.Mathlib.Decide.{ℕ-discrete, decLt}
 use native.Mathlib.Omega.{arith}
-use lib.Dec.{leb}
 use lib.IntN.{pos, negℤ, subℕ, _+ℤ_}
 use lib.ListN.{length}
-use borrow.Author.Tests.{lt-ltb, le-ltb, eq-eqb, ne-eqb, le-leb, leb-true}
+use borrow.Author.Tests.{lt-ltb, le-ltb, eq-eqb, ne-eqb}
 use Rattle.rules.specs.Tests.{pick}
 use Rattle.rules.specs.Entries.{HEAD}
-use Rattle.rules.specs.Tables.{entryAt, blockCount, freeFrom, firstRun, placed, released, extended, used}
+use Rattle.rules.specs.Tables.{entryAt, blockCount, firstFit, growsInPlace, placed, released, extended, used}
 use Rattle.rules.specs.Outcomes.{Heap, onlyRefusal, changeFrom, leaves, unlessRefused}
-use Rattle.rules.specs.Meaning.{Run, Lowest}
+use Rattle.rules.specs.Meaning.{Run, Lowest, GrowsInPlace}
 use Rattle.rules.specs.Refusals.{Test, firstOf, heapTests, noBytes, outside, noHead, noRoom}
 use Rattle.rules.specs.Calls.{Way, stay, shrink, grow, move, noWay, movesTo, wayToGrow, wayTo, blocksFor, placing, shrunk, grown, isNoWay, along, reallocate}
-use Rattle.rules.proofs.Tables.{entry-inside, extent-of, run-apart, run-le, le-run, first-lowest, first-is, none-first}
-use Rattle.rules.proofs.Refusals.{first-yes, first-last, first-more, refused-first, refuses, accepts}
+use Rattle.rules.proofs.Tables.{entry-inside, extent-of, run-apart, grows-of, grows-says, first-lowest, first-is, none-first}
+use Rattle.rules.proofs.Refusals.{true-not-false, first-yes, first-last, first-more, refused-first, refuses, accepts}
 use Rattle.rules.proofs.Changes.{placed-used, extended-used, freed-used, shrunk-used, moved-used}
 
 -- ---- differences
@@ -109,9 +108,9 @@ blocks-more bytes n h = omega arith
 pub data Ways (es : List ℕ) (k b c : ℕ) : Way → Type 0 where
   stays : c ≡ b → Ways es k b c stay
   shrinks : c < b → Ways es k b c shrink
-  grows : b < c → Run es (c - b) (k + b) → Ways es k b c grow
-  moves : {s : ℕ} → b < c → (Run es (c - b) (k + b) → ⊥) → Lowest es c (some s) → Ways es k b c (move s)
-  stuck : b < c → (Run es (c - b) (k + b) → ⊥) → Lowest es c none → Ways es k b c noWay
+  grows : b < c → GrowsInPlace es k b c → Ways es k b c grow
+  moves : {s : ℕ} → b < c → (GrowsInPlace es k b c → ⊥) → Lowest es c (some s) → Ways es k b c (move s)
+  stuck : b < c → (GrowsInPlace es k b c → ⊥) → Lowest es c none → Ways es k b c noWay
 
 module _ (es : List ℕ) (k b c : ℕ) where
   pub way-stay : c ≡ b → wayTo es k b c ≡ stay
@@ -127,52 +126,52 @@ module _ (es : List ℕ) (k b c : ℕ) where
   unfolding wayTo
   way-more l = rw (ne-eqb c b (λ e. omega arith), le-ltb c b (omega arith))
 
-  pub way-grow : b < c → Run es (c - b) (k + b) → wayTo es k b c ≡ grow
+  pub way-grow : b < c → GrowsInPlace es k b c → wayTo es k b c ≡ grow
   unfolding wayToGrow
-  way-grow l run = rw (way-more l, le-leb (c - b) (freeFrom es (k + b)) (run-le es (c - b) (k + b) run))
+  way-grow l g = rw (way-more l, grows-of es k b c g)
 
   module _ (inside : k + b ≤ length es) where
-    -- the blocks directly after are not all free
-    pub way-elsewhere : b < c → (Run es (c - b) (k + b) → ⊥) → wayTo es k b c ≡ movesTo (firstRun es c)
+    -- it may not grow where it is
+    pub way-elsewhere : b < c → (GrowsInPlace es k b c → ⊥) → wayTo es k b c ≡ movesTo (firstFit es c)
     unfolding wayToGrow
-    way-elsewhere l full = rw (way-more l) (go (leb (c - b) (freeFrom es (k + b))) refl)
+    way-elsewhere l full = rw (way-more l) (go (growsInPlace es k b c) refl)
       where
-        go : (v : Bool) → leb (c - b) (freeFrom es (k + b)) ≡ v → pick v grow (movesTo (firstRun es c)) ≡ movesTo (firstRun es c)
-        go true e = absurd (full (le-run es (c - b) (k + b) inside (leb-true (c - b) (freeFrom es (k + b)) e)))
+        go : (v : Bool) → growsInPlace es k b c ≡ v → pick v grow (movesTo (firstFit es c)) ≡ movesTo (firstFit es c)
+        go true e = absurd (full (grows-says es k b c inside e))
         go false e = refl
 
     pub way-says : 0 < c → Ways es k b c (wayTo es k b c)
     unfolding movesTo
     way-says h = go (ℕ-discrete c b) (decLt c b)
       where
-        found : b < c → (Run es (c - b) (k + b) → ⊥) → (o : Option ℕ) → Lowest es c o → Ways es k b c (movesTo o)
+        found : b < c → (GrowsInPlace es k b c → ⊥) → (o : Option ℕ) → Lowest es c o → Ways es k b c (movesTo o)
         found l full none low = stuck l full low
         found l full (some s) low = moves l full low
 
-        more : b < c → Dec (freeFrom es (k + b) < c - b) → Ways es k b c (wayTo es k b c)
-        more l (no r) = let run = le-run es (c - b) (k + b) inside (omega arith) in rw (way-grow l run) (grows l run)
-        more l (yes r) =
-            let full : Run es (c - b) (k + b) → ⊥ = λ run. omega (arith, run-le es (c - b) (k + b) run) in
-            rw (way-elsewhere l full) (found l full (firstRun es c) (first-lowest es c h))
+        more : b < c → (v : Bool) → growsInPlace es k b c ≡ v → Ways es k b c (wayTo es k b c)
+        more l true e = let g = grows-says es k b c inside e in rw (way-grow l g) (grows l g)
+        more l false e =
+            let full : GrowsInPlace es k b c → ⊥ = λ g. true-not-false (grows-of es k b c g) e in
+            rw (way-elsewhere l full) (found l full (firstFit es c) (first-lowest es c h))
 
         go : Dec (c ≡ b) → Dec (c < b) → Ways es k b c (wayTo es k b c)
         go (yes e) _ = rw (way-stay e) (stays e)
         go (no e) (yes l) = rw (way-shrink l) (shrinks l)
-        go (no e) (no l) = more (omega arith) (decLt (freeFrom es (k + b)) (c - b))
+        go (no e) (no l) = more (omega arith) (growsInPlace es k b c) refl
 
     pub way-is : 0 < c → (w : Way) → Ways es k b c w → wayTo es k b c ≡ w
     unfolding movesTo
     way-is h stay (stays e) = way-stay e
     way-is h shrink (shrinks l) = way-shrink l
-    way-is h grow (grows l run) = way-grow l run
+    way-is h grow (grows l g) = way-grow l g
     way-is h (move s) (moves l full low) = way-elsewhere l full ∙ ap movesTo (first-is es c (some s) h low)
     way-is h noWay (stuck l full low) = way-elsewhere l full ∙ ap movesTo (first-is es c none h low)
 
 -- ---- a request larger than the pool finds no room
 
-pub request-nowhere : (es pool : List ℕ) (bytes : ℕ) → length pool ≡ 16 * length es → length pool < bytes → firstRun es (blocksFor bytes) ≡ none
+pub request-nowhere : (es pool : List ℕ) (bytes : ℕ) → length pool ≡ 16 * length es → length pool < bytes → firstFit es (blocksFor bytes) ≡ none
 request-nowhere es pool bytes e l =
-    none-first es (blocksFor bytes) (blocks-some bytes (omega arith)) (λ s r. omega (arith, r .room, blocks-more bytes (length es) (omega arith)))
+    none-first es (blocksFor bytes) (blocks-some bytes (omega arith)) (λ s f. omega (arith, f .run .room, blocks-more bytes (length es) (omega arith)))
 
 pub request-no-way : (es pool : List ℕ) (k bytes : ℕ) → length pool ≡ 16 * length es → length pool < bytes → entryAt es k ≡ HEAD
     → wayTo es k (blockCount es k) (blocksFor bytes) ≡ noWay
@@ -180,7 +179,7 @@ unfolding movesTo
 request-no-way es pool k bytes e l head =
     let x = extent-of es k (entry-inside es k (λ f. omega arith)) in
     let more = blocks-more bytes (length es) (omega arith) in
-    way-elsewhere es k (blockCount es k) (blocksFor bytes) (x .room) (omega (arith, x .room)) (λ r. omega (arith, r .room))
+    way-elsewhere es k (blockCount es k) (blocksFor bytes) (x .room) (omega (arith, x .room)) (λ g. omega (arith, g .run .room))
     ∙ ap movesTo (request-nowhere es pool bytes e l)
 
 -- ---- a run and an object do not meet
@@ -234,10 +233,10 @@ module _ (base : ℕ) (h : Heap) (k bytes : ℕ) where
           go (yes s) = let z : b - c ≡ 0 = omega arith in rw z (goes (way-stay (h .entries) k b c s))
           go (no s) = goes (way-shrink (h .entries) k b c (omega arith))
 
-      pub reallocate-grows : b < c → Run (h .entries) (c - b) (k + b) → placing h k (grown h k b c) ≡ reallocate base h k bytes
+      pub reallocate-grows : b < c → GrowsInPlace (h .entries) k b c → placing h k (grown h k b c) ≡ reallocate base h k bytes
       unfolding along
-      reallocate-grows l run = goes (way-grow (h .entries) k b c l run)
+      reallocate-grows l g = goes (way-grow (h .entries) k b c l g)
 
-      pub reallocate-moves : k + b ≤ length (h .entries) → b < c → (Run (h .entries) (c - b) (k + b) → ⊥)
-          → along (movesTo (firstRun (h .entries) c)) h k b c ≡ reallocate base h k bytes
+      pub reallocate-moves : k + b ≤ length (h .entries) → b < c → (GrowsInPlace (h .entries) k b c → ⊥)
+          → along (movesTo (firstFit (h .entries) c)) h k b c ≡ reallocate base h k bytes
       reallocate-moves inside l full = goes (way-elsewhere (h .entries) k b c inside l full)

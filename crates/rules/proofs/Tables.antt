@@ -15,8 +15,8 @@ use lib.Seq.{drop-nil, getD-drop}
 use borrow.Author.Tests.{eqb-true, eqb-false, eq-eqb, ne-eqb, leb-true, le-leb}
 use Rattle.rules.specs.Tests.{pick, both, leading}
 use Rattle.rules.specs.Entries.{FREE, HEAD, TAIL, MARK}
-use Rattle.rules.specs.Tables.{entryAt, isFree, isUsed, isHead, isTail, mayFollow, wellAfter, wellFormed, blockCount, startOf, freeFrom, fits, firstFrom, firstRun, used, objects, longest}
-use Rattle.rules.specs.Meaning.{Well, Extent, Start, Run, Lowest, Longest}
+use Rattle.rules.specs.Tables.{entryAt, isFree, isUsed, isHead, isTail, mayFollow, wellAfter, wellFormed, blockCount, startOf, freeFrom, fits, firstFrom, firstFit, growsInPlace, used, objects, longest}
+use Rattle.rules.specs.Meaning.{Well, Extent, Start, Run, Fits, Lowest, GrowsInPlace, Longest}
 use Rattle.rules.proofs.Refusals.{true-not-false, both-left, both-right}
 use Rattle.rules.proofs.Lists.{count-le, leading-le, leading-pass, leading-stop, leading-more}
 
@@ -200,6 +200,12 @@ pub free-room : (es : List ℕ) (s : ℕ) → freeFrom es s ≤ length es - s
 unfolding freeFrom
 free-room es s = omega (arith, leading-le isFree (drop s es), length-drop s es)
 
+-- the block directly after it, if there is one, is not FREE
+pub free-stop : (es : List ℕ) (s : ℕ) → s + freeFrom es s < length es → entryAt es (s + freeFrom es s) ≢ FREE
+unfolding freeFrom
+free-stop es s h =
+    rw (← getD-drop s es (leading isFree (drop s es)) FREE) (eqb-false _ _ (leading-stop isFree (drop s es) FREE (omega (arith, length-drop s es))))
+
 -- a shorter run at the same start
 pub run-shorter : (es : List ℕ) (b c s : ℕ) → c ≤ b → Run es b s → Run es c s
 run-shorter es b c s h r = record { room = omega (arith, r .room); free = λ j l. r .free j (omega arith) }
@@ -213,14 +219,6 @@ no-run-lt es b s h nowhere = go (decLt (freeFrom es s) b)
     go : Dec (freeFrom es s < b) → freeFrom es s < b
     go (yes l) = l
     go (no l) = absurd (nowhere (le-run es b s h (omega arith)))
-
-pub run-fits : (es : List ℕ) (b s : ℕ) → Run es b s → fits es b s ≡ true
-unfolding fits
-run-fits es b s r = le-leb b (freeFrom es s) (run-le es b s r)
-
-pub fits-run : (es : List ℕ) (b s : ℕ) → 0 < b → fits es b s ≡ true → Run es b s
-unfolding fits
-fits-run es b s h f = le-run es b s (omega (arith, leb-true b (freeFrom es s) f, free-room es s)) (leb-true b (freeFrom es s) f)
 
 -- an object and a run of free blocks do not overlap
 pub run-apart : (es : List ℕ) (o c s b : ℕ) → Extent es o c → 0 < b → Run es b s → entryAt es o ≡ HEAD → (o + c ≤ s) ⊎ (s + b ≤ o)
@@ -237,26 +235,34 @@ run-next es b s w h r t =
     let e : s + b ≡ suc (s + (b - 1)) = omega arith in
     well-says es w .after (s + (b - 1)) (rw (← e) (entry-inside es (s + b) (λ f. omega arith))) (rw e at t) (r .free (b - 1) (omega arith))
 
--- ---- the lowest run
+-- ---- the lowest start
+
+pub fits-of : (es : List ℕ) (b s : ℕ) → Fits es b s → fits es b s ≡ true
+unfolding fits
+fits-of es b s f = le-leb b (freeFrom es s) (run-le es b s (f .run))
+
+pub fits-says : (es : List ℕ) (b s : ℕ) → 0 < b → fits es b s ≡ true → Fits es b s
+unfolding fits
+fits-says es b s h f = record { run = le-run es b s (omega (arith, leb-true b (freeFrom es s) f, free-room es s)) (leb-true b (freeFrom es s) f) }
 
 -- the search, with nothing found below s, and m starts left
-first-says : (es : List ℕ) (b m s : ℕ) → 0 < b → s + m ≡ length es → ((q : ℕ) → q < s → Run es b q → ⊥) → Lowest es b (firstFrom es b m s)
+first-says : (es : List ℕ) (b m s : ℕ) → 0 < b → s + m ≡ length es → ((q : ℕ) → q < s → Fits es b q → ⊥) → Lowest es b (firstFrom es b m s)
 unfolding firstFrom Lowest
-first-says es b zero s h e lower = λ q r. lower q (omega (arith, r .room)) r
+first-says es b zero s h e lower = λ q r. lower q (omega (arith, r .run .room)) r
 first-says es b (suc m) s h e lower = go (fits es b s) refl (first-says es b m (suc s) h (omega arith))
   where
-    go : (v : Bool) → fits es b s ≡ v → (((q : ℕ) → q < suc s → Run es b q → ⊥) → Lowest es b (firstFrom es b m (suc s)))
+    go : (v : Bool) → fits es b s ≡ v → (((q : ℕ) → q < suc s → Fits es b q → ⊥) → Lowest es b (firstFrom es b m (suc s)))
         → Lowest es b (elim v [ true ↦ some s | false ↦ firstFrom es b m (suc s) ])
-    go true f rest = (fits-run es b s h f, lower)
+    go true f rest = (fits-says es b s h f, lower)
     go false f rest =
         rest
         (λ q l r. ⊎-elim
-        (λ same. true-not-false (run-fits es b q r) (ap (fits es b) same ∙ f))
+        (λ same. true-not-false (fits-of es b q r) (ap (fits es b) same ∙ f))
         (λ below. lower q below r)
         (eq-or-lt-of-le {n = q} {m = s} (omega arith)))
 
-pub first-lowest : (es : List ℕ) (b : ℕ) → 0 < b → Lowest es b (firstRun es b)
-unfolding firstRun
+pub first-lowest : (es : List ℕ) (b : ℕ) → 0 < b → Lowest es b (firstFit es b)
+unfolding firstFit
 first-lowest es b h = first-says es b (length es) 0 h (omega arith) (λ q l. absurd (omega arith))
 
 pub lowest-one : (es : List ℕ) (b : ℕ) (x y : Option ℕ) → Lowest es b x → Lowest es b y → x ≡ y
@@ -271,30 +277,41 @@ lowest-one es b (some s) none x y = absurd (y s (x .0))
 lowest-one es b none (some q) x y = absurd (x q (y .0))
 lowest-one es b none none x y = refl
 
-pub first-is : (es : List ℕ) (b : ℕ) (x : Option ℕ) → 0 < b → Lowest es b x → firstRun es b ≡ x
-first-is es b x h l = lowest-one es b (firstRun es b) x (first-lowest es b h) l
+pub first-is : (es : List ℕ) (b : ℕ) (x : Option ℕ) → 0 < b → Lowest es b x → firstFit es b ≡ x
+first-is es b x h l = lowest-one es b (firstFit es b) x (first-lowest es b h) l
 
--- the search finds a run
-pub first-run : (es : List ℕ) (b s : ℕ) → 0 < b → firstRun es b ≡ some s → Run es b s
+-- the search finds a start
+pub first-fits : (es : List ℕ) (b s : ℕ) → 0 < b → firstFit es b ≡ some s → Fits es b s
 unfolding Lowest
-first-run es b s h e = (rw e at (first-lowest es b h)) .0
+first-fits es b s h e = (rw e at (first-lowest es b h)) .0
 
--- it finds none exactly if there is no run
-pub first-none : (es : List ℕ) (b : ℕ) → 0 < b → firstRun es b ≡ none → (s : ℕ) → Run es b s → ⊥
+-- it finds none exactly if there is no start
+pub first-none : (es : List ℕ) (b : ℕ) → 0 < b → firstFit es b ≡ none → (s : ℕ) → Fits es b s → ⊥
 unfolding Lowest
 first-none es b h e = rw e at (first-lowest es b h)
 
-pub none-first : (es : List ℕ) (b : ℕ) → 0 < b → ((s : ℕ) → Run es b s → ⊥) → firstRun es b ≡ none
+pub none-first : (es : List ℕ) (b : ℕ) → 0 < b → ((s : ℕ) → Fits es b s → ⊥) → firstFit es b ≡ none
 unfolding Lowest
 none-first es b h nowhere = first-is es b none h nowhere
 
--- a block that is not FREE ends every run that could hold it
-pub run-skip : (es : List ℕ) (b s i : ℕ) → ((q : ℕ) → q < s → Run es b q → ⊥) → i < b → entryAt es (s + i) ≢ FREE → (q : ℕ) → q < s + i + 1 → Run es b q → ⊥
-run-skip es b s i lower h taken q l r = go (decLt q s)
+-- no blocks that could hold a block that is not FREE may start
+pub fits-skip : (es : List ℕ) (b s i : ℕ) → ((q : ℕ) → q < s → Fits es b q → ⊥) → i < b → entryAt es (s + i) ≢ FREE → (q : ℕ) → q < s + i + 1 → Fits es b q → ⊥
+fits-skip es b s i lower h taken q l r = go (decLt q s)
   where
     go : Dec (q < s) → ⊥
     go (yes below) = lower q below r
-    go (no above) = let e : q + (s + i - q) ≡ s + i = omega arith in taken (rw e at (r .free (s + i - q) (omega arith)))
+    go (no above) = let e : q + (s + i - q) ≡ s + i = omega arith in taken (rw e at (r .run .free (s + i - q) (omega arith)))
+
+-- ---- more blocks in place
+
+module _ (es : List ℕ) (k b c : ℕ) where
+  pub grows-of : GrowsInPlace es k b c → growsInPlace es k b c ≡ true
+  unfolding growsInPlace
+  grows-of g = le-leb (c - b) (freeFrom es (k + b)) (run-le es (c - b) (k + b) (g .run))
+
+  pub grows-says : k + b ≤ length es → growsInPlace es k b c ≡ true → GrowsInPlace es k b c
+  unfolding growsInPlace
+  grows-says inside e = record { run = le-run es (c - b) (k + b) inside (leb-true (c - b) (freeFrom es (k + b)) e) }
 
 -- ---- the longest run
 

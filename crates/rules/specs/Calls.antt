@@ -4,13 +4,13 @@ use mathlib.Core.Bool.{Bool, true, false}
 use mathlib.Core.List.{List, [], _∷_, _++_}
 use mathlib.Core.Option.{Option, some, none}
 use Prim.Native.Nat.{ℕ, _+_, _-_, _*_, _/_}
-use lib.Dec.{eqb, leb, ltb}
+use lib.Dec.{eqb, ltb}
 use lib.ListN.{length, take, drop, replicate}
 use lib.Seq.{sets}
 use Rattle.rules.specs.Tests.{pick, isNone, orElse}
 use Rattle.rules.specs.Words.{wordAt, withWord, wordsOf}
 use Rattle.rules.specs.Entries.{FREE}
-use Rattle.rules.specs.Tables.{blockCount, freeFrom, firstRun, placed, released, extended, used, objects, longest}
+use Rattle.rules.specs.Tables.{blockCount, firstFit, growsInPlace, placed, released, extended, used, objects, longest}
 use Rattle.rules.specs.Outcomes.{Heap, Outcome, changeFrom, onlyRefusal, placedAt, collectedTo, surveyed, loaded, leaves, unlessRefused, clearedBlocks}
 use Rattle.rules.specs.Refusals.{Test, firstOf, noRoom, initTests, heapTests, requestTests, objectTests, resizeTests, wordTests, collectionTests}
 use Rattle.rules.specs.Marking.{Marked, markAll, sweep}
@@ -35,12 +35,12 @@ placing h k after = leaves (placedAt k (changeFrom (h .entries) (after .entries)
 
 -- Allocate: the lowest start at which the blocks fit. 9 if there is none
 abbrev pub allocateTests : ℕ → Heap → ℕ → List Test
-allocateTests base h bytes = requestTests base h bytes ++ noRoom (isNone (firstRun (h .entries) (blocksFor bytes))) ∷ []
+allocateTests base h bytes = requestTests base h bytes ++ noRoom (isNone (firstFit (h .entries) (blocksFor bytes))) ∷ []
 
 unfoldable pub allocate : ℕ → Heap → ℕ → Outcome
 allocate base h bytes =
     let b : ℕ = blocksFor bytes in
-    let start : Option ℕ = firstRun (h .entries) b in
+    let start : Option ℕ = firstFit (h .entries) b in
     unlessRefused (firstOf (allocateTests base h bytes)) h []
     (placing h (orElse start 0) (taken h (orElse start 0) b))
 
@@ -82,9 +82,9 @@ unfoldable pub movesTo : Option ℕ → Way
 movesTo none = noWay
 movesTo (some s) = move s
 
--- more blocks are wanted: in place if the blocks directly after are FREE, else where c blocks fit
+-- more blocks are wanted: in place if that may be, else where c blocks fit
 unfoldable pub wayToGrow : List ℕ → ℕ → ℕ → ℕ → Way
-wayToGrow es k b c = pick (leb (c - b) (freeFrom es (k + b))) grow (movesTo (firstRun es c))
+wayToGrow es k b c = pick (growsInPlace es k b c) grow (movesTo (firstFit es c))
 
 unfoldable pub wayTo : List ℕ → ℕ → ℕ → ℕ → Way
 wayTo es k b c = pick (eqb c b) stay (pick (ltb c b) shrink (wayToGrow es k b c))

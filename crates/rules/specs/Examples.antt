@@ -8,7 +8,7 @@ use lib.ListN.{length, replicate}
 use Rattle.rules.specs.Tests.{count, leading, tabulate}
 use Rattle.rules.specs.Words.{number, bytesOf, wordAt, wordsOf}
 use Rattle.rules.specs.Entries.{entryOf, entriesOf, tableOf}
-use Rattle.rules.specs.Tables.{mayFollow, wellAfter, wellFormed, blockCount, startOf, freeFrom, fits, firstFrom, firstRun, placed, released, extended, used, objects}
+use Rattle.rules.specs.Tables.{mayFollow, wellAfter, wellFormed, blockCount, startOf, freeFrom, fits, firstFrom, firstFit, growsInPlace, placed, released, extended, used, objects}
 use Rattle.rules.specs.Pointers.{addressOf, goodBase, targetOf, headsObject, headAt, leadsTo}
 use Rattle.rules.specs.Outcomes.{Heap, Answer, Outcome, heapOf, onlyRefusal, changeFrom, placedAt, collectedTo, unlessRefused, clearedBlocks}
 use Rattle.rules.specs.Refusals.{firstOf, goodShape, wholeWords}
@@ -129,5 +129,5 @@ words-hold = (refl, refl)
 
 -- every example is as it should be
 pub examples-hold : map (λ (x : Example). x .is) examples ≡ map (λ (x : Example). x .ought) examples
-unfolding examples count leading tabulate number bytesOf wordAt wordsOf entryOf entriesOf tableOf mayFollow wellAfter wellFormed blockCount startOf freeFrom fits firstFrom firstRun placed released extended used objects addressOf goodBase targetOf headsObject headAt leadsTo changeFrom unlessRefused clearedBlocks firstOf goodShape wholeWords pushed visitTo visit walkWords walk drainFor drain trace rootTo markRoot markRoots passBlock passFrom pass rescanFor rescan markAll sweptEntry freeingAfter sweepFrom sweep blocksFor taken placing allocate freed free shrunk grown moved movesTo wayToGrow wayTo along reallocate collecting collect
+unfolding examples count leading tabulate number bytesOf wordAt wordsOf entryOf entriesOf tableOf mayFollow wellAfter wellFormed blockCount startOf freeFrom fits firstFrom firstFit growsInPlace placed released extended used objects addressOf goodBase targetOf headsObject headAt leadsTo changeFrom unlessRefused clearedBlocks firstOf goodShape wholeWords pushed visitTo visit walkWords walk drainFor drain trace rootTo markRoot markRoots passBlock passFrom pass rescanFor rescan markAll sweptEntry freeingAfter sweepFrom sweep blocksFor taken placing allocate freed free shrunk grown moved movesTo wayToGrow wayTo along reallocate collecting collect
 examples-hold = refl

@@ -5,7 +5,7 @@ use mathlib.Core.Logic.{_≢_, _⊎_}
 use mathlib.Core.Bool.{true}
 use mathlib.Core.List.{List}
 use mathlib.Core.Option.{Option, some, none}
-use Prim.Native.Nat.{ℕ, suc, _+_, _*_, _%_, _^_, _≤_, _<_}
+use Prim.Native.Nat.{ℕ, suc, _+_, _-_, _*_, _%_, _^_, _≤_, _<_}
 use lib.ListN.{length, getD}
 use Rattle.rules.specs.Entries.{FREE, HEAD, TAIL, MARK, entriesOf}
 use Rattle.rules.specs.Tables.{entryAt, wellFormed, blockCount}
@@ -70,24 +70,34 @@ pub record Start (es : List ℕ) (k s : ℕ) : Type 0 where
   -- and s is none, unless it is block 0
   pub first : 0 < s → entryAt es s ≢ TAIL
 
--- b blocks may start at block s
+-- a run of FREE blocks
 pub record Run (es : List ℕ) (b s : ℕ) : Type 0 where
   -- the b blocks from s on are blocks of the table
   pub room : s + b ≤ length es
   -- and FREE
   pub free : (j : ℕ) → j < b → entryAt es (s + j) ≡ FREE
 
--- what the answer of a search says: the lowest start at which b blocks may start, or that there is none
+-- b blocks may start at block s
+pub record Fits (es : List ℕ) (b s : ℕ) : Type 0 where
+  -- they are a run of FREE blocks
+  pub run : Run es b s
+
+-- what the answer of a search says: the lowest block at which b blocks may start, or that there is none
 unfoldable pub Lowest : List ℕ → ℕ → Option ℕ → Type 0
-Lowest es b (some s) = Run es b s × ((q : ℕ) → q < s → Run es b q → ⊥)
-Lowest es b none = (q : ℕ) → Run es b q → ⊥
+Lowest es b (some s) = Fits es b s × ((q : ℕ) → q < s → Fits es b q → ⊥)
+Lowest es b none = (q : ℕ) → Fits es b q → ⊥
+
+-- the object of b blocks at k may get more, c in all, where it is
+pub record GrowsInPlace (es : List ℕ) (k b c : ℕ) : Type 0 where
+  -- the blocks that join it, directly after it, are a run of FREE blocks
+  pub run : Run es (c - b) (k + b)
 
 -- l is the length of the longest run of FREE blocks
 pub record Longest (es : List ℕ) (l : ℕ) : Type 0 where
-  -- l blocks may start somewhere
+  -- there is one of l blocks
   pub start : ℕ
   pub run : Run es l start
-  -- and more nowhere
+  -- and none of more
   pub most : (b s : ℕ) → Run es b s → b ≤ l
 
 -- the shape of a heap: the base, the number of blocks and the pool suit each other

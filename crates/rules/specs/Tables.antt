@@ -3,7 +3,7 @@
 use mathlib.Core.Bool.{Bool, true, false, not}
 use mathlib.Core.List.{List, [], _∷_}
 use mathlib.Core.Option.{Option, some, none}
-use Prim.Native.Nat.{ℕ, zero, suc, _-_, max}
+use Prim.Native.Nat.{ℕ, zero, suc, _+_, _-_, max}
 use lib.Dec.{eqb, leb}
 use lib.ListN.{getD, drop, replicate}
 use lib.Seq.{sets}
@@ -62,8 +62,12 @@ firstFrom es b zero s = none
 firstFrom es b (suc m) s = elim (fits es b s) [ true ↦ some s | false ↦ firstFrom es b m (suc s) ]
 
 -- the lowest start at which b blocks fit
-unfoldable pub firstRun : List ℕ → ℕ → Option ℕ
-firstRun es b = firstFrom es b (lib.ListN.length es) 0
+unfoldable pub firstFit : List ℕ → ℕ → Option ℕ
+firstFit es b = firstFrom es b (lib.ListN.length es) 0
+
+-- the object of b blocks at k may get more, c in all, where it is: the blocks that join it, directly after it, are blocks of the table, and FREE
+unfoldable pub growsInPlace : List ℕ → ℕ → ℕ → ℕ → Bool
+growsInPlace es k b c = leb (c - b) (freeFrom es (k + b))
 
 -- the entries with a new object of b blocks at s: a HEAD and b - 1 TAILs
 unfoldable pub placed : List ℕ → ℕ → ℕ → List ℕ

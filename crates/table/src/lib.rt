@@ -1,10 +1,9 @@
 // Objects in the allocation table, and the search for room.
 ghost use mathlib.Core.Path.{_≡_};
-ghost use Prim.Native.Nat.{_+_, _≤_, _<_};
-ghost use lib.Dec.{leb};
+ghost use Prim.Native.Nat.{_+_, _≤_, _<_, min};
 ghost use lib.ListN.{length};
 ghost use Rattle.rules.specs.Entries.{entriesOf};
-ghost use Rattle.rules.specs.Tables.{blockCount, freeFrom, firstRun, placed, released, extended};
+ghost use Rattle.rules.specs.Tables.{blockCount, freeFrom, firstFit, growsInPlace, placed, released, extended};
 ghost use Rattle.memory.specs.Places.{found};
 use memory::Block;
 use memory::Found;
@@ -25,41 +24,47 @@ pub fn block_count(table: &[u8], k: Block) -> usize
     count
 }
 
-// Whether the count blocks from `from` on are blocks of the table, and FREE.
-pub fn is_free(table: &[u8], from: Block, count: usize) -> bool
-    requires { ⌜ (length (now table) ≤ 1024) × (from .0 ≤ length (entriesOf (now table))) ⌝ }
-    ensures { λ r. ⌜ r ≡ leb count (freeFrom (entriesOf (now (table .entry))) (from .0)) ⌝ }
+// How many of the count blocks from `from` on are FREE, up to the first that is not.
+fn free_blocks(table: &[u8], from: Block, count: usize) -> usize
+    requires { ⌜ (length (now table) ≤ 1024) × (from .0 + count ≤ length (entriesOf (now table))) ⌝ }
+    ensures { λ r. ⌜ r ≡ min count (freeFrom (entriesOf (now (table .entry))) (from .0)) ⌝ }
 {
-    if from.until(entries::blocks(table)) < count {
-        return false;
-    }
-    let mut i = 0;
+    let mut i = freeruns::free_bytes(table, from, count);
     while i < count {
         if entries::entry(table, from.plus(i)) != entries::FREE {
-            return false;
+            return i;
         }
         i += 1;
     }
-    true
+    count
+}
+
+// Whether the object of old blocks at k may get more blocks, new in all, where it is.
+pub fn grows_in_place(table: &[u8], k: Block, old: usize, new: usize) -> bool
+    requires { ⌜ (length (now table) ≤ 1024) × ((k .0 + old ≤ length (entriesOf (now table))) × (old ≤ new)) ⌝ }
+    ensures { λ r. ⌜ r ≡ growsInPlace (entriesOf (now (table .entry))) (k .0) old new ⌝ }
+{
+    let end = k.plus(old);
+    let more = new - old;
+    if end.until(entries::blocks(table)) < more {
+        return false;
+    }
+    free_blocks(table, end, more) == more
 }
 
 // The lowest start at which count blocks fit.
-pub fn first_run(table: &[u8], count: usize) -> Found
+pub fn first_fit(table: &[u8], count: usize) -> Found
     requires { ⌜ (length (now table) ≤ 1024) × (0 < count) ⌝ }
-    ensures { λ r. ⌜ found r ≡ firstRun (entriesOf (now (table .entry))) count ⌝ }
+    ensures { λ r. ⌜ found r ≡ firstFit (entriesOf (now (table .entry))) count ⌝ }
 {
     let n = entries::blocks(table);
     let mut start = freeruns::skip(table, Block::first(), count);
-    'starts: while count <= start.until(n) {
-        let mut i = 0;
-        while i < count {
-            if entries::entry(table, start.plus(i)) != entries::FREE {
-                start = freeruns::skip(table, start.plus(i + 1), count);
-                continue 'starts;
-            }
-            i += 1;
+    while count <= start.until(n) {
+        let free = free_blocks(table, start, count);
+        if free == count {
+            return Found::At(start);
         }
-        return Found::At(start);
+        start = freeruns::skip(table, start.plus(free + 1), count);
     }
     Found::Nowhere
 }

@@ -8,9 +8,9 @@ use Prim.Native.Nat.{_≤_, _<_}
 use lib.IntN.{pos}
 use lib.ListN.{length}
 use Rattle.rules.specs.Entries.{entriesOf}
-use Rattle.rules.specs.Tables.{firstRun}
+use Rattle.rules.specs.Tables.{firstFit}
 use Rattle.rules.specs.Meaning.{Shape}
-use Rattle.rules.proofs.Tables.{first-run}
+use Rattle.rules.proofs.Tables.{first-fits}
 use Rattle.rules.specs.Outcomes.{heapOf}
 use Rattle.rules.proofs.Refusals.{few-bytes}
 use Rattle.rules.proofs.Calls.{blocks-some, blocks-least, request-nowhere}
@@ -31,8 +31,8 @@ room-at c = leb-true _ _ (sym (c .before .fits-in .ensures) ∙ not-false _ (c .
 some-blocks : (c : tie.After-k) → 0 < c .before .before .before .before .blocks2 .result
 some-blocks c = rw (c .before .before .before .before .blocks2 .ensures) (blocks-some _ (knows-at (c .before .before .before .before .before .before .before .before) .0))
 
-start-at : (c : tie.After-k) → firstRun (entriesOf (c .before .before .before .before .before .before .before .before .before .before .before .before .before .before .args .table .now)) (c .before .before .before .before .blocks2 .result) ≡ some (c .k .given .0 .0 .0)
-start-at c = sym (c .before .before .first-run .ensures) ∙ ap found (c .k .given .1)
+start-at : (c : tie.After-k) → firstFit (entriesOf (c .before .before .before .before .before .before .before .before .before .before .before .before .before .before .args .table .now)) (c .before .before .before .before .blocks2 .result) ≡ some (c .k .given .0 .0 .0)
+start-at c = sym (c .before .before .first-fit .ensures) ∙ ap found (c .k .given .1)
 
 request-requires : tie.Need-request-requires
 request-requires c κs = search needs
@@ -71,8 +71,8 @@ returns-2 c =
 blocks-requires : tie.Need-blocks-requires
 blocks-requires c κs = let shape = knows-at (c .before .before .before) .1 in omega (arith, room-at c, shape .pool, shape .few)
 
-first-run-requires : tie.Need-first-run-requires
-first-run-requires c κs =
+first-fit-requires : tie.Need-first-fit-requires
+first-fit-requires c κs =
     let knows = knows-at (c .before .before .before .before .before) in
     (few-bytes _ _ _ (knows .1), rw (c .before .blocks2 .ensures) (blocks-some _ (knows .0)))
 
@@ -83,7 +83,7 @@ take-requires : tie.Need-take-requires
 take-requires c κs =
     let m = c .before .before .before in
     let shape = knows-at (c .before .before .before .before .before .before .before .before .before .before .before) .1 in
-    ((few-bytes _ _ _ shape, some-blocks m), (first-run _ _ _ (some-blocks m) (start-at m) .room, omega (arith, shape .pool)))
+    ((few-bytes _ _ _ shape, some-blocks m), (first-fits _ _ _ (some-blocks m) (start-at m) .run .room, omega (arith, shape .pool)))
 
 difference-requires : tie.Need-difference-requires
 difference-requires c κs =
@@ -122,7 +122,7 @@ returns-4 : tie.Need-returns-4
 returns-4 c =
     rw (c .unplaced3 .ensures)
     (allocate-full _ _ _ _ (c .before .before .before .before .before .before .before .before .before .before .request .ensures) (c .before .before .before .before .before .before .before .before .before .if1 .left)
-    (rw (c .before .before .before .before .before .blocks2 .ensures) at (sym (c .before .before .before .first-run .ensures) ∙ ap found (c .before .enum-told .given .1))))
+    (rw (c .before .before .before .before .before .blocks2 .ensures) at (sym (c .before .before .before .first-fit .ensures) ∙ ap found (c .before .enum-told .given .1))))
 
 pub allocate-spec : {M : Type 1} → statement M
 allocate-spec =
@@ -139,7 +139,7 @@ allocate-spec =
     same-length-4
     returns-2
     blocks-requires
-    first-run-requires
+    first-fit-requires
     enum-known-k
     take-requires
     difference-requires

@@ -2,29 +2,30 @@
 -- Assumes nothing.
 use mathlib.Core.Path.{_≡_}
 use mathlib.Core.List.{List}
-use Prim.Native.Nat.{ℕ, _+_, _-_, _≤_, _<_}
+use Prim.Native.Nat.{ℕ, _+_, _-_, _<_}
 use native.Mathlib.Omega.{arith}
 use lib.IntN.{ℤ, subℕ}
 use mir.Syntax.{w32}
 use mir.Val.{toZ, ofZ}
 use borrow.Author.Needs.{needs}
 use Rattle.rules.specs.Entries.{entriesOf}
-use Rattle.rules.specs.Tables.{freeFrom, extended}
+use Rattle.rules.specs.Tables.{extended}
+use Rattle.rules.specs.Meaning.{GrowsInPlace}
 use Rattle.rules.specs.Outcomes.{heapOf, placedAt, leaves, clearedBlocks}
 use Rattle.rules.specs.Calls.{placing, grown}
 use Rattle.rules.proofs.Calls.{grow-change}
 use Rattle.heap.specs.Held.{Held}
-use Rattle.heap.proofs.Held.{held-few, held-room, held-run, change-is}
+use Rattle.heap.proofs.Held.{held-few, held-room, change-is}
 use Rattle.heap.proofs.grow.Statement.{statement}
 use Rattle.heap.proofs.grow.Tie as tie
 
-grows : (pool table pool' table' : List ℕ) (k old new end : ℕ) (d : ℤ) → Held pool table k old → (old < new) × (new - old ≤ freeFrom (entriesOf table) (k + old))
+grows : (pool table pool' table' : List ℕ) (k old new end : ℕ) (d : ℤ) → Held pool table k old → (old < new) × GrowsInPlace (entriesOf table) k old new
     → end ≡ k + old → pool' ≡ clearedBlocks pool end (new - old) → entriesOf table' ≡ extended (entriesOf table) end (new - old) → d ≡ subℕ new old
     → leaves (placedAt k (toZ w32 (ofZ w32 d))) (heapOf pool' table') ≡ placing (heapOf pool table) k (grown (heapOf pool table) k old new)
 unfolding placing grown
-grows pool table pool' table' k old new end d held (more, free) e p q r =
+grows pool table pool' table' k old new end d held (more, g) e p q r =
     let few = held-few held in
-    let run = held-run held (new - old) free in
+    let run = g .run in
     let room = run .room in
     rw (change-is new old d (omega arith) (omega arith) r, p, q, e, grow-change (entriesOf table) k old new (omega arith) run)
 
@@ -39,7 +40,7 @@ sub-extend c = search needs
 extend-requires : tie.Need-extend-requires
 extend-requires c κs =
     let s = c .before .before .before .before in
-    omega (arith, held-run (s .pre .0) _ (s .pre .1 .1) .room)
+    omega (arith, s .pre .1 .1 .run .room)
 
 sub-clear-blocks : tie.Need-sub-clear-blocks
 sub-clear-blocks c = search needs
@@ -47,14 +48,14 @@ sub-clear-blocks c = search needs
 clear-blocks-requires : tie.Need-clear-blocks-requires
 clear-blocks-requires c κs =
     let s = c .before .before .before .before .before .before .before .before in
-    let room = held-run (s .pre .0) _ (s .pre .1 .1) .room in
+    let room = s .pre .1 .1 .run .room in
     let few = held-few (s .pre .0) in
     (omega arith, omega arith)
 
 difference-requires : tie.Need-difference-requires
 difference-requires c κs =
     let s = c .before .before .before .before .before .before .before .before .before .before .before in
-    let room = held-run (s .pre .0) _ (s .pre .1 .1) .room in
+    let room = s .pre .1 .1 .run .room in
     let few = held-few (s .pre .0) in
     (omega arith, omega arith)
 

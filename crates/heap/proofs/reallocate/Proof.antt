@@ -6,21 +6,20 @@ use mathlib.Core.Bool.{Bool, true, false}
 use mathlib.Core.List.{List, []}
 use Prim.Native.Nat.{ℕ, _+_, _≤_, _<_}
 use native.Mathlib.Omega.{arith}
-use lib.Dec.{leb}
 use lib.ListN.{length}
 use borrow.Author.Needs.{needs}
 use borrow.Author.Tests.{leb-true, leb-false, not-true, not-false}
 use Rattle.rules.specs.Entries.{entriesOf}
-use Rattle.rules.specs.Tables.{blockCount, freeFrom}
+use Rattle.rules.specs.Tables.{blockCount, growsInPlace}
 use Rattle.rules.specs.Outcomes.{heapOf, onlyRefusal, leaves}
 use Rattle.rules.specs.Refusals.{firstOf, resizeTests}
 use Rattle.rules.specs.Calls.{blocksFor, reallocate}
-use Rattle.rules.specs.Meaning.{Run}
-use Rattle.rules.proofs.Tables.{run-le}
-use Rattle.rules.proofs.Refusals.{passed, named-resize, few-bytes}
+use Rattle.rules.specs.Meaning.{GrowsInPlace}
+use Rattle.rules.proofs.Tables.{grows-of, grows-says}
+use Rattle.rules.proofs.Refusals.{true-not-false, passed, named-resize, few-bytes}
 use Rattle.rules.proofs.Calls.{blocks-some, blocks-least, request-no-way, reallocate-refused, reallocate-stuck, reallocate-shrinks, reallocate-grows, reallocate-moves}
 use Rattle.heap.specs.Held.{Held}
-use Rattle.heap.proofs.Held.{held-few, held-room, held-run}
+use Rattle.heap.proofs.Held.{held-few, held-room}
 use Rattle.heap.proofs.reallocate.Statement.{statement}
 use Rattle.heap.proofs.reallocate.Tie as tie
 
@@ -47,13 +46,13 @@ module _ (base : ℕ) (pool table : List ℕ) (k bytes : ℕ) (e : firstOf (resi
         let o = object _ refl in
         omega (arith, new, blocks-least bytes (length (entriesOf table)) (omega (arith, o .long)), held-few o)
 
--- the answer whether the blocks directly after the object are free
-module _ (table : List ℕ) (k b n end : ℕ) {r : Bool} (e : r ≡ leb n (freeFrom (entriesOf table) end)) (at : end ≡ k + b) where
-  free : r ≡ true → n ≤ freeFrom (entriesOf table) (k + b)
-  free t = rw at at (leb-true n (freeFrom (entriesOf table) end) (sym e ∙ t))
+-- the answer whether the object may grow where it is
+module _ (table : List ℕ) (k b c : ℕ) {r : Bool} (e : r ≡ growsInPlace (entriesOf table) k b c) where
+  may-grow : k + b ≤ length (entriesOf table) → r ≡ true → GrowsInPlace (entriesOf table) k b c
+  may-grow inside t = grows-says (entriesOf table) k b c inside (sym e ∙ t)
 
-  full : r ≡ false → Run (entriesOf table) n (k + b) → ⊥
-  full f run = omega (arith, rw at at (leb-false n (freeFrom (entriesOf table) end) (sym e ∙ f)), run-le (entriesOf table) n (k + b) run)
+  may-not : r ≡ false → GrowsInPlace (entriesOf table) k b c → ⊥
+  may-not f g = true-not-false (grows-of (entriesOf table) k b c g) (sym e ∙ f)
 
 -- where the check has passed, the object is held
 accepted : (c : tie.After-block-count-arg) → let a = c .before .before .before .before .before .before .before .before .before .before .args in firstOf (resizeTests (a .base .0) (heapOf (a .pool .now) (a .table .now)) (a .k .0) (a .bytes .0)) ≡ 0
@@ -121,21 +120,16 @@ returns-3 c =
     let n = c .before .before .before .before .before in
     rw (c .before .before .shrink .ensures) (reallocate-shrinks _ _ _ _ (accepted (n .before .before .before)) _ _ (n .before .before .block-count .ensures .0) (n .before .blocks2 .ensures) (n .if3 .taken))
 
-plus-requires : tie.Need-plus-requires
-plus-requires c κs = omega (arith, held-room (held (c .before .before .before)), held-few (held (c .before .before .before)))
-
-sub-is-free : tie.Need-sub-is-free
-sub-is-free c = search needs
-
-is-free-requires : tie.Need-is-free-requires
-is-free-requires c κs =
-    let h = held (c .before .before .before .before) in
-    (h .few, omega (arith, c .plus .ensures, held-room h))
+grows-in-place-requires : tie.Need-grows-in-place-requires
+grows-in-place-requires c κs =
+    let h = held (c .before .before .before) in
+    (h .few, (held-room h, omega arith))
 
 grow-requires : tie.Need-grow-requires
 grow-requires c κs =
-    let n = c .before .before .before .before .before .before in
-    (held (n .before .before), (omega arith, free _ _ _ _ _ (c .before .before .before .is-free .ensures) (c .before .before .before .before .plus .ensures) (c .before .before .if4 .taken)))
+    let n = c .before .before .before .before .before in
+    let h = held (n .before .before) in
+    (h, (omega arith, may-grow _ _ _ _ (c .before .before .before .grows-in-place .ensures) (held-room h) (c .before .before .if4 .taken)))
 
 same-length-7 : tie.Need-same-length-7
 same-length-7 c = search needs
@@ -145,13 +139,13 @@ same-length-8 c = search needs
 
 returns-4 : tie.Need-returns-4
 returns-4 c =
-    let n = c .before .before .before .before .before .before .before .before .before .before .before in
-    let run = held-run (held (n .before .before)) _ (free _ _ _ _ _ (c .before .before .before .before .before .before .before .before .is-free .ensures) (c .before .before .before .before .before .before .before .before .before .plus .ensures) (c .before .before .before .before .before .before .before .if4 .taken)) in
-    rw (c .before .before .before .before .grow .ensures) (reallocate-grows _ _ _ _ (accepted (n .before .before .before)) _ _ (n .before .before .block-count .ensures .0) (n .before .blocks2 .ensures) (omega arith) run)
+    let n = c .before .before .before .before .before .before .before .before .before .before in
+    let g = may-grow _ _ _ _ (c .before .before .before .before .before .before .before .before .grows-in-place .ensures) (held-room (held (n .before .before))) (c .before .before .before .before .before .before .before .if4 .taken) in
+    rw (c .before .before .before .before .grow .ensures) (reallocate-grows _ _ _ _ (accepted (n .before .before .before)) _ _ (n .before .before .block-count .ensures .0) (n .before .blocks2 .ensures) (omega arith) g)
 
 relocate-requires : tie.Need-relocate-requires
 relocate-requires c κs =
-    let n = c .before .before .before .before .before .before in
+    let n = c .before .before .before .before .before in
     (held (n .before .before), (omega arith, within _ _ _ _ _ (accepted (n .before .before .before)) _ (n .before .blocks2 .ensures) (room (n .before .before .before .before))))
 
 same-length-9 : tie.Need-same-length-9
@@ -162,9 +156,9 @@ same-length-10 c = search needs
 
 returns-5 : tie.Need-returns-5
 returns-5 c =
-    let n = c .before .before .before .before .before .before .before .before .before .before .before in
-    let no-run = full _ _ _ _ _ (c .before .before .before .before .before .before .before .before .is-free .ensures) (c .before .before .before .before .before .before .before .before .before .plus .ensures) (c .before .before .before .before .before .before .before .if4 .left) in
-    rw (c .before .before .before .before .relocate .ensures) (reallocate-moves _ _ _ _ (accepted (n .before .before .before)) _ _ (n .before .before .block-count .ensures .0) (n .before .blocks2 .ensures) (held-room (held (n .before .before))) (omega arith) no-run)
+    let n = c .before .before .before .before .before .before .before .before .before .before in
+    let none = may-not _ _ _ _ (c .before .before .before .before .before .before .before .before .grows-in-place .ensures) (c .before .before .before .before .before .before .before .if4 .left) in
+    rw (c .before .before .before .before .relocate .ensures) (reallocate-moves _ _ _ _ (accepted (n .before .before .before)) _ _ (n .before .before .block-count .ensures .0) (n .before .blocks2 .ensures) (held-room (held (n .before .before))) (omega arith) none)
 
 pub reallocate-spec : {M : Type 1} → statement M
 reallocate-spec =
@@ -186,9 +180,7 @@ reallocate-spec =
     same-length-5
     same-length-6
     returns-3
-    plus-requires
-    sub-is-free
-    is-free-requires
+    grows-in-place-requires
     grow-requires
     same-length-7
     same-length-8

@@ -14,11 +14,11 @@ use mir.Syntax.{w32}
 use mir.Val.{toZ, ofZ}
 use borrow.Author.Needs.{needs}
 use Rattle.rules.specs.Entries.{entriesOf}
-use Rattle.rules.specs.Tables.{firstRun, placed, released}
+use Rattle.rules.specs.Tables.{firstFit, placed, released}
 use Rattle.rules.specs.Outcomes.{heapOf, placedAt, leaves, clearedBlocks}
 use Rattle.rules.specs.Meaning.{Run}
 use Rattle.rules.specs.Calls.{placing, moved, movesTo, along}
-use Rattle.rules.proofs.Tables.{first-run}
+use Rattle.rules.proofs.Tables.{first-fits}
 use Rattle.rules.proofs.Changes.{placed-length}
 use Rattle.rules.proofs.Pools.{moved-steps}
 use Rattle.rules.proofs.Calls.{move-change, run-beside}
@@ -30,9 +30,9 @@ use Rattle.heap.proofs.relocate.Statement.{statement}
 use Rattle.heap.proofs.relocate.Tie as tie
 
 -- the start s was found
-module _ {pool table : List ℕ} {k old new s : ℕ} (held : Held pool table k old) (more : (old < new) × (new ≤ 4096)) (start : firstRun (entriesOf table) new ≡ some s) where
+module _ {pool table : List ℕ} {k old new s : ℕ} (held : Held pool table k old) (more : (old < new) × (new ≤ 4096)) (start : firstFit (entriesOf table) new ≡ some s) where
   run : Run (entriesOf table) new s
-  run = first-run (entriesOf table) new s (omega arith) start
+  run = first-fits (entriesOf table) new s (omega arith) start .run
 
   apart : (from to count : ℕ) → from ≡ 16 * k → to ≡ 16 * s → count ≡ 16 * old → (from + count ≤ to) ⊎ (to + count ≤ from)
   apart from to count f t n =
@@ -43,7 +43,7 @@ module _ {pool table : List ℕ} {k old new s : ℕ} (held : Held pool table k o
       → from ≡ 16 * k → to ≡ 16 * s → count ≡ 16 * old → pool1 ≡ sets pool to (take count (drop from pool))
       → end ≡ s + old → pool2 ≡ clearedBlocks pool1 end (new - old)
       → entriesOf table2 ≡ released (entriesOf table1) k old → d ≡ subℕ new old
-      → leaves (placedAt s (toZ w32 (ofZ w32 d))) (heapOf pool2 table2) ≡ along (movesTo (firstRun (entriesOf table) new)) (heapOf pool table) k old new
+      → leaves (placedAt s (toZ w32 (ofZ w32 d))) (heapOf pool2 table2) ≡ along (movesTo (firstFit (entriesOf table) new)) (heapOf pool table) k old new
   unfolding along movesTo placing moved
   moves pool1 pool2 table1 table2 from to count end d p f t n copied e cleared r q =
       let few = held-few held in
@@ -53,20 +53,20 @@ module _ {pool table : List ℕ} {k old new s : ℕ} (held : Held pool table k o
       rw (start, change-is new old d (omega arith) (omega arith) q, r, p, cleared, e, copied, f, t, n, steps, rw (sym (held .count)) at change)
 
 -- no start was found
-nowhere : (pool table : List ℕ) (k old new : ℕ) → firstRun (entriesOf table) new ≡ none
-    → answered (unplacedBy 9) pool table ≡ along (movesTo (firstRun (entriesOf table) new)) (heapOf pool table) k old new
+nowhere : (pool table : List ℕ) (k old new : ℕ) → firstFit (entriesOf table) new ≡ none
+    → answered (unplacedBy 9) pool table ≡ along (movesTo (firstFit (entriesOf table) new)) (heapOf pool table) k old new
 unfolding along movesTo
 nowhere pool table k old new e = rw e
 
 -- the same, at the place where the start is known
-start-at : (c : tie.After-s) → let a = c .before .before .before .before .before .before .args in firstRun (entriesOf (a .table .now)) (a .new) ≡ some (c .s .given .0 .0 .0)
-start-at c = sym (c .before .before .first-run .ensures) ∙ ap found (c .s .given .1)
+start-at : (c : tie.After-s) → let a = c .before .before .before .before .before .before .args in firstFit (entriesOf (a .table .now)) (a .new) ≡ some (c .s .given .0 .0 .0)
+start-at c = sym (c .before .before .first-fit .ensures) ∙ ap found (c .s .given .1)
 
 room-at : (c : tie.After-s) → let a = c .before .before .before .before .before .before .args in c .s .given .0 .0 .0 + a .new ≤ length (entriesOf (a .table .now))
 room-at c = run (c .before .before .before .before .before .before .pre .0) (c .before .before .before .before .before .before .pre .1) (start-at c) .room
 
-first-run-requires : tie.Need-first-run-requires
-first-run-requires c κs = search needs
+first-fit-requires : tie.Need-first-fit-requires
+first-fit-requires c κs = search needs
 
 enum-known-s : tie.Need-enum-known-s
 enum-known-s c = search needs
@@ -159,13 +159,13 @@ same-length-3 : tie.Need-same-length-3
 same-length-3 c = search needs
 
 returns-2 : tie.Need-returns-2
-returns-2 c = rw (c .unplaced .ensures) (nowhere _ _ _ _ _ (sym (c .before .before .before .first-run .ensures) ∙ ap found (c .before .enum-told .given .1)))
+returns-2 c = rw (c .unplaced .ensures) (nowhere _ _ _ _ _ (sym (c .before .before .before .first-fit .ensures) ∙ ap found (c .before .enum-told .given .1)))
 
 pub relocate-spec : {M : Type 1} → statement M
 relocate-spec =
     tie.close
     (tie.spec
-    first-run-requires
+    first-fit-requires
     enum-known-s
     place-requires
     offset-requires
