@@ -1,4 +1,4 @@
-// Runs the worked examples on heaps of 8 blocks. A line for each call: the table before it, its arguments, what it answered, and the
+// Runs the worked examples on heaps of 8, 12 and 16 blocks. A line for each call: the table before it, its arguments, what it answered, and the
 // table after it.
 mod print;
 
@@ -19,7 +19,7 @@ fn init(example: u64, base: u64) {
     print::end(&table);
 }
 
-fn allocate(example: u64, pool: &mut [u8; 128], table: &mut [u8; 2], bytes: u64) {
+fn allocate(example: u64, pool: &mut [u8], table: &mut [u8], bytes: u64) {
     print::begin(example, &*table);
     print::text(b" allocate ");
     print::bytes(bytes);
@@ -35,7 +35,7 @@ fn allocate(example: u64, pool: &mut [u8; 128], table: &mut [u8; 2], bytes: u64)
     print::end(&*table);
 }
 
-fn free(example: u64, pool: &[u8; 128], table: &mut [u8; 2], k: u64) {
+fn free(example: u64, pool: &[u8], table: &mut [u8], k: u64) {
     print::begin(example, &*table);
     print::text(b" free block ");
     print::number(k);
@@ -50,7 +50,7 @@ fn free(example: u64, pool: &[u8; 128], table: &mut [u8; 2], k: u64) {
     print::end(&*table);
 }
 
-fn reallocate(example: u64, pool: &mut [u8; 128], table: &mut [u8; 2], k: u64, bytes: u64) {
+fn reallocate(example: u64, pool: &mut [u8], table: &mut [u8], k: u64, bytes: u64) {
     print::begin(example, &*table);
     print::text(b" reallocate block ");
     print::number(k);
@@ -69,7 +69,7 @@ fn reallocate(example: u64, pool: &mut [u8; 128], table: &mut [u8; 2], k: u64, b
     print::end(&*table);
 }
 
-fn survey(example: u64, pool: &[u8; 128], table: &[u8; 2]) {
+fn survey(example: u64, pool: &[u8], table: &[u8]) {
     print::begin(example, table);
     print::text(b" survey");
     let r = heap::survey(Address::of_number(BASE), pool, table);
@@ -80,7 +80,7 @@ fn survey(example: u64, pool: &[u8; 128], table: &[u8; 2]) {
     print::end(table);
 }
 
-fn load(example: u64, pool: &[u8; 128], table: &[u8; 2], k: u64, i: usize) {
+fn load(example: u64, pool: &[u8], table: &[u8], k: u64, i: usize) {
     print::begin(example, table);
     print::text(b" load word ");
     print::number(i as u64);
@@ -98,7 +98,7 @@ fn load(example: u64, pool: &[u8; 128], table: &[u8; 2], k: u64, i: usize) {
     print::end(table);
 }
 
-fn store(example: u64, pool: &mut [u8; 128], table: &[u8; 2], k: u64, i: usize, w: u32) {
+fn store(example: u64, pool: &mut [u8], table: &[u8], k: u64, i: usize, w: u32) {
     print::begin(example, table);
     print::text(b" store ");
     print::number(w as u64);
@@ -118,7 +118,7 @@ fn store(example: u64, pool: &mut [u8; 128], table: &[u8; 2], k: u64, i: usize, 
     print::end(table);
 }
 
-fn collect(example: u64, pool: &[u8; 128], table: &mut [u8; 2], roots: &[u8], stack: &mut [u8]) {
+fn collect(example: u64, pool: &[u8], table: &mut [u8], roots: &[u8], stack: &mut [u8]) {
     print::begin(example, &*table);
     print::text(b" collect from");
     print::root(roots);
@@ -221,6 +221,37 @@ fn example_16() {
     collect(16, &pool, &mut table, &root, &mut no_stack);
 }
 
+// Four blocks pass by block 1, three get it, and growing to four they move.
+fn example_17() {
+    let mut pool = [0u8; 192];
+    let mut table = [1u8, 0, 0];
+    allocate(17, &mut pool, &mut table, 64);
+    allocate(17, &mut pool, &mut table, 48);
+    reallocate(17, &mut pool, &mut table, 1, 64);
+}
+
+// Four blocks at block 1, as an old table may hold them: to as many and to fewer they stay, to more they are refused or move.
+fn example_18() {
+    let mut pool = [0u8; 192];
+    let mut table = [165u8, 2, 0];
+    reallocate(18, &mut pool, &mut table, 1, 64);
+    reallocate(18, &mut pool, &mut table, 1, 65);
+    reallocate(18, &mut pool, &mut table, 1, 33);
+    let mut larger_pool = [0u8; 256];
+    let mut larger_table = [165u8, 2, 0, 0];
+    reallocate(18, &mut larger_pool, &mut larger_table, 1, 65);
+}
+
+// Freed, they are the longest run, and yet no start for four blocks.
+fn example_19() {
+    let mut pool = [0u8; 128];
+    let mut table = [165u8, 86];
+    free(19, &pool, &mut table, 1);
+    survey(19, &pool, &table);
+    allocate(19, &mut pool, &mut table, 64);
+    allocate(19, &mut pool, &mut table, 48);
+}
+
 fn main() {
     examples_1_to_7();
     example_8();
@@ -233,4 +264,7 @@ fn main() {
     init(13, 0);
     examples_14_and_15();
     example_16();
+    example_17();
+    example_18();
+    example_19();
 }

@@ -18,7 +18,7 @@ pub fn bytes(n: u64) {
 }
 
 // The example's number, and the table before its call.
-pub fn begin(example: u64, entries: &[u8; 2]) {
+pub fn begin(example: u64, entries: &[u8]) {
     text(b"example ");
     number(example);
     text(b": ");
@@ -71,16 +71,22 @@ pub fn part(name: &[u8], n: u32) {
 }
 
 // The table after the call.
-pub fn end(entries: &[u8; 2]) {
+pub fn end(entries: &[u8]) {
     text(b", table ");
     table(entries);
     text(b"\n");
 }
 
-fn table(entries: &[u8; 2]) {
-    byte(entries[0]);
-    text(b",");
-    byte(entries[1]);
+// Its bytes.
+fn table(entries: &[u8]) {
+    let mut i = 0;
+    while i < entries.len() {
+        if i != 0 {
+            text(b",");
+        }
+        byte(entries[i]);
+        i += 1;
+    }
 }
 
 fn byte(b: u8) {

@@ -1,7 +1,8 @@
--- What the free bits of a byte and the next say of the runs that start in it. Two tests, which antt computes: the masks pick out the
--- FREE entries of each byte, and bits that are all clear leave no place for a run's first blocks.
+-- What the free bits of a byte and the next say of where blocks may start in it. Two tests, which antt computes: the masks pick out the
+-- FREE entries of each byte, and bits that are clear leave no place for a run's first blocks.
 -- Assumes nothing.
-use mathlib.Core.Path.{_≡_, ap, _∙_}
+use mathlib.Core.Path.{_≡_, refl, ap, _∙_}
+use mathlib.Core.Logic.{_≢_, _⊎_, inl, inr, ⊎-elim}
 use mathlib.Core.Bool.{Bool, true, false, not}
 use mathlib.Core.List.{List}
 use Prim.Native.Nat.{ℕ, zero, suc, _+_, _-_, _*_, _/_, _%_, _^_, _≤_, _<_}
@@ -10,24 +11,29 @@ use native.Mathlib.Omega.{arith}
 use lib.Dec.{T, eqb, ltb, eqb→eq}
 use lib.ListN.{length, getD}
 use lib.Bits.{bitAnd, bitOr}
-use borrow.Author.Tests.{eq-eqb, lt-ltb, le-ltb}
+use borrow.Author.Tests.{eq-eqb, ne-eqb, lt-ltb, le-ltb}
 use Rattle.rules.specs.Tests.{pick, both, either}
 use Rattle.rules.specs.Entries.{FREE, entryOf, entriesOf}
-use Rattle.rules.specs.Tables.{entryAt, isFree}
-use Rattle.rules.specs.Meaning.{Run}
+use Rattle.rules.specs.Tables.{entryAt, isFree, aligned}
+use Rattle.rules.specs.Meaning.{Run, Aligned}
 use Rattle.rules.proofs.Below.{allBelow, below}
 use Rattle.rules.proofs.Lists.{one}
 use Rattle.rules.proofs.Entries.{entryOf-zero, length-entriesOf, getD-entriesOf}
+use Rattle.rules.proofs.Tables.{aligned-of, aligned-says}
 use Rattle.freeruns.specs.Starts.{NoStart, MayStart}
 
 -- the FREE entries of the byte b, a bit for each: 1, 4, 16 and 64
 abbrev pub freeBits : ℕ → ℕ
 freeBits b = bitAnd (255 - bitOr b (b / 2)) 85
 
--- what is left of the free bits f of a byte, with those of the next byte, g, and what spares the blocks of a run after its first
-abbrev pub left : ℕ → ℕ → (ℕ → ℕ) → ℕ
-left f g spares =
-    bitAnd (bitAnd (bitAnd (bitAnd f (bitOr (bitOr (f / 4) (g * 64 % 256)) (spares 1))) (bitOr (bitOr (f / 16) (g * 16 % 256)) (spares 2)))
+-- the entries of a byte at which count blocks are aligned, a bit for each
+abbrev pub alignedBits : ℕ → ℕ
+alignedBits count = pick (ltb count 4) 85 1
+
+-- what is left of the free bits f of a byte at those entries, with the bits of the next byte, g, and what spares the blocks of a run after its first
+abbrev pub left : ℕ → ℕ → ℕ → (ℕ → ℕ) → ℕ
+left f g front spares =
+    bitAnd (bitAnd (bitAnd (bitAnd (bitAnd f front) (bitOr (bitOr (f / 4) (g * 64 % 256)) (spares 1))) (bitOr (bitOr (f / 16) (g * 16 % 256)) (spares 2)))
     (bitOr (bitOr (f / 64) (g * 4 % 256)) (spares 3))) (bitOr g (spares 4))
 
 -- what spares block i of a run of count blocks
@@ -84,12 +90,17 @@ flag x y k = pick (ltb k 4) (x / 2 ^ k % 2) (y / 2 ^ (k - 4) % 2)
 abbrev row : ℕ → ℕ → ℕ → ℕ → Bool
 row x y c j = allBelow (suc c) (λ (d : ℕ). eqb (flag x y (j + d)) 1)
 
--- if nothing is left of entry j, there is no such row
+-- what is left of entry j, where c + 1 blocks are to start
+abbrev leftAt : ℕ → ℕ → ℕ → ℕ → ℕ
+leftAt x y c j = entryOf (left (spread x) (spread y) (alignedBits (suc c)) (sparedOf (suc c))) j
+
+-- if that is nothing, no such row is aligned there; if it is something, the row's blocks are
 left-right : ℕ → ℕ → ℕ → ℕ → Bool
-left-right x y c j = either (not (eqb (entryOf (left (spread x) (spread y) (sparedOf (suc c))) j) 0)) (not (row x y c j))
+left-right x y c j =
+    both (either (not (eqb (leftAt x y c j) 0)) (not (both (aligned (suc c) j) (row x y c j)))) (either (eqb (leftAt x y c j) 0) (aligned (suc c) j))
 
 all-left : T (allBelow 16 (λ (x : ℕ). allBelow 16 (λ (y : ℕ). allBelow 5 (λ (c : ℕ). allBelow 4 (left-right x y c)))))
-unfolding left-right entryOf
+unfolding left-right entryOf aligned
 all-left = tt
 
 all-of : (n : ℕ) (f : ℕ → Bool) → ((k : ℕ) → k < n → T (f k)) → T (allBelow n f)
@@ -105,22 +116,33 @@ either-T : (a b : Bool) → a ≡ false → T (either a b) → T b
 either-T true b e t = absurd (omega (arith, ap one e))
 either-T false b e t = t
 
+is-true : (b : Bool) → T b → b ≡ true
+is-true true t = refl
+is-true false t = absurd t
+
 not-T : (a : Bool) → T (not a) → T a → ⊥
 not-T true t u = t
 not-T false t u = u
 
-no-row : (x y c j : ℕ) → x < 16 → y < 16 → c < 5 → j < 4 → entryOf (left (spread x) (spread y) (sparedOf (suc c))) j ≡ 0
-    → ((d : ℕ) → d ≤ c → flag x y (j + d) ≡ 1) → ⊥
-unfolding left-right
-no-row x y c j hx hy hc hj none all =
-    let t = below 4 (left-right x y c)
-    (below 5 (λ (c : ℕ). allBelow 4 (left-right x y c))
-    (below 16 (λ (y : ℕ). allBelow 5 (λ (c : ℕ). allBelow 4 (left-right x y c)))
-    (below 16 (λ (x : ℕ). allBelow 16 (λ (y : ℕ). allBelow 5 (λ (c : ℕ). allBelow 4 (left-right x y c)))) all-left x hx) y hy) c hc) j hj in
-    let l : ℕ = entryOf (left (spread x) (spread y) (sparedOf (suc c))) j in
-    not-T (row x y c j)
-    (either-T (not (eqb l 0)) (not (row x y c j)) (ap not (eq-eqb l 0 none)) t)
-    (all-of (suc c) (λ (d : ℕ). eqb (flag x y (j + d)) 1) (λ d h. rw (all d (omega arith)) tt))
+module _ (x y c j : ℕ) (hx : x < 16) (hy : y < 16) (hc : c < 5) (hj : j < 4) where
+  both-sides : T (either (not (eqb (leftAt x y c j) 0)) (not (both (aligned (suc c) j) (row x y c j)))) × T (either (eqb (leftAt x y c j) 0) (aligned (suc c) j))
+  unfolding left-right
+  both-sides =
+      both-T (either (not (eqb (leftAt x y c j) 0)) (not (both (aligned (suc c) j) (row x y c j)))) (either (eqb (leftAt x y c j) 0) (aligned (suc c) j))
+      (below 4 (left-right x y c)
+      (below 5 (λ (c : ℕ). allBelow 4 (left-right x y c))
+      (below 16 (λ (y : ℕ). allBelow 5 (λ (c : ℕ). allBelow 4 (left-right x y c)))
+      (below 16 (λ (x : ℕ). allBelow 16 (λ (y : ℕ). allBelow 5 (λ (c : ℕ). allBelow 4 (left-right x y c)))) all-left x hx) y hy) c hc) j hj)
+
+  no-row : Aligned (suc c) j → leftAt x y c j ≡ 0 → ((d : ℕ) → d ≤ c → flag x y (j + d) ≡ 1) → ⊥
+  no-row placed none all =
+      not-T (both (aligned (suc c) j) (row x y c j))
+      (either-T (not (eqb (leftAt x y c j) 0)) (not (both (aligned (suc c) j) (row x y c j))) (ap not (eq-eqb (leftAt x y c j) 0 none)) (both-sides .0))
+      (rw (aligned-of (suc c) j placed) (all-of (suc c) (λ (d : ℕ). eqb (flag x y (j + d)) 1) (λ d h. rw (all d (omega arith)) tt)))
+
+  left-aligned : leftAt x y c j ≢ 0 → Aligned (suc c) j
+  left-aligned some-bit =
+      aligned-says (suc c) j (is-true (aligned (suc c) j) (either-T (eqb (leftAt x y c j) 0) (aligned (suc c) j) (ne-eqb (leftAt x y c j) 0 some-bit) (both-sides .1)))
 
 -- ---- the table
 
@@ -138,31 +160,54 @@ flag-at t i k small h free = go (decLt k 4)
         let m : (4 * i + k) % 4 ≡ k - 4 = omega arith in
         rw (le-ltb k 4 (omega arith)) (quad-at (getD t (i + 1) 0) (k - 4) (small (i + 1)) (omega arith) (rw (getD-entriesOf t (4 * i + k), d, m) at free))
 
--- where nothing is left of entry j, no run of more than c blocks starts there
-no-place : (t : List ℕ) (i count c j : ℕ) → ((i : ℕ) → getD t i 0 < 256) → c < 5 → c < count → j < 4
-    → entryOf (left (freeBits (getD t i 0)) (freeBits (getD t (i + 1) 0)) (sparedOf (suc c))) j ≡ 0 → Run (entriesOf t) count (4 * i + j) → ⊥
-no-place t i count c j small hc l h none r =
-    no-row (quad (getD t i 0)) (quad (getD t (i + 1) 0)) c j (quad-lt (getD t i 0)) (quad-lt (getD t (i + 1) 0)) hc h
-    (rw (free-bits (getD t i 0) (small i), free-bits (getD t (i + 1) 0) (small (i + 1))) at none)
-    (λ d m. let e : 4 * i + j + d ≡ 4 * i + (j + d) = omega arith in flag-at t i (j + d) small (omega arith) (rw e at (r .free d (omega arith))))
+-- alignment looks at the entry's place in its byte, and five blocks are aligned where more are
+place-in : (i j b c : ℕ) → Aligned b (4 * i + j) → (b ≡ c) ⊎ ((5 ≤ b) × (c ≡ 5)) → Aligned c j
+place-in i j b c (inl few) (inl same) = inl (omega arith)
+place-in i j b c (inl few) (inr both) = absurd (omega (arith, both .0))
+place-in i j b c (inr front) _ = inr (omega arith)
 
-pub may-start : (t : List ℕ) (i count : ℕ) → ((i : ℕ) → getD t i 0 < 256) → 0 < count
-    → MayStart (entriesOf t) count i (left (freeBits (getD t i 0)) (freeBits (getD t (i + 1) 0)) (sparedOf count))
-may-start t i count small h j l none f = go (decLt count 5)
-  where
-    go : Dec (count < 5) → ⊥
-    go (yes m) =
-        let e : suc (count - 1) ≡ count = omega arith in
-        no-place t i count (count - 1) j small (omega arith) (omega arith) l (rw e none) (f .run)
-    go (no m) =
-        no-place t i count 4 j small (omega arith) (omega arith) l
-        (rw (lt-ltb 1 count (omega arith), lt-ltb 2 count (omega arith), lt-ltb 3 count (omega arith), lt-ltb 4 count (omega arith)) at none) (f .run)
+place-out : (i j b c : ℕ) → Aligned c j → (b ≡ c) ⊎ ((5 ≤ b) × (c ≡ 5)) → Aligned b (4 * i + j)
+place-out i j b c (inl few) (inl same) = inl (omega arith)
+place-out i j b c (inl few) (inr both) = absurd (omega (arith, both .1))
+place-out i j b c (inr front) _ = inr (omega arith)
 
--- no run starts in byte i before entry n, if no entry before it has a bit
+-- what is left of byte i of the table, where count blocks are to start
+abbrev pub leftOf : List ℕ → ℕ → ℕ → ℕ
+leftOf t i count = left (freeBits (getD t i 0)) (freeBits (getD t (i + 1) 0)) (alignedBits count) (sparedOf count)
+
+module _ (t : List ℕ) (i count : ℕ) (small : (i : ℕ) → getD t i 0 < 256) where
+  -- the first c + 1 of the blocks are all, or five
+  module _ (c : ℕ) (hc : c < 5) (size : (count ≡ suc c) ⊎ ((5 ≤ count) × (suc c ≡ 5))) (same : leftOf t i count ≡ leftOf t i (suc c)) where
+    left-is : (j : ℕ) → entryOf (leftOf t i count) j ≡ leftAt (quad (getD t i 0)) (quad (getD t (i + 1) 0)) c j
+    left-is j = rw (same, free-bits (getD t i 0) (small i), free-bits (getD t (i + 1) 0) (small (i + 1)))
+
+    enough : suc c ≤ count
+    enough = ⊎-elim (λ e. omega arith) (λ e. omega (arith, e .0, e .1)) size
+
+    starts-at : MayStart (entriesOf t) count i (leftOf t i count)
+    starts-at = record {
+      none = λ j h z f. no-row (quad (getD t i 0)) (quad (getD t (i + 1) 0)) c j (quad-lt (getD t i 0)) (quad-lt (getD t (i + 1) 0)) hc h
+          (place-in i j count (suc c) (f .aligned) size) (rw (left-is j) at z)
+          (λ d m. let e : 4 * i + j + d ≡ 4 * i + (j + d) = omega arith in flag-at t i (j + d) small (omega arith) (rw e at (f .run .free d (omega (arith, enough)))));
+      aligned = λ j h some-bit.
+          place-out i j count (suc c)
+          (left-aligned (quad (getD t i 0)) (quad (getD t (i + 1) 0)) c j (quad-lt (getD t i 0)) (quad-lt (getD t (i + 1) 0)) hc h (rw (left-is j) at some-bit)) size;
+    }
+
+  pub may-start : 0 < count → MayStart (entriesOf t) count i (leftOf t i count)
+  may-start h = go (decLt count 5)
+    where
+      go : Dec (count < 5) → MayStart (entriesOf t) count i (leftOf t i count)
+      go (yes m) = let e : count ≡ suc (count - 1) = omega arith in starts-at (count - 1) (omega arith) (inl e) (ap (leftOf t i) e)
+      go (no m) =
+          starts-at 4 (omega arith) (inr (omega arith, refl))
+          (rw (le-ltb count 4 (omega arith), lt-ltb 1 count (omega arith), lt-ltb 2 count (omega arith), lt-ltb 3 count (omega arith), lt-ltb 4 count (omega arith)))
+
+-- blocks may not start in byte i before entry n, if no entry before it has a bit
 pub none-before : (es : List ℕ) (b i r n : ℕ) → n ≤ 4 → MayStart es b i r → ((j : ℕ) → j < n → entryOf r j ≡ 0) → NoStart es b (4 * i) (4 * i + n)
 none-before es b i r n h may none q l m run =
     let e : 4 * i + (q - 4 * i) ≡ q = omega arith in
-    may (q - 4 * i) (omega arith) (none (q - 4 * i) (omega arith)) (rw e run)
+    may .none (q - 4 * i) (omega arith) (none (q - 4 * i) (omega arith)) (rw e run)
 
 -- nor in all of it, if there is no bit at all
 pub none-at-all : (es : List ℕ) (b i r : ℕ) → MayStart es b i r → r ≡ 0 → NoStart es b (4 * i) (4 * i + 4)

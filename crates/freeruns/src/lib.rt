@@ -10,7 +10,7 @@ ghost use Rattle.rules.specs.Meaning.{Run};
 ghost use Rattle.rules.specs.Tests.{pick};
 ghost use Rattle.freeruns.specs.Rows.{Holds, LowerBits, Picks, Zeros, RowStarts, WholeRow, LongestRow};
 ghost use Rattle.freeruns.specs.Scans.{ReadOn};
-ghost use Rattle.freeruns.specs.Starts.{NoStart, MayStart};
+ghost use Rattle.freeruns.specs.Starts.{NoStart, MayStart, Skipped};
 use memory::Block;
 
 // The lower bit of each of 32 entries.
@@ -33,8 +33,17 @@ fn spared(i: usize, count: usize) -> u8
     255
 }
 
-// A bit for each entry of byte i at which a run of count blocks may start. Up to five blocks of a run are looked at, which lie in this byte
-// and the next.
+// A bit for each entry of a byte at which count blocks are aligned: all four, or the first alone.
+fn aligned_bits(count: usize) -> u8
+    ensures { λ r. ⌜ r ≡ pick (ltb count 4) 85 1 ⌝ }
+{
+    if count < 4 {
+        return 0x55;
+    }
+    1
+}
+
+// A bit for each entry of byte i at which count blocks may start. Up to five blocks of a run are looked at, which lie in this byte and the next.
 fn may_start(table: &[u8], i: usize, count: usize) -> u8
     requires { ⌜ (i + 1 < length (now table)) × (0 < count) ⌝ }
     ensures { λ r. ⌜ MayStart (entriesOf (now (table .entry))) count i r ⌝ }
@@ -44,13 +53,14 @@ fn may_start(table: &[u8], i: usize, count: usize) -> u8
     let free = !(a | (a >> 1)) & 0x55;
     let next = !(b | (b >> 1)) & 0x55;
     free
+        & aligned_bits(count)
         & ((free >> 2) | (next << 6) | spared(1, count))
         & ((free >> 4) | (next << 4) | spared(2, count))
         & ((free >> 6) | (next << 2) | spared(3, count))
         & (next | spared(4, count))
 }
 
-// Zero if no run of count blocks starts in the 16 bytes from byte i on. No early exit.
+// Zero if count blocks may start nowhere in the 16 bytes from byte i on. No early exit.
 fn may_start_in_16(table: &[u8], i: usize, count: usize) -> u8
     requires { ⌜ (i + 16 < length (now table)) × (0 < count) ⌝ }
     ensures { λ r. ⌜ (r ≡ 0 → NoStart (entriesOf (now (table .entry))) count (4 * i) (4 * i + 64)) ⌝ }
@@ -64,7 +74,7 @@ fn may_start_in_16(table: &[u8], i: usize, count: usize) -> u8
     any
 }
 
-// A byte from byte i on with no run of count blocks starting before it, found sixteen bytes at a time.
+// A byte from byte i on before which count blocks may start nowhere, found sixteen bytes at a time.
 fn pass_by_16(table: &[u8], i: usize, count: usize) -> usize
     requires { ⌜ (i ≤ length (now table)) × (0 < count) ⌝ }
     ensures { λ r. ⌜ (r ≤ length (now (table .entry))) × ((i ≤ r) × NoStart (entriesOf (now (table .entry))) count (4 * i) (4 * r)) ⌝ }
@@ -80,23 +90,24 @@ fn pass_by_16(table: &[u8], i: usize, count: usize) -> usize
     at
 }
 
-// A block from `from` on with no run of count blocks starting before it. Bytes are passed in which none starts, and behind them it is the
-// first block at which one may start. It is `from` itself if that lies inside a byte, in the last one, or in one in which a run may start.
+// A block from `from` on before which count blocks may start nowhere, and at which they are aligned. Bytes are passed in which they may not start, and behind
+// them it is the first block at which they may. It is the next aligned one if that lies inside a byte, in the last one, or in one in which they may start.
 pub fn skip(table: &[u8], from: Block, count: usize) -> Block
     requires { ⌜ (length (now table) ≤ 1024) × ((from .0 ≤ length (entriesOf (now table))) × (0 < count)) ⌝ }
-    ensures { λ r. ⌜ (r .0 ≤ length (entriesOf (now (table .entry)))) × ((from .0 ≤ r .0) × NoStart (entriesOf (now (table .entry))) count (from .0) (r .0)) ⌝ }
+    ensures { λ r. ⌜ Skipped (entriesOf (now (table .entry))) count (from .0) (r .0) ⌝ }
 {
-    let at = from.index();
+    let start = from.align_up(count);
+    let at = start.index();
     if at % 4 != 0 {
-        return from;
+        return start;
     }
     let n = table.len();
     let byte = at / 4;
     if n - byte < 2 {
-        return from;
+        return start;
     }
     if may_start(table, byte, count) != 0 {
-        return from;
+        return start;
     }
     let mut i = pass_by_16(table, byte + 1, count);
     while 1 < n - i {

@@ -18,11 +18,11 @@ use Rattle.plain.specs.Refines.{AnswersAsList, ListKeepsReachable, UsedIsSum}
 use Rattle.guarantees.specs.EntryPoints.{EntryPoints}
 
 pub record Guarantees : Type 2 where
-  -- The worked examples 1 to 12, a chain through the middle of an object and a rescan come out, the order of the marking shows in its rescans, and words have their lowest byte first; on a table of another form
+  -- The worked examples 1 to 12, a chain through the middle of an object, a rescan and large objects come out, the order of the marking shows in its rescans, and words have their lowest byte first; on a table of another form
   -- than the packed one the calls are refused as they should be.
   pub examples-hold : map (λ (x : Example). x .is) examples ≡ map (λ (x : Example). x .ought) examples
   pub orders-hold : map (λ (x : Example). x .is) orders ≡ map (λ (x : Example). x .ought) orders
-  pub examples-number : length examples ≡ 28
+  pub examples-number : length examples ≡ 40
   pub orders-number : length orders ≡ 4
   pub words-hold : (wordAt (0 ∷ 16 ∷ 0 ∷ 0 ∷ []) 0 ≡ 4096) × (bytesOf 4096 ≡ 0 ∷ 16 ∷ 0 ∷ 0 ∷ [])
   pub bytewise-refusals : BytewiseRefusals

@@ -5,57 +5,105 @@ use mathlib.Core.Logic.{_≢_}
 use mathlib.Core.Bool.{Bool, true, false}
 use mathlib.Core.List.{List, _∷_}
 use mathlib.Core.Option.{some, none}
-use Prim.Native.Nat.{ℕ, zero, suc, _+_, _-_, _≤_, _<_, max}
+use Prim.Native.Nat.{ℕ, zero, suc, _+_, _-_, _*_, _/_, _≤_, _<_, max}
 use native.Mathlib.Nat.{zero-max, max-zero}
 use native.Mathlib.Decide.{ℕ-discrete, decLt}
 use native.Mathlib.Omega.{arith}
-use lib.Dec.{leb}
+use lib.Dec.{eqb, leb, ltb}
 use lib.ListN.{length, drop, length-drop}
 use lib.Seq.{drop-cons, getD-drop, drop-length}
 use borrow.Author.Tests.{eq-eqb, ne-eqb, lt-ltb, le-ltb, leb-true, leb-false}
 use Rattle.rules.specs.Tests.{pick, count, leading}
 use Rattle.rules.specs.Entries.{FREE}
-use Rattle.rules.specs.Tables.{entryAt, isFree, isUsed, isHead, freeFrom, firstFit, used, objects, longest}
-use Rattle.rules.specs.Meaning.{Run, Fits, Lowest}
+use Rattle.rules.specs.Tables.{entryAt, isFree, isUsed, isHead, freeFrom, aligned, firstFit, used, objects, longest}
+use Rattle.rules.specs.Meaning.{Run, FirstAligned, Fits, Lowest}
 use Rattle.rules.proofs.Lists.{count-cons, leading-is}
-use Rattle.rules.proofs.Tables.{run-le, run-longest, first-is}
-use Rattle.plain.specs.Objects.{Object, end, total, find, lowestGap, longestGap, nextStart}
+use Rattle.rules.proofs.Tables.{run-le, run-longest, aligned-of, aligned-says, few-aligned, many-aligned, first-is}
+use Rattle.rules.proofs.Refusals.{true-not-false}
+use Rattle.plain.specs.Objects.{Object, end, total, find, placeFrom, lowestGap, longestGap, nextStart}
 use Rattle.plain.proofs.Laid.{Clear, Lies, lies-used, Laid, done, next, find-below}
+
+-- ---- the first place for b blocks
+
+place-says : (b from : ℕ) → FirstAligned b from (placeFrom b from)
+unfolding placeFrom
+place-says b from = go (decLt b 4)
+  where
+    go : Dec (b < 4) → FirstAligned b from (pick (ltb b 4) from (4 * ((from + 3) / 4)))
+    go (yes few) = rw (lt-ltb b 4 few) (few-aligned b from few)
+    go (no many) = rw (le-ltb b 4 (omega arith)) (many-aligned b from (omega arith))
+
+-- a block is its own first place exactly if b blocks are aligned there
+pub place-own : (b s : ℕ) → eqb (placeFrom b s) s ≡ aligned b s
+place-own b s = go (aligned b s) refl
+  where
+    p : FirstAligned b s (placeFrom b s)
+    p = place-says b s
+
+    go : (v : Bool) → aligned b s ≡ v → eqb (placeFrom b s) s ≡ v
+    go true e = eq-eqb (placeFrom b s) s (here (decLt s (placeFrom b s)))
+      where
+        here : Dec (s < placeFrom b s) → placeFrom b s ≡ s
+        here (yes l) = absurd (p .first s (omega arith) l (aligned-says b s e))
+        here (no l) = omega (arith, p .onward)
+    go false e = ne-eqb (placeFrom b s) s (λ same. true-not-false (aligned-of b s (rw same at (p .aligned))) e)
 
 -- ---- the lowest gap with room
 
+-- none fits before the first place of a gap, if none does before the gap
+fits-from : {es : List ℕ} {b from s : ℕ} → FirstAligned b from s → ((q : ℕ) → q < from → Fits es b q → ⊥) → (q : ℕ) → q < s → Fits es b q → ⊥
+fits-from {from} p lower q l f = go (decLt q from)
+  where
+    go : Dec (q < from) → ⊥
+    go (yes u) = lower q u f
+    go (no u) = p .first q (omega arith) l (f .aligned)
+
 module _ {pool es : List ℕ} (b : ℕ) (some-block : 0 < b) where
-  -- no blocks that fit reach into an object
-  fits-before : {from : ℕ} {o : Object} → Lies pool es o → ((q : ℕ) → q < from → Fits es b q → ⊥) → o .start < from + b → (q : ℕ) → q < end o → Fits es b q → ⊥
-  fits-before {from} {o} y lower l q h r = go (decLt q from) (decLt (o .start) q)
+  -- blocks that fit do not reach into an object
+  fits-before : {s : ℕ} {o : Object} → Lies pool es o → ((q : ℕ) → q < s → Fits es b q → ⊥) → o .start < s + b → (q : ℕ) → q < end o → Fits es b q → ⊥
+  fits-before {s} {o} y lower l q h f = go (decLt q s) (decLt (o .start) q)
     where
-      go : Dec (q < from) → Dec (o .start < q) → ⊥
-      go (yes u) _ = lower q u r
-      go (no u) (yes v) = let e : q + 0 ≡ q = omega arith in lies-used y q (omega arith) h (rw e at (r .run .free 0 some-block))
+      go : Dec (q < s) → Dec (o .start < q) → ⊥
+      go (yes u) _ = lower q u f
+      go (no u) (yes v) = let e : q + 0 ≡ q = omega arith in lies-used y q (omega arith) h (rw e at (f .run .free 0 some-block))
       go (no u) (no v) =
           let e : q + (o .start - q) ≡ o .start = omega arith in
           let p = y .some-block in
-          lies-used y (o .start) (omega arith) (omega arith) (rw e at (r .run .free (o .start - q) (omega arith)))
+          lies-used y (o .start) (omega arith) (omega arith) (rw e at (f .run .free (o .start - q) (omega arith)))
 
   gap-lowest : {from : ℕ} {os : List Object} → Laid pool es from os → ((q : ℕ) → q < from → Fits es b q → ⊥) → Lowest es b (lowestGap (length es) b from os)
   unfolding lowestGap Lowest
-  gap-lowest {from} (done r g) lower = go (leb (from + b) (length es)) refl
+  gap-lowest {from} (done r g) lower = go (leb (s + b) (length es)) refl
     where
-      go : (t : Bool) → leb (from + b) (length es) ≡ t → Lowest es b (pick t (some from) none)
+      s : ℕ
+      s = placeFrom b from
+
+      p : FirstAligned b from s
+      p = place-says b from
+
+      go : (t : Bool) → leb (s + b) (length es) ≡ t → Lowest es b (pick t (some s) none)
       go true e =
-          let l = leb-true (from + b) (length es) e in
-          (record { run = record { room = l; free = λ j h. g (from + j) (omega arith) (omega arith) } }, lower)
+          let l = leb-true (s + b) (length es) e in
+          let u = p .onward in
+          (record { aligned = p .aligned; run = record { room = l; free = λ j h. g (s + j) (omega arith) (omega arith) } }, fits-from p lower)
       go false e =
-          let l = leb-false (from + b) (length es) e in
-          λ q u. let m = u .run .room in lower q (omega arith) u
-  gap-lowest {from} (next {o = o} {os = os} l g y e r) lower = go (leb (from + b) (o .start)) refl (gap-lowest r)
+          let l = leb-false (s + b) (length es) e in
+          λ q f. let m = f .run .room in fits-from p lower q (omega arith) f
+  gap-lowest {from} (next {o = o} {os = os} l g y e r) lower = go (leb (s + b) (o .start)) refl (gap-lowest r)
     where
-      go : (t : Bool) → leb (from + b) (o .start) ≡ t → (((q : ℕ) → q < end o → Fits es b q → ⊥) → Lowest es b (lowestGap (length es) b (end o) os))
-          → Lowest es b (pick t (some from) (lowestGap (length es) b (end o) os))
+      s : ℕ
+      s = placeFrom b from
+
+      p : FirstAligned b from s
+      p = place-says b from
+
+      go : (t : Bool) → leb (s + b) (o .start) ≡ t → (((q : ℕ) → q < end o → Fits es b q → ⊥) → Lowest es b (lowestGap (length es) b (end o) os))
+          → Lowest es b (pick t (some s) (lowestGap (length es) b (end o) os))
       go true q rest =
-          let u = leb-true (from + b) (o .start) q in
-          (record { run = record { room = omega arith; free = λ j h. g (from + j) (omega arith) (omega arith) } }, lower)
-      go false q rest = rest (fits-before {from = from} y lower (leb-false (from + b) (o .start) q))
+          let u = leb-true (s + b) (o .start) q in
+          let v = p .onward in
+          (record { aligned = p .aligned; run = record { room = omega arith; free = λ j h. g (s + j) (omega arith) (omega arith) } }, fits-from p lower)
+      go false q rest = rest (fits-before {s = s} y (fits-from p lower) (leb-false (s + b) (o .start) q))
 
   pub laid-lowest : {os : List Object} → Laid pool es 0 os → firstFit es b ≡ lowestGap (length es) b 0 os
   laid-lowest {os} d = first-is es b (lowestGap (length es) b 0 os) some-block (gap-lowest d (λ q h. absurd (omega arith)))

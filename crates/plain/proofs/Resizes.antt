@@ -12,21 +12,22 @@ use lib.Dec.{eqb, leb, ltb}
 use lib.ListN.{length, getD, take, drop, replicate, length-drop, length-replicate}
 use lib.Seq.{sets, length-sets, length-take-le, getD-take}
 use borrow.Author.Tests.{ne-eqb, le-leb, lt-leb, leb-true, ltb-true, ltb-false, eqb-false}
-use Rattle.rules.specs.Tests.{pick}
+use Rattle.rules.specs.Tests.{pick, both}
 use Rattle.rules.specs.Words.{wordAt}
 use Rattle.rules.specs.Entries.{TAIL}
-use Rattle.rules.specs.Tables.{entryAt, freeFrom, firstFit, placed, released, extended, growsInPlace}
+use Rattle.rules.specs.Tables.{entryAt, freeFrom, firstFit, growsInPlace, placed, released, extended}
 use Rattle.rules.specs.Meaning.{Extent, Run}
 use Rattle.rules.specs.Outcomes.{Heap, unlessRefused, clearedBlocks}
 use Rattle.rules.specs.Refusals.{firstOf, noBytes, noRoom}
 use Rattle.rules.specs.Calls.{blocksFor, Way, stay, shrink, grow, isNoWay, shrunk, grown, moved, movesTo, wayToGrow, wayTo, along, reallocate}
 use Rattle.rules.specs.Runs.{Reallocate}
+use Rattle.rules.proofs.Refusals.{both-right}
 use Rattle.rules.proofs.Tables.{count-is, first-fits}
 use Rattle.rules.proofs.Changes.{placed-length, released-length, extended-length, released-in, released-out, extended-in, extended-out}
-use Rattle.plain.specs.Objects.{Object, object, Plain, end, padded, find, lowestGap, nextStart, insert, remove, replace}
+use Rattle.plain.specs.Objects.{Object, object, Plain, end, padded, find, placeFrom, lowestGap, nextStart, insert, remove, replace}
 use Rattle.plain.specs.Replies.{Reply, places, movedInto, resized, reply}
 use Rattle.plain.proofs.Laid.{Clear, Lies, Laid}
-use Rattle.plain.proofs.Gaps.{Gap, gap-free, next-gap}
+use Rattle.plain.proofs.Gaps.{place-own, Gap, gap-free, next-gap}
 use Rattle.plain.proofs.Words.{words-out, words-in, word-zero, word-front, word-behind, word-part, padded-front, padded-rest, padded-length}
 use Rattle.plain.proofs.Edits.{Edit, laid-lower, laid-raise, laid-kept, laid-replace}
 use Rattle.plain.proofs.Agrees.{Represents, represents-other, Agrees, agree-refused, agree-test, agree-heap, agree-named, agree-placing}
@@ -221,6 +222,9 @@ module _ {p : Plain} {h : Heap} (r : Represents p h) (o : Object) (q : find (o .
   abbrev roomAfter : Bool
   roomAfter = leb (o .start + c) (nextStart (p .size) (o .start) (p .objects))
 
+  abbrev mayGrow : Bool
+  mayGrow = both (eqb (placeFrom c (o .start)) (o .start)) roomAfter
+
   goes-stay : Goes asItIs stay
   unfolding unlessRefused firstOf along
   goes-stay = agree-placing r (o .start) (p .objects) h r
@@ -242,6 +246,10 @@ module _ {p : Plain} {h : Heap} (r : Represents p h) (o : Object) (q : find (o .
       let g = gap .from in
       leb-same (c - o .blocks) (freeFrom (h .entries) (end o)) (o .start + c) (nextStart (p .size) (o .start) (p .objects)) (λ i. omega arith) (λ i. omega arith)
 
+  grow-test : o .blocks < c → growsInPlace (h .entries) (o .start) (o .blocks) c ≡ mayGrow
+  unfolding growsInPlace
+  grow-test u = rw (gap-test u, place-own c (o .start))
+
   goes-grow : o .blocks < c → o .start + c ≤ nextStart (p .size) (o .start) (p .objects) → Goes extendedBy grow
   unfolding unlessRefused firstOf along grown clearedBlocks
   goes-grow u l =
@@ -258,24 +266,24 @@ module _ {p : Plain} {h : Heap} (r : Represents p h) (o : Object) (q : find (o .
       (represents-other r _ _ (length-sets (h .pool) (16 * s) (take (16 * o .blocks) (drop (16 * o .start) (h .pool)) ++ replicate (16 * (c - o .blocks)) 0)) (released-length (placed (h .entries) s c) (o .start) (o .blocks) ∙ placed-length (h .entries) s c)
       (move-laid (h .pool) (h .entries) (r .pool) o y (x .room) c u s (first-fits (h .entries) c s (omega arith) e .run) (r .laid) q))
 
-  goes-further : o .blocks < c → (t : Bool) → roomAfter ≡ t → Goes (pick t extendedBy movedAway) (pick t grow (movesTo (firstFit (h .entries) c)))
-  goes-further u true e = goes-grow u (leb-true _ _ e)
+  goes-further : o .blocks < c → (t : Bool) → mayGrow ≡ t → Goes (pick t extendedBy movedAway) (pick t grow (movesTo (firstFit (h .entries) c)))
+  goes-further u true e = goes-grow u (leb-true _ _ (both-right (eqb (placeFrom c (o .start)) (o .start)) roomAfter e))
   goes-further u false e = rw (low r c (omega arith)) (goes-move u (firstFit (h .entries) c) refl)
 
   pub resize-agrees : 0 < c → Goes (resized p o c) (wayTo (h .entries) (o .start) (o .blocks) c)
-  unfolding resized wayTo wayToGrow growsInPlace
+  unfolding resized wayTo wayToGrow
   resize-agrees l = same (eqb c (o .blocks)) refl
     where
-      more : o .blocks < c → Goes (pick roomAfter extendedBy movedAway) (wayToGrow (h .entries) (o .start) (o .blocks) c)
-      more u = rw (gap-test u) (goes-further u roomAfter refl)
+      more : o .blocks < c → Goes (pick mayGrow extendedBy movedAway) (wayToGrow (h .entries) (o .start) (o .blocks) c)
+      more u = rw (grow-test u) (goes-further u mayGrow refl)
 
       fewer : c ≢ o .blocks → (t : Bool) → ltb c (o .blocks) ≡ t
-          → Goes (pick t cutBack (pick roomAfter extendedBy movedAway)) (pick t shrink (wayToGrow (h .entries) (o .start) (o .blocks) c))
+          → Goes (pick t cutBack (pick mayGrow extendedBy movedAway)) (pick t shrink (wayToGrow (h .entries) (o .start) (o .blocks) c))
       fewer n true e = goes-shrink l (ltb-true _ _ e)
       fewer n false e = let u = ltb-false c (o .blocks) e in more (omega arith)
 
       same : (t : Bool) → eqb c (o .blocks) ≡ t
-          → Goes (pick t asItIs (pick (ltb c (o .blocks)) cutBack (pick roomAfter extendedBy movedAway)))
+          → Goes (pick t asItIs (pick (ltb c (o .blocks)) cutBack (pick mayGrow extendedBy movedAway)))
           (pick t stay (pick (ltb c (o .blocks)) shrink (wayToGrow (h .entries) (o .start) (o .blocks) c)))
       same true e = goes-stay
       same false e = fewer (eqb-false _ _ e) (ltb c (o .blocks)) refl

@@ -16,7 +16,7 @@ use Rattle.rules.specs.Forms.{packed}
 use Rattle.rules.specs.Calls.{blocksFor}
 use Rattle.rules.specs.Memory.{afterIn, answersIn}
 use Rattle.rules.proofs.Memory.{packed-faithful}
-use Rattle.plain.specs.Objects.{Object, object, total, find, lowestGap, insert, replace}
+use Rattle.plain.specs.Objects.{Object, object, total, find, placeFrom, lowestGap, insert, replace}
 use Rattle.plain.specs.Tracing.{isIn, ledTo, trace, among}
 use Rattle.plain.specs.Reaching.{Reachable, root, edge, Keeps}
 use Rattle.plain.specs.Replies.{places, allocatedAt, onObject, named, loadedFrom, storedIn, reply, left}
@@ -54,19 +54,19 @@ d = object 5 2 (set (replicate 8 0) 7 (addressOf runBase 4))
 
 -- the first word of e is the address of a, the last that of d
 abbrev e : Object
-e = object 7 4 (set (set (replicate 16 0) 0 (addressOf runBase 0)) 15 (addressOf runBase 5))
+e = object 8 4 (set (set (replicate 16 0) 0 (addressOf runBase 0)) 15 (addressOf runBase 5))
 
 -- the first word of f is the address of e
 abbrev f : Object
-f = object 11 1 (set (replicate 4 0) 0 (addressOf runBase 7))
+f = object 7 1 (set (replicate 4 0) 0 (addressOf runBase 8))
 
 -- all six, a and b with zeros
 abbrev filled : List Object
-filled = zeros 0 1 ∷ zeros 1 3 ∷ c ∷ d ∷ e ∷ f ∷ []
+filled = zeros 0 1 ∷ zeros 1 3 ∷ c ∷ d ∷ f ∷ e ∷ []
 
 -- the filling leaves these
 filling-left : left filling (record { size = 12; objects = [] }) .objects ≡ filled
-unfolding filling addressOf goodBase blocksFor total find lowestGap insert replace places allocatedAt onObject named loadedFrom storedIn reply left
+unfolding filling addressOf goodBase blocksFor total find placeFrom lowestGap insert replace places allocatedAt onObject named loadedFrom storedIn reply left
 filling-left = refl
 
 -- what the collection of the run keeps, with one mark stack entry
@@ -82,7 +82,7 @@ run-keeps = rw filling-left at (list-keeps-reachable 12 filling runBase 1 runRoo
 pub c-reachable : Reachable runBase filled runRoots c
 unfolding tabulate isIn ledTo addressOf
 c-reachable =
-    let r : Reachable runBase filled runRoots e = root {w = addressOf runBase 7} (List·Memᴰ·tail (List·Memᴰ·head refl)) refl in
+    let r : Reachable runBase filled runRoots e = root {w = addressOf runBase 8} (List·Memᴰ·tail (List·Memᴰ·head refl)) refl in
     let q : Reachable runBase filled runRoots d = edge {x = e} {w = addressOf runBase 5} r (of-at (e .words) 15 (omega arith)) refl in
     edge {x = d} {w = addressOf runBase 4} q (of-at (d .words) 7 (omega arith)) refl
 
@@ -91,7 +91,7 @@ pub c-kept : List·Memᴰ c kept
 c-kept = run-keeps .all c c-reachable
 
 -- no root and no word of another object leads to f
-all-but-f : Closed runBase filled runRoots (λ o. not (eqb (o .start) 11))
+all-but-f : Closed runBase filled runRoots (λ o. not (eqb (o .start) 7))
 unfolding allOf leadsInto tabulate isIn ledTo addressOf
 all-but-f = record { roots-in = tt; words-in = tt }
 

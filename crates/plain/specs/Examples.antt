@@ -1,4 +1,5 @@
--- The worked examples 1 to 11 and a chain, in heaps of 8 blocks at base 4,096, computed on the plain list: each call's answer and the list it leaves. And calls in a row.
+-- The worked examples 1 to 11, a chain and large objects, in heaps of 8, 12 or 16 blocks at base 4,096, computed on the plain list: each call's answer and the list it
+-- leaves. And calls in a row.
 -- Assumes nothing.
 use mathlib.Core.Path.{_≡_, refl}
 use mathlib.Core.Bool.{false}
@@ -18,7 +19,7 @@ use Rattle.rules.specs.Calls.{blocksFor, init}
 use Rattle.rules.specs.Runs.{Call, Init, Allocate, Free, Reallocate, Collect, Survey, Load, Store, Turn, step}
 use Rattle.rules.specs.Memory.{Memory, memory, AcceptedIn, orRefused, perform}
 use Rattle.rules.specs.Examples.{minus}
-use Rattle.plain.specs.Objects.{Object, object, Plain, total, find, lowestGap, longestGap, nextStart, insert, remove, replace}
+use Rattle.plain.specs.Objects.{Object, object, Plain, total, find, placeFrom, lowestGap, longestGap, nextStart, insert, remove, replace}
 use Rattle.plain.specs.Tracing.{isIn, ledTo, push, followTo, follow, followAll, emptyFor, empty, subtree, fromRootTo, fromRoots, goThrough, again, againFor, trace, among}
 use Rattle.plain.specs.Replies.{Reply, places, allocatedAt, onObject, named, movedInto, resized, collectedBy, loadedFrom, storedIn, reply, replies}
 use Rattle.plain.specs.Refines.{fromInit}
@@ -28,12 +29,18 @@ pub record Example : Type 0 where
   pub is : Reply
   pub ought : Reply
 
--- eight blocks with these objects
+-- n blocks with these objects
+abbrev pub blocks : ℕ → List Object → Plain
+blocks n os = record { size = n; objects = os }
+
 abbrev pub eight : List Object → Plain
-eight os = record { size = 8; objects = os }
+eight os = blocks 8 os
+
+abbrev pub exampleIn : ℕ → Reply → Answer → List Object → Example
+exampleIn n r a os = record { is = r; ought = record { answer = a; heap = blocks n os } }
 
 abbrev pub example : Reply → Answer → List Object → Example
-example r a os = record { is = r; ought = record { answer = a; heap = eight os } }
+example r a os = exampleIn 8 r a os
 
 -- b blocks from s on, all words zero
 abbrev pub zeros : ℕ → ℕ → Object
@@ -59,6 +66,17 @@ pointingInto = object 6 1 (set (replicate 4 0) 0 4128)
 
 abbrev pub chained : ℕ → List Object
 chained w = reaching w ∷ zeros 4 2 ∷ pointingInto ∷ []
+
+-- an object of an old heap: four blocks from block 1 on, where they would not be placed now
+abbrev pub old : List Object
+old = zeros 0 1 ∷ zeros 1 4 ∷ []
+
+-- the same among others: the four blocks that it gives back are no place for four
+abbrev pub oldFull : List Object
+oldFull = zeros 0 1 ∷ zeros 1 4 ∷ zeros 5 1 ∷ zeros 6 1 ∷ zeros 7 1 ∷ []
+
+abbrev pub oldFreed : List Object
+oldFreed = zeros 0 1 ∷ zeros 5 1 ∷ zeros 6 1 ∷ zeros 7 1 ∷ []
 
 unfoldable pub examples : List Example
 examples =
@@ -88,24 +106,40 @@ examples =
     ∷ example (reply (Collect 4096 (bytesOf 4192)) [] (eight (chained 4176))) (collectedTo 3 2 (pos 0)) (chained 4176)
     ∷ example (reply (Collect 4096 (bytesOf 4192)) (replicate 256 7) (eight (chained 4184))) (collectedTo 2 0 (minus 2)) (reaching 4184 ∷ pointingInto ∷ [])
     ∷ example (reply (Collect 4096 (bytesOf 4208)) (replicate 256 7) (eight (chained 4176))) (collectedTo 0 0 (minus 7)) []
+    -- four blocks pass by block 1, three get it, and growing to four they move
+    ∷ exampleIn 12 (reply (Allocate 4096 64) [] (blocks 12 (zeros 0 1 ∷ []))) (placedAt 4 (pos 4)) (zeros 0 1 ∷ zeros 4 4 ∷ [])
+    ∷ exampleIn 12 (reply (Allocate 4096 48) [] (blocks 12 (zeros 0 1 ∷ zeros 4 4 ∷ []))) (placedAt 1 (pos 3)) (zeros 0 1 ∷ zeros 1 3 ∷ zeros 4 4 ∷ [])
+    ∷ exampleIn 12 (reply (Reallocate 4096 1 64) [] (blocks 12 (zeros 0 1 ∷ zeros 1 3 ∷ zeros 4 4 ∷ []))) (placedAt 8 (pos 1)) (zeros 0 1 ∷ zeros 4 4 ∷ zeros 8 4 ∷ [])
+    -- from block 1, with room directly after: to three blocks in place, to four by a move
+    ∷ example (reply (Reallocate 4096 1 48) [] (eight (zeros 0 1 ∷ zeros 1 1 ∷ []))) (placedAt 1 (pos 2)) (zeros 0 1 ∷ zeros 1 3 ∷ [])
+    ∷ example (reply (Reallocate 4096 1 64) [] (eight (zeros 0 1 ∷ zeros 1 1 ∷ []))) (placedAt 4 (pos 3)) (zeros 0 1 ∷ zeros 4 4 ∷ [])
+    -- the object of an old heap shrinks and stays where it is, and growing it moves, or is refused
+    ∷ exampleIn 12 (reply (Reallocate 4096 1 48) [] (blocks 12 old)) (placedAt 1 (minus 1)) (zeros 0 1 ∷ zeros 1 3 ∷ [])
+    ∷ exampleIn 12 (reply (Reallocate 4096 1 64) [] (blocks 12 old)) (placedAt 1 (pos 0)) old
+    ∷ exampleIn 16 (reply (Reallocate 4096 1 65) [] (blocks 16 old)) (placedAt 8 (pos 1)) (zeros 0 1 ∷ zeros 8 5 ∷ [])
+    ∷ exampleIn 12 (reply (Reallocate 4096 1 65) [] (blocks 12 old)) (onlyRefusal 9) old
+    -- freed, it leaves no place for as many blocks again, though they are the longest gap
+    ∷ example (reply (Free 4096 1) [] (eight oldFull)) (placedAt 0 (minus 4)) oldFreed
+    ∷ example (reply (Allocate 4096 64) [] (eight oldFreed)) (onlyRefusal 9) oldFreed
+    ∷ example (reply (Survey 4096) [] (eight oldFreed)) (surveyed 4 4 4) oldFreed
     ∷ []
 
 -- there are so many
-pub examples-number : length examples ≡ 20
+pub examples-number : length examples ≡ 32
 unfolding examples
 examples-number = refl
 
 -- every example is as it should be
 pub examples-hold : map (λ (x : Example). x .is) examples ≡ map (λ (x : Example). x .ought) examples
-unfolding examples tabulate number bytesOf wordAt wordsOf addressOf goodBase wholeWords blocksFor total find lowestGap nextStart insert remove replace isIn ledTo push followTo follow followAll emptyFor empty subtree fromRootTo fromRoots goThrough again againFor trace among places allocatedAt onObject named movedInto resized collectedBy reply
+unfolding examples tabulate number bytesOf wordAt wordsOf addressOf goodBase wholeWords blocksFor total find placeFrom lowestGap longestGap nextStart insert remove replace isIn ledTo push followTo follow followAll emptyFor empty subtree fromRootTo fromRoots goThrough again againFor trace among places allocatedAt onObject named movedInto resized collectedBy reply
 examples-hold = refl
 
 -- ---- calls in a row
 
 -- Twelve blocks at base 0x20000000. A number is a block, and an arrow a word that holds an address:
 --
---     0     1  2  3     4     5  6     7  8  9 10     11
---    [a]   [b  b  b]   [c]   [d  d]   [e  e  e  e]   [f]      e → a (its first word), e → d, d → c (the last words), f → e
+--     0     1  2  3     4     5  6     7     8  9 10 11
+--    [a]   [b  b  b]   [c]   [d  d]   [f]   [e  e  e  e]      e → a (its first word), e → d, d → c (the last words), f → e
 --
 -- The roots are b and e, so f is unreachable. One mark stack entry is not enough for a and d, so there is a rescan.
 abbrev pub runBase : ℕ
@@ -115,22 +149,22 @@ runBase = 0x2000_0000
 abbrev pub bare : Call → Turn
 bare c = record { call = c; stack = [] }
 
--- the objects are allocated and linked; among the calls are refused ones (9, 8 and 1), and one on another base
+-- the objects are allocated, e past block 7, which f then gets, and linked; among the calls are refused ones (9, 8 and 1), and one on another base
 unfoldable pub filling : List Turn
 filling =
     map bare
     (Allocate runBase 16 ∷ Allocate runBase 33 ∷ Allocate runBase 1 ∷ Allocate runBase 32 ∷ Allocate runBase 64 ∷ Allocate runBase 15 ∷ Allocate runBase 1
-    ∷ Store runBase 7 0 (addressOf runBase 0) ∷ Store runBase 7 15 (addressOf runBase 5) ∷ Store runBase 5 7 (addressOf runBase 4)
-    ∷ Store runBase 11 0 (addressOf runBase 7) ∷ Store runBase 11 4 (addressOf runBase 7) ∷ Init 8 ∷ Load 4096 7 15 ∷ [])
+    ∷ Store runBase 8 0 (addressOf runBase 0) ∷ Store runBase 8 15 (addressOf runBase 5) ∷ Store runBase 5 7 (addressOf runBase 4)
+    ∷ Store runBase 7 0 (addressOf runBase 8) ∷ Store runBase 7 4 (addressOf runBase 8) ∷ Init 8 ∷ Load 4096 8 15 ∷ [])
 
 abbrev pub runRoots : List ℕ
-runRoots = addressOf runBase 1 ∷ addressOf runBase 7 ∷ []
+runRoots = addressOf runBase 1 ∷ addressOf runBase 8 ∷ []
 
 -- a collection; then f is no object any more, b is freed, and c grows by moving to where b was
 unfoldable pub ending : List Turn
 ending =
-    record { call = Collect runBase (bytesOf (addressOf runBase 1) ++ bytesOf (addressOf runBase 7)); stack = bytesOf 7 }
-    ∷ map bare (Survey runBase ∷ Load runBase 11 0 ∷ Load runBase 7 15 ∷ Free runBase 1 ∷ Reallocate runBase 4 40 ∷ Survey runBase ∷ [])
+    record { call = Collect runBase (bytesOf (addressOf runBase 1) ++ bytesOf (addressOf runBase 8)); stack = bytesOf 7 }
+    ∷ map bare (Survey runBase ∷ Load runBase 7 0 ∷ Load runBase 8 15 ∷ Free runBase 1 ∷ Reallocate runBase 4 40 ∷ Survey runBase ∷ [])
 
 abbrev pub run : List Turn
 run = fromInit runBase (filling ++ ending)
@@ -152,7 +186,7 @@ unfoldable pub runAnswers : List Answer
 runAnswers =
     onlyRefusal 0
     -- the filling
-    ∷ placedAt 0 (pos 1) ∷ placedAt 1 (pos 3) ∷ placedAt 4 (pos 1) ∷ placedAt 5 (pos 2) ∷ placedAt 7 (pos 4) ∷ placedAt 11 (pos 1) ∷ onlyRefusal 9
+    ∷ placedAt 0 (pos 1) ∷ placedAt 1 (pos 3) ∷ placedAt 4 (pos 1) ∷ placedAt 5 (pos 2) ∷ placedAt 8 (pos 4) ∷ placedAt 7 (pos 1) ∷ onlyRefusal 9
     ∷ onlyRefusal 0 ∷ onlyRefusal 0 ∷ onlyRefusal 0
     ∷ onlyRefusal 0 ∷ onlyRefusal 8 ∷ onlyRefusal 1 ∷ loaded 0x2000_0050
     -- the ending
@@ -160,5 +194,5 @@ runAnswers =
     ∷ surveyed 11 5 1 ∷ onlyRefusal 7 ∷ loaded 0x2000_0050 ∷ placedAt 0 (minus 3) ∷ placedAt 1 (pos 2) ∷ surveyed 10 4 1 ∷ []
 
 pub run-answers : replies run twelve ≡ runAnswers
-unfolding filling ending runAnswers tabulate number bytesOf wordAt wordsOf addressOf goodBase wholeWords blocksFor total find lowestGap longestGap nextStart insert remove replace isIn ledTo push followTo follow followAll emptyFor empty subtree fromRootTo fromRoots goThrough again againFor trace among places allocatedAt onObject named movedInto resized collectedBy loadedFrom storedIn reply replies
+unfolding filling ending runAnswers tabulate number bytesOf wordAt wordsOf addressOf goodBase wholeWords blocksFor total find placeFrom lowestGap longestGap nextStart insert remove replace isIn ledTo push followTo follow followAll emptyFor empty subtree fromRootTo fromRoots goThrough again againFor trace among places allocatedAt onObject named movedInto resized collectedBy loadedFrom storedIn reply replies
 run-answers = refl

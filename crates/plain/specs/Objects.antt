@@ -2,7 +2,7 @@
 -- Assumes nothing.
 use mathlib.Core.List.{List, [], _∷_, _++_}
 use mathlib.Core.Option.{Option, some, none}
-use Prim.Native.Nat.{ℕ, _+_, _-_, _*_, _≤_, _<_, max}
+use Prim.Native.Nat.{ℕ, _+_, _-_, _*_, _/_, _≤_, _<_, max}
 use lib.Dec.{eqb, leb, ltb}
 use lib.ListN.{replicate}
 use Rattle.rules.specs.Tests.{pick}
@@ -39,11 +39,15 @@ unfoldable pub find : ℕ → List Object → Option Object
 find k [] = none
 find k (o ∷ os) = pick (eqb (o .start) k) (some o) (find k os)
 
+-- the first place from block `from` on for b blocks: that block itself for fewer than four, else the next one that is a multiple of four
+unfoldable pub placeFrom : ℕ → ℕ → ℕ
+placeFrom b from = pick (ltb b 4) from (4 * ((from + 3) / 4))
+
 -- a gap lies before an object, or after the last: here from block `from` up to the start of the first object, or up to n blocks.
--- the lowest gap with room for b blocks gives the start
+-- the lowest gap with room for b blocks from the first place in it on gives that place
 unfoldable pub lowestGap : ℕ → ℕ → ℕ → List Object → Option ℕ
-lowestGap n b from [] = pick (leb (from + b) n) (some from) none
-lowestGap n b from (o ∷ os) = pick (leb (from + b) (o .start)) (some from) (lowestGap n b (end o) os)
+lowestGap n b from [] = pick (leb (placeFrom b from + b) n) (some (placeFrom b from)) none
+lowestGap n b from (o ∷ os) = pick (leb (placeFrom b from + b) (o .start)) (some (placeFrom b from)) (lowestGap n b (end o) os)
 
 -- the length of the longest gap
 unfoldable pub longestGap : ℕ → ℕ → List Object → ℕ

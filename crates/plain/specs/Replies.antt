@@ -14,7 +14,7 @@ use Rattle.rules.specs.Outcomes.{Answer, onlyRefusal, placedAt, collectedTo, su
 use Rattle.rules.specs.Refusals.{wholeWords}
 use Rattle.rules.specs.Calls.{blocksFor}
 use Rattle.rules.specs.Runs.{Call, Init, Allocate, Free, Reallocate, Collect, Survey, Load, Store, Turn}
-use Rattle.plain.specs.Objects.{Object, object, Plain, padded, total, find, lowestGap, longestGap, nextStart, insert, remove, replace}
+use Rattle.plain.specs.Objects.{Object, object, Plain, padded, total, find, placeFrom, lowestGap, longestGap, nextStart, insert, remove, replace}
 use Rattle.plain.specs.Tracing.{Traced, trace, among}
 
 -- an answer, and the heap that is left
@@ -57,12 +57,12 @@ unfoldable pub movedInto : Plain → Object → ℕ → Option ℕ → Reply
 movedInto p o c none = refuse 9 p
 movedInto p o c (some s) = places p s (remove (o .start) (insert (object s c (padded o c)) (p .objects)))
 
--- Reallocate to c blocks: as it is, fewer blocks, more in place, or by a move
+-- Reallocate to c blocks: as it is, fewer blocks, more in place where the object's start is a place for c, or by a move
 unfoldable pub resized : Plain → Object → ℕ → Reply
 resized p o c =
     pick (eqb c (o .blocks)) (places p (o .start) (p .objects))
     (pick (ltb c (o .blocks)) (places p (o .start) (replace (object (o .start) c (take (4 * c) (o .words))) (p .objects)))
-    (pick (leb (o .start + c) (nextStart (p .size) (o .start) (p .objects)))
+    (pick (both (eqb (placeFrom c (o .start)) (o .start)) (leb (o .start + c) (nextStart (p .size) (o .start) (p .objects))))
     (places p (o .start) (replace (object (o .start) c (padded o c)) (p .objects)))
     (movedInto p o c (lowestGap (p .size) c 0 (p .objects)))))
 

@@ -29,9 +29,12 @@ module _ (base : ℕ) (h : Heap) (s b : ℕ) (good : Passed base h) (some-block 
   abbrev es : List ℕ
   es = h .entries
 
-  run : Run es b s
+  fit : Fits es b s
   unfolding Lowest
-  run = low .0 .run
+  fit = low .0
+
+  run : Run es b s
+  run = fit .run
 
   -- the blocks have their bytes in the pool
   taken-inside : 16 * (s + b) ≤ length (h .pool)
@@ -60,6 +63,7 @@ module _ (base : ℕ) (h : Heap) (s b : ℕ) (good : Passed base h) (some-block 
   unfolding taken placing
   taken-allocated = record {
     start = low;
+    aligned = fit .aligned;
     head = placed-head es s b some-block (run .room);
     tail = λ j l r. placed-tail es s b j (run .room) l r;
     blocks = placed-count es s b some-block run (good .well);

@@ -1,4 +1,4 @@
--- An accepted free: the object's blocks are FREE, all else is as before, and there is room for as many blocks again.
+-- An accepted free: the object's blocks are FREE, all else is as before, and there is room for as many blocks again where they are aligned.
 -- Assumes nothing.
 use mathlib.Core.Path.{_≡_, refl, _∙_}
 use mathlib.Core.Logic.{_≢_}
@@ -61,7 +61,7 @@ module _ (base : ℕ) (h : Heap) (k : ℕ) (good : Passed base h) (object : Name
     change = free-change es k (object .head);
     counts = counts-of base h (placing h 0 (freedHeap h k)) (good .shape) (released-length es k b) refl;
     good = freed-good;
-    room = λ bytes more fewer. room-for base (freedHeap h k) bytes k freed-good more (record { run = run-shorter (freedHeap h k .entries) b (blocksFor bytes) k fewer freed-run });
+    room = λ bytes more fewer aligned. room-for base (freedHeap h k) bytes k freed-good more (record { aligned = aligned; run = run-shorter (freedHeap h k .entries) b (blocksFor bytes) k fewer freed-run });
   }
 
 pub freed : (base : ℕ) (h : Heap) (k : ℕ) → Accepted (free base h k) → Freed base h k (free base h k)

@@ -2,11 +2,11 @@
 -- Only the promises are used, never how a call is defined, so a promise that said less would not give these laws.
 -- Assumes nothing.
 use mathlib.Core.Path.{_≡_, refl, ap, ap₂, sym, _∙_}
-use mathlib.Core.Logic.{_≢_, _↔_, ⊎-elim, inl, inr}
+use mathlib.Core.Logic.{_≢_, _↔_, _⊎_, ⊎-elim, inl, inr}
 use mathlib.Core.Bool.{true, false}
 use mathlib.Core.List.{List, [], _∷_}
 use mathlib.Core.Option.{Option, none}
-use Prim.Native.Nat.{ℕ, zero, suc, _+_, _*_, _≤_, _<_}
+use Prim.Native.Nat.{ℕ, zero, suc, _+_, _-_, _*_, _/_, _%_, _≤_, _<_}
 use native.Mathlib.Decide.{decLt}
 use native.Mathlib.Omega.{arith}
 use lib.IntN.{ℤ, pos, negℤ, subℕ, _+ℤ_, natAbs}
@@ -292,43 +292,67 @@ collect-less base pool table roots stack accepted =
 
 -- ---- room
 
--- as many bytes as a freed object had, or fewer, can be allocated again
-pub free-again : (base : ℕ) (h : Heap) (k bytes : ℕ) → Accepted (free base h k) → 0 < bytes → bytes ≤ 16 * blocksOf h k
+-- as many bytes as a freed object had, or fewer, can be allocated again: from a block divisible by four, or up to 48 bytes
+pub free-again : (base : ℕ) (h : Heap) (k bytes : ℕ) → Accepted (free base h k) → 0 < bytes → bytes ≤ 16 * blocksOf h k → (k % 4 ≡ 0) ⊎ (bytes ≤ 48)
     → Accepted (allocate base (free base h k .heap) bytes)
-free-again base h k bytes accepted more fits =
+free-again base h k bytes accepted more fits place =
     promises .freed base h k accepted .room bytes more (promises .rounded-up bytes (blocksOf h k) .1 fits)
+    (⊎-elim inr (λ few. inl (omega (arith, promises .rounded-up bytes 3 .1 few))) place)
 
 module _ (base : ℕ) (h : Heap) (good : Passed base h) where
-  -- nowhere are b blocks FREE exactly if the longest run that a survey finds is shorter
-  run-short : (b : ℕ) → NoFit h b ↔ (survey base h .answer .longest < b)
-  run-short b = (short, nowhere)
+  longest-is : Longest (h .entries) (survey base h .answer .longest)
+  longest-is = survey-says base h good .longest
+
+  -- b blocks may start nowhere if the longest run that a survey finds is shorter
+  short-nowhere : (b : ℕ) → survey base h .answer .longest < b → NoFit h b
+  short-nowhere b less s f = omega (arith, longest-is .most b s (f .run))
+
+  -- and somewhere if it is three blocks longer than they are, for then it goes on long enough from an aligned block
+  long-somewhere : (b : ℕ) → b + 3 ≤ survey base h .answer .longest → ¬ NoFit h b
+  long-somewhere b more nowhere =
+      let l = longest-is in
+      let s : ℕ = 4 * ((l .start + 3) / 4) in
+      nowhere s (record {
+        aligned = inr (omega arith);
+        run = record {
+          room = omega (arith, l .run .room);
+          free = λ j h′. let e : l .start + (s - l .start + j) ≡ s + j = omega arith in rw e at (l .run .free (s - l .start + j) (omega arith));
+        };
+      })
+
+  -- fewer than four exactly if it is not shorter
+  few-short : (b : ℕ) → b < 4 → NoFit h b → survey base h .answer .longest < b
+  few-short b few nowhere = go (decLt (survey base h .answer .longest) b)
     where
-      l : Longest (h .entries) (survey base h .answer .longest)
-      l = survey-says base h good .longest
+      go : Dec (survey base h .answer .longest < b) → survey base h .answer .longest < b
+      go (yes less) = less
+      go (no more) =
+          absurd (nowhere (longest-is .start)
+          (record { aligned = inl few; run = run-shorter (h .entries) (survey base h .answer .longest) b (longest-is .start) (omega arith) (longest-is .run) }))
 
-      short : NoFit h b → survey base h .answer .longest < b
-      short none-fits = go (decLt (survey base h .answer .longest) b)
-        where
-          go : Dec (survey base h .answer .longest < b) → survey base h .answer .longest < b
-          go (yes less) = less
-          go (no more) = absurd (none-fits (l .start) (record { run = run-shorter (h .entries) (survey base h .answer .longest) b (l .start) (omega arith) (l .run) }))
-
-      nowhere : survey base h .answer .longest < b → NoFit h b
-      nowhere less s f = omega (arith, l .most b s (f .run))
-
-  -- so a survey tells whether an allocate finds room
-  pub allocate-survey : (bytes : ℕ) → 0 < bytes → (allocate base h bytes .answer .refusal ≡ 9) ↔ (survey base h .answer .longest < blocksFor bytes)
-  allocate-survey bytes more =
+  -- so a survey tells whether an allocate of up to 48 bytes finds room
+  pub allocate-survey : (bytes : ℕ) → 0 < bytes → bytes ≤ 48 → (allocate base h bytes .answer .refusal ≡ 9) ↔ (survey base h .answer .longest < blocksFor bytes)
+  allocate-survey bytes more few =
       let n = promises .allocate-no-room base h bytes in
-      (λ e. run-short (blocksFor bytes) .0 (n .0 e .2), λ less. n .1 (good, more, run-short (blocksFor bytes) .1 less))
+      (λ e. few-short (blocksFor bytes) (omega (arith, promises .rounded-up bytes 3 .1 few)) (n .0 e .2), λ less. n .1 (good, more, short-nowhere (blocksFor bytes) less))
 
-  -- and whether a reallocate does
-  pub reallocate-survey : (k bytes : ℕ) → 0 < bytes → Object h k
+  -- of a larger one it tells so where the run is too short, and where it has three blocks to spare
+  pub allocate-short : (bytes : ℕ) → 0 < bytes → survey base h .answer .longest < blocksFor bytes → allocate base h bytes .answer .refusal ≡ 9
+  allocate-short bytes more less = promises .allocate-no-room base h bytes .1 (good, more, short-nowhere (blocksFor bytes) less)
+
+  pub allocate-spare : (bytes : ℕ) → blocksFor bytes + 3 ≤ survey base h .answer .longest → allocate base h bytes .answer .refusal ≢ 9
+  allocate-spare bytes more e = long-somewhere (blocksFor bytes) more (promises .allocate-no-room base h bytes .0 e .2)
+
+  -- and whether a reallocate to up to 48 bytes does
+  pub reallocate-survey : (k bytes : ℕ) → 0 < bytes → bytes ≤ 48 → Object h k
       → (reallocate base h k bytes .answer .refusal ≡ 9)
       ↔ ((blocksOf h k < blocksFor bytes) × ¬ RoomAfter h k (blocksFor bytes) × (survey base h .answer .longest < blocksFor bytes))
-  reallocate-survey k bytes more head =
+  reallocate-survey k bytes more few head =
       let n = promises .reallocate-no-room base h k bytes in
-      (λ e. let w = n .0 e .3 in (w .0, w .1, run-short (blocksFor bytes) .0 (w .2)), λ w. n .1 (good, more, head, (w .0, w .1, run-short (blocksFor bytes) .1 (w .2))))
+      (
+        λ e. let w = n .0 e .3 in (w .0, w .1, few-short (blocksFor bytes) (omega (arith, promises .rounded-up bytes 3 .1 few)) (w .2)),
+        λ w. n .1 (good, more, head, (w .0, w .1, short-nowhere (blocksFor bytes) (w .2))),
+      )
 
 -- ---- calls that leave all as it is
 

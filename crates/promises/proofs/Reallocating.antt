@@ -10,7 +10,7 @@ use native.Mathlib.Omega.{arith}
 use lib.ListN.{length}
 use borrow.Author.Tests.{eqb-false}
 use Rattle.rules.specs.Tables.{blockCount, used, placed, released}
-use Rattle.rules.specs.Meaning.{Run, Lowest, GrowsInPlace, Extent, Passed, Named, Accepted}
+use Rattle.rules.specs.Meaning.{Run, Fits, Lowest, GrowsInPlace, Extent, Passed, Named, Accepted}
 use Rattle.rules.specs.Outcomes.{Heap, changeFrom}
 use Rattle.rules.specs.Refusals.{noBytes, outside, noHead, noRoom}
 use Rattle.rules.specs.Calls.{Way, stay, shrink, grow, move, noWay, isNoWay, along, shrunk, grown, moved, placing, blocksFor, reallocate, wayOf}
@@ -44,6 +44,7 @@ module _ (base : ℕ) (h : Heap) (k c : ℕ) (good : Passed base h) (object : Na
     equal = λ _. refl;
     in-place = λ _. refl;
     elsewhere = λ less full. absurd (omega arith);
+    aligned = λ less. absurd (omega arith);
     head = object .head;
     blocks = sym e;
     kept = λ i l r. refl;
@@ -74,6 +75,7 @@ module _ (base : ℕ) (h : Heap) (k c : ℕ) (good : Passed base h) (object : Na
       equal = λ e. absurd (omega arith);
       in-place = λ _. refl;
       elsewhere = λ less full. absurd (omega arith);
+      aligned = λ less. absurd (omega arith);
       head = released-out es (k + c) (b - c) k (λ p q. omega arith) ∙ object .head;
       blocks = shrunk-count es k (object .head) c some-block (omega arith);
       kept = λ i l r. refl;
@@ -116,6 +118,7 @@ module _ (base : ℕ) (h : Heap) (k c : ℕ) (good : Passed base h) (object : Na
       equal = λ e. absurd (omega arith);
       in-place = λ _. refl;
       elsewhere = λ less full. absurd (full grows);
+      aligned = λ less. grows .aligned;
       head = extended-out es (k + b) (c - b) k (λ p q. omega (arith, extent .some-block)) ∙ object .head;
       blocks = let e : b + (c - b) ≡ c = omega arith in grown-count es k (object .head) (c - b) (omega arith) after (good .well) ∙ e;
       kept = λ i l r. cleared-out (h .pool) (k + b) (c - b) (16 * k + i) (λ p q. omega arith);
@@ -137,9 +140,12 @@ module _ (base : ℕ) (h : Heap) (k c : ℕ) (good : Passed base h) (object : Na
   -- ---- more blocks elsewhere
 
   module _ (s : ℕ) (more : b < c) (full : ¬ GrowsInPlace es k b c) (low : Lowest es c (some s)) where
-    run : Run es c s
+    fit : Fits es c s
     unfolding Lowest
-    run = low .0 .run
+    fit = low .0
+
+    run : Run es c s
+    run = fit .run
 
     new-inside : 16 * (s + c) ≤ length (h .pool)
     new-inside = omega (arith, run .room, good .shape .pool)
@@ -167,6 +173,7 @@ module _ (base : ℕ) (h : Heap) (k c : ℕ) (good : Passed base h) (object : Na
       equal = λ e. absurd (omega arith);
       in-place = λ why. ⊎-elim (λ less. absurd (omega arith)) (λ room. absurd (full room)) why;
       elsewhere = λ less _. low;
+      aligned = λ less. fit .aligned;
       head = moved-head es k (object .head) c s some-block run;
       blocks = moved-count es k (object .head) c s some-block run (good .well);
       kept = λ i l r. moved-kept h k b c s old-inside (omega arith) new-inside i l;

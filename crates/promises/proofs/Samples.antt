@@ -13,7 +13,7 @@ use lib.ListN.{replicate}
 use Rattle.rules.specs.Tests.{count, leading, tabulate}
 use Rattle.rules.specs.Words.{number, bytesOf, wordAt, withWord, wordsOf}
 use Rattle.rules.specs.Entries.{HEAD, entryOf, entriesOf}
-use Rattle.rules.specs.Tables.{entryAt, mayFollow, wellAfter, wellFormed, blockCount, startOf, freeFrom, fits, firstFrom, firstFit, placed, released, extended, used, objects, longest, growsInPlace}
+use Rattle.rules.specs.Tables.{entryAt, mayFollow, wellAfter, wellFormed, blockCount, startOf, freeFrom, aligned, fits, firstFrom, firstFit, placed, released, extended, used, objects, longest, growsInPlace}
 use Rattle.rules.specs.Pointers.{addressOf, goodBase, targetOf, headsObject, headAt, leadsTo}
 use Rattle.rules.specs.Meaning.{Lowest, Longest, Points, PointsInto, Leads, ShapeInBytes, Passed, Accepted}
 use Rattle.rules.specs.Outcomes.{Heap, Answer, Outcome, heapOf, onlyRefusal, loaded, surveyed, leaves, changeFrom, unlessRefused, clearedBlocks}
@@ -34,7 +34,7 @@ use Rattle.promises.specs.Samples.{sampleBase, sampleTable, samplePool, 
 use Rattle.promises.proofs.Promised.{promises}
 use Rattle.promises.proofs.Bytes.{on-bytes}
 use Rattle.promises.proofs.Determined.{start-one, surveyed-one}
-use Rattle.promises.proofs.Observed.{Sums, allocate-number, free-number, reallocate-number, collect-number, store-number, refusals-alike, init-shape, init-bad-shape, target-one, lead-one, allocate-loads, free-loads, reallocate-loads, store-loads, collect-loads, new-zero, new-beyond, again-kept, again-zero, again-beyond, allocate-sums, free-sums, reallocate-sums, collect-sums, init-none-used, collect-less, free-again, allocate-survey, reallocate-survey, equal-then}
+use Rattle.promises.proofs.Observed.{Sums, allocate-number, free-number, reallocate-number, collect-number, store-number, refusals-alike, init-shape, init-bad-shape, target-one, lead-one, allocate-loads, free-loads, reallocate-loads, store-loads, collect-loads, new-zero, new-beyond, again-kept, again-zero, again-beyond, allocate-sums, free-sums, reallocate-sums, collect-sums, init-none-used, collect-less, free-again, allocate-survey, allocate-short, reallocate-survey, equal-then}
 
 -- ---- what is computed
 
@@ -49,7 +49,7 @@ pub record Computed : Type 0 where
   pub shape : ShapeInBytes base samplePool sampleTable
   pub well : wellFormed (h .entries) ≡ true
   pub heads : (entryAt (h .entries) 0 ≡ HEAD) × (entryAt (h .entries) 2 ≡ HEAD) × (entryAt (h .entries) 7 ≡ HEAD) × (entryAt (h .entries) 11 ≡ HEAD)
-  pub counts : (blocksOf h 0 ≡ 2) × (blocksOf h 2 ≡ 3)
+  pub counts : (blocksOf h 0 ≡ 2) × (blocksOf h 2 ≡ 3) × (blocksOf h 7 ≡ 1)
   pub findings : (used (h .entries) ≡ 7) × (objects (h .entries) ≡ 4) × (longest (h .entries) ≡ 3)
   pub starts : (firstFit (h .entries) 2 ≡ some 5) × (firstFit (h .entries) 3 ≡ some 8)
   -- the last word of each object
@@ -60,7 +60,7 @@ pub record Computed : Type 0 where
   -- these calls are accepted
   pub allocates : Accepted (allocate base h 17)
   pub frees : Accepted (free base h 2)
-  pub grows : Accepted (reallocate base h 2 80)
+  pub grows : Accepted (reallocate base h 7 48)
   pub shrinks : Accepted (reallocate base h 2 16)
   pub moves : Accepted (reallocate base h 0 48)
   pub stays : Accepted (reallocate base h 0 17)
@@ -69,12 +69,12 @@ pub record Computed : Type 0 where
   pub collects : Accepted (collect base h sampleRoots (sampleStack 256))
 
 pub computed : Computed
-unfolding count leading tabulate number bytesOf wordAt withWord wordsOf entryOf entriesOf mayFollow wellAfter wellFormed blockCount startOf freeFrom fits firstFrom firstFit placed released extended used objects longest addressOf goodBase targetOf headsObject headAt leadsTo changeFrom unlessRefused clearedBlocks firstOf goodShape wholeWords pushed visitTo visit walkWords walk drainFor drain trace rootTo markRoot markRoots passBlock passFrom pass rescanFor rescan markAll sweptEntry freeingAfter sweepFrom sweep blocksFor taken placing init allocate freed free shrunk grown moved movesTo growsInPlace wayToGrow wayTo along reallocate collecting collect survey load store
+unfolding count leading tabulate number bytesOf wordAt withWord wordsOf entryOf entriesOf mayFollow wellAfter wellFormed blockCount startOf freeFrom aligned fits firstFrom firstFit placed released extended used objects longest addressOf goodBase targetOf headsObject headAt leadsTo changeFrom unlessRefused clearedBlocks firstOf goodShape wholeWords pushed visitTo visit walkWords walk drainFor drain trace rootTo markRoot markRoots passBlock passFrom pass rescanFor rescan markAll sweptEntry freeingAfter sweepFrom sweep blocksFor taken placing init allocate freed free shrunk grown moved movesTo growsInPlace wayToGrow wayTo along reallocate collecting collect survey load store
 computed = record {
   shape = record { some = omega arith; few = omega arith; size = refl; aligned = refl; above = omega arith; below = omega arith };
   well = refl;
   heads = (refl, refl, refl, refl);
-  counts = (refl, refl);
+  counts = (refl, refl, refl);
   findings = (refl, refl, refl);
   starts = (refl, refl);
   last-0 = refl;
@@ -163,29 +163,29 @@ freed-used = used-after (free base h 2) (negℤ (pos 3)) 4 (free-sums base h goo
 
 -- its 48 bytes can be allocated again
 pub freed-room : Accepted (allocate base (free base h 2 .heap) 48)
-freed-room = free-again base h 2 48 (computed .frees) (omega arith) (omega (arith, computed .counts .1))
+freed-room = free-again base h 2 48 (computed .frees) (omega arith) (omega (arith, computed .counts .1)) (inr (omega arith))
 
--- ---- reallocate: the object of blocks 2 to 4 to five blocks and to one, that of blocks 0 and 1 to three and to two
+-- ---- reallocate: the object of block 7 to three blocks, that of blocks 2 to 4 to one, that of blocks 0 and 1 to three and to two
 
-room-after : RoomAfter h 2 (blocksFor 80)
+room-after : RoomAfter h 7 (blocksFor 48)
 unfolding blocksFor blockCount freeFrom leading entriesOf entryOf
-room-after = record { run = le-run (h .entries) 2 5 (omega arith) (omega arith) }
+room-after = record { aligned = inl (omega arith); run = le-run (h .entries) 2 8 (omega arith) (omega arith) }
 
-grown-at : reallocate base h 2 80 .answer .block ≡ 2
-grown-at = promises .reallocated base h 2 80 (computed .grows) .in-place (inr room-after)
+grown-at : reallocate base h 7 48 .answer .block ≡ 7
+grown-at = promises .reallocated base h 7 48 (computed .grows) .in-place (inr room-after)
 
 -- the old last word is kept, and the new one is 0
-pub grown-kept : load base (reallocate base h 2 80 .heap) 2 11 .answer ≡ loaded 305419896
+pub grown-kept : load base (reallocate base h 7 48 .heap) 7 3 .answer ≡ loaded 2596069104
 unfolding blocksFor
 grown-kept =
-    (rw grown-at at (again-kept base h 2 80 good (computed .heads .1) (computed .grows) 11 (omega (arith, computed .counts .1)) (omega arith))) ∙ computed .last-2
+    (rw grown-at at (again-kept base h 7 48 good (computed .heads .2) (computed .grows) 3 (omega (arith, computed .counts .2)) (omega arith))) ∙ computed .last-7
 
-pub grown-last : load base (reallocate base h 2 80 .heap) 2 19 .answer ≡ loaded 0
+pub grown-last : load base (reallocate base h 7 48 .heap) 7 11 .answer ≡ loaded 0
 unfolding blocksFor
-grown-last = rw grown-at at (again-zero base h 2 80 good (computed .heads .1) (computed .grows) 19 (omega (arith, computed .counts .1)) (omega arith))
+grown-last = rw grown-at at (again-zero base h 7 48 good (computed .heads .2) (computed .grows) 11 (omega (arith, computed .counts .2)) (omega arith))
 
-pub grown-beside : load base (reallocate base h 2 80 .heap) 7 3 .answer ≡ loaded 2596069104
-grown-beside = reallocate-loads base h good 2 80 (computed .grows) 7 (computed .heads .2) (λ e. omega arith) 3 ∙ computed .last-7
+pub grown-beside : load base (reallocate base h 7 48 .heap) 11 3 .answer ≡ loaded 4275878552
+grown-beside = reallocate-loads base h good 7 48 (computed .grows) 11 (computed .heads .3) (λ e. omega arith) 3 ∙ computed .last-11
 
 -- one block has four words
 shrunk-at : reallocate base h 2 16 .answer .block ≡ 2
@@ -254,21 +254,21 @@ survey-finds =
 -- 49 bytes are one block too many, and 193 more than the pool has
 pub allocate-full : allocate base h 49 .answer .refusal ≡ 9
 unfolding blocksFor
-allocate-full = allocate-survey base h good 49 (omega arith) .1 (omega (arith, survey-finds .2))
+allocate-full = allocate-short base h good 49 (omega arith) (omega (arith, survey-finds .2))
 
 pub allocate-fits : allocate base h 48 .answer .refusal ≢ 9
 unfolding blocksFor
-allocate-fits e = omega (arith, allocate-survey base h good 48 (omega arith) .0 e, survey-finds .2)
+allocate-fits e = omega (arith, allocate-survey base h good 48 (omega arith) (omega arith) .0 e, survey-finds .2)
 
 pub reallocate-full : reallocate base h 0 49 .answer .refusal ≡ 9
 unfolding blocksFor blockCount leading entriesOf entryOf
 reallocate-full =
-    reallocate-survey base h good 0 49 (omega arith) (computed .heads .0) .1
-    (omega arith, λ room. omega (arith, room .run .free 0 (omega arith)), omega (arith, survey-finds .2))
+    promises .reallocate-no-room base h 0 49 .1
+    (good, omega arith, computed .heads .0, (omega arith, λ room. omega (arith, room .run .free 0 (omega arith)), λ s f. omega (arith, sample-longest .most 4 s (f .run))))
 
 pub reallocate-fits : reallocate base h 0 48 .answer .refusal ≢ 9
 unfolding blocksFor
-reallocate-fits e = omega (arith, reallocate-survey base h good 0 48 (omega arith) (computed .heads .0) .0 e .2, survey-finds .2)
+reallocate-fits e = omega (arith, reallocate-survey base h good 0 48 (omega arith) (omega arith) (computed .heads .0) .0 e .2, survey-finds .2)
 
 pub allocate-too-much : allocate base h 193 .answer .refusal ≡ 9
 allocate-too-much = promises .allocate-larger base h 193 good (omega (arith, computed .shape .size))

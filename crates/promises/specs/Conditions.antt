@@ -24,11 +24,11 @@ unfoldable pub First : List Condition → ℕ → Type 0
 First [] r = r ≡ 0
 First (c ∷ cs) r = (c .holds × (r ≡ c .number)) ⊎ (¬ (c .holds) × First cs r)
 
--- the object at k, which is to have b' blocks, may get them where it is
+-- the object at k, which is to have b' blocks, may get them where it is: they are aligned there, and those that join it are FREE
 abbrev pub RoomAfter : Heap → ℕ → ℕ → Type 0
 RoomAfter h k b' = GrowsInPlace (h .entries) k (blockCount (h .entries) k) b'
 
--- nowhere may b blocks start
+-- b blocks may start nowhere: no run of FREE blocks is long enough from an aligned block on
 abbrev pub NoFit : Heap → ℕ → Type 0
 NoFit h b = (s : ℕ) → ¬ Fits (h .entries) b s
 

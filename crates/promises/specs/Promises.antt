@@ -11,7 +11,7 @@ use Rattle.rules.specs.Words.{number, bytesOf, wordsOf}
 use Rattle.rules.specs.Entries.{FREE, HEAD, TAIL}
 use Rattle.rules.specs.Tables.{entryAt, blockCount, used, objects}
 use Rattle.rules.specs.Pointers.{targetOf, leadsTo}
-use Rattle.rules.specs.Meaning.{Points, Leads, Lowest, Longest, Passed, Accepted}
+use Rattle.rules.specs.Meaning.{Points, Leads, Aligned, Lowest, Longest, Passed, Accepted}
 use Rattle.rules.specs.Outcomes.{Heap, Outcome, heapOf, onlyRefusal, loaded}
 use Rattle.rules.specs.Reach.{Reachable}
 use Rattle.rules.specs.Calls.{blocksFor, init, allocate, free, reallocate, collect, survey, load, store}
@@ -70,8 +70,10 @@ pub record Initialised (base : ℕ) (before : Heap) (r : Outcome) : Type 0 where
 
 -- an accepted allocate of b blocks
 pub record Allocated (base : ℕ) (before : Heap) (b : ℕ) (r : Outcome) : Type 0 where
-  -- it answers the lowest start at which b consecutive blocks were FREE
+  -- it answers the lowest block at which b blocks could start: aligned, and FREE
   pub start : Lowest (before .entries) b (some (r .answer .block))
+  -- so four blocks or more start at a block divisible by four
+  pub aligned : Aligned b (r .answer .block)
   -- there stand a HEAD and b - 1 TAILs
   pub head : Object (r .heap) (r .answer .block)
   pub tail : (j : ℕ) → 0 < j → j < b → entryAt (r .heap .entries) (r .answer .block + j) ≡ TAIL
@@ -104,17 +106,19 @@ pub record Freed (base : ℕ) (before : Heap) (k : ℕ) (r : Outcome) : Type 0 w
   pub counts : Counts before r
   -- the shape is good and the table well-formed
   pub good : Passed base (r .heap)
-  -- an allocate of as many blocks, or of fewer, then finds room
-  pub room : (bytes : ℕ) → 0 < bytes → blocksFor bytes ≤ blocksOf before k → Accepted (allocate base (r .heap) bytes)
+  -- an allocate of as many blocks, or of fewer, then finds room, if they are aligned at block k: it is divisible by four, or they are fewer than four
+  pub room : (bytes : ℕ) → 0 < bytes → blocksFor bytes ≤ blocksOf before k → Aligned (blocksFor bytes) k → Accepted (allocate base (r .heap) bytes)
 
 -- an accepted reallocate of the object k to b' blocks
 pub record Reallocated (base : ℕ) (before : Heap) (k b' : ℕ) (r : Outcome) : Type 0 where
   -- to as many blocks as it has: nothing changes
   pub equal : b' ≡ blocksOf before k → r .heap ≡ before
-  -- to no more, or where those directly after it are FREE, it stays where it is
+  -- to no more, or where b' blocks are aligned at k and those directly after it are FREE, it stays where it is
   pub in-place : (b' ≤ blocksOf before k) ⊎ RoomAfter before k b' → r .answer .block ≡ k
-  -- else it moves to the lowest start at which b' consecutive blocks were FREE, with the old object still held
+  -- else it moves to the lowest block at which b' blocks could start, with the old object still held
   pub elsewhere : blocksOf before k < b' → ¬ RoomAfter before k b' → Lowest (before .entries) b' (some (r .answer .block))
+  -- so to more blocks: four or more then start at a block divisible by four, wherever that is
+  pub aligned : blocksOf before k < b' → Aligned b' (r .answer .block)
   -- there it has b' blocks
   pub head : Object (r .heap) (r .answer .block)
   pub blocks : blocksOf (r .heap) (r .answer .block) ≡ b'
@@ -199,10 +203,10 @@ pub record Promises : Type 0 where
   pub store-refusal : (base : ℕ) (h : Heap) (k i w : ℕ) → First (ofWord base h k i) (store base h k i w .answer .refusal)
   -- the blocks of a request are the fewest that hold its bytes
   pub rounded-up : (bytes n : ℕ) → (blocksFor bytes ≤ n) ↔ (bytes ≤ 16 * n)
-  -- allocate answers 9 exactly if nothing else is refused and nowhere are enough consecutive blocks FREE
+  -- allocate answers 9 exactly if nothing else is refused and its blocks may start nowhere: no run of FREE blocks is long enough from an aligned block on
   pub allocate-no-room : (base : ℕ) (h : Heap) (bytes : ℕ)
       → (allocate base h bytes .answer .refusal ≡ 9) ↔ (Passed base h × (0 < bytes) × NoFit h (blocksFor bytes))
-  -- reallocate answers 9 exactly if nothing else is refused and the object has room neither where it is nor elsewhere
+  -- reallocate answers 9 exactly if nothing else is refused, and the object may neither grow where it is nor has room elsewhere
   pub reallocate-no-room : (base : ℕ) (h : Heap) (k bytes : ℕ)
       → (reallocate base h k bytes .answer .refusal ≡ 9) ↔ (Passed base h × (0 < bytes) × Object h k × NoWay h k (blocksFor bytes))
   -- so a request larger than the pool is 9

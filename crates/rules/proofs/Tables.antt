@@ -5,18 +5,18 @@ use mathlib.Core.Logic.{_≢_, _⊎_, inl, inr, ⊎-elim}
 use mathlib.Core.Bool.{Bool, true, false, not}
 use mathlib.Core.List.{List, [], _∷_}
 use mathlib.Core.Option.{Option, some, none}
-use Prim.Native.Nat.{ℕ, zero, suc, _+_, _-_, _≤_, _<_}
+use Prim.Native.Nat.{ℕ, zero, suc, _+_, _-_, _*_, _/_, _%_, _≤_, _<_}
 use native.Mathlib.Nat.{eq-or-lt-of-le}
 use native.Mathlib.Decide.{ℕ-discrete, decLt}
 use native.Mathlib.Omega.{arith}
-use lib.Dec.{eqb}
+use lib.Dec.{eqb, leb, ltb}
 use lib.ListN.{length, drop, length-drop, List·getD-eq-default}
 use lib.Seq.{drop-nil, getD-drop}
-use borrow.Author.Tests.{eqb-true, eqb-false, eq-eqb, ne-eqb, leb-true, le-leb}
-use Rattle.rules.specs.Tests.{pick, both, leading}
+use borrow.Author.Tests.{eqb-true, eqb-false, eq-eqb, ne-eqb, leb-true, le-leb, ltb-true, lt-ltb}
+use Rattle.rules.specs.Tests.{pick, both, either, leading}
 use Rattle.rules.specs.Entries.{FREE, HEAD, TAIL, MARK}
-use Rattle.rules.specs.Tables.{entryAt, isFree, isUsed, isHead, isTail, mayFollow, wellAfter, wellFormed, blockCount, startOf, freeFrom, fits, firstFrom, firstFit, growsInPlace, used, objects, longest}
-use Rattle.rules.specs.Meaning.{Well, Extent, Start, Run, Fits, Lowest, GrowsInPlace, Longest}
+use Rattle.rules.specs.Tables.{entryAt, isFree, isUsed, isHead, isTail, mayFollow, wellAfter, wellFormed, blockCount, startOf, freeFrom, aligned, fits, firstFrom, firstFit, growsInPlace, used, objects, longest}
+use Rattle.rules.specs.Meaning.{Well, Extent, Start, Run, Aligned, FirstAligned, Fits, Lowest, GrowsInPlace, Longest}
 use Rattle.rules.proofs.Refusals.{true-not-false, both-left, both-right}
 use Rattle.rules.proofs.Lists.{count-le, leading-le, leading-pass, leading-stop, leading-more}
 
@@ -235,15 +235,43 @@ run-next es b s w h r t =
     let e : s + b ≡ suc (s + (b - 1)) = omega arith in
     well-says es w .after (s + (b - 1)) (rw (← e) (entry-inside es (s + b) (λ f. omega arith))) (rw e at t) (r .free (b - 1) (omega arith))
 
+-- ---- aligned
+
+pub aligned-of : (b s : ℕ) → Aligned b s → aligned b s ≡ true
+unfolding aligned
+aligned-of b s (inl few) = rw (lt-ltb b 4 few)
+aligned-of b s (inr front) = rw (eq-eqb (s % 4) 0 front) (go (ltb b 4))
+  where
+    go : (v : Bool) → either v true ≡ true
+    go true = refl
+    go false = refl
+
+pub aligned-says : (b s : ℕ) → aligned b s ≡ true → Aligned b s
+unfolding aligned
+aligned-says b s e = go (ltb b 4) refl e
+  where
+    go : (v : Bool) → ltb b 4 ≡ v → either v (eqb (s % 4) 0) ≡ true → Aligned b s
+    go true few _ = inl (ltb-true b 4 few)
+    go false _ front = inr (eqb-true (s % 4) 0 front)
+
+-- the next such block is the next number divisible by four, or the block itself for fewer than four
+pub few-aligned : (b s : ℕ) → b < 4 → FirstAligned b s s
+few-aligned b s few = record { onward = omega arith; aligned = inl few; first = λ q l r. absurd (omega arith) }
+
+pub many-aligned : (b s : ℕ) → 4 ≤ b → FirstAligned b s (4 * ((s + 3) / 4))
+many-aligned b s many = record { onward = omega arith; aligned = inr (omega arith); first = λ q l r. ⊎-elim (λ few. omega arith) (λ front. omega arith) }
+
 -- ---- the lowest start
 
 pub fits-of : (es : List ℕ) (b s : ℕ) → Fits es b s → fits es b s ≡ true
 unfolding fits
-fits-of es b s f = le-leb b (freeFrom es s) (run-le es b s (f .run))
+fits-of es b s f = both-of (aligned b s) (leb b (freeFrom es s)) (aligned-of b s (f .aligned)) (le-leb b (freeFrom es s) (run-le es b s (f .run)))
 
 pub fits-says : (es : List ℕ) (b s : ℕ) → 0 < b → fits es b s ≡ true → Fits es b s
 unfolding fits
-fits-says es b s h f = record { run = le-run es b s (omega (arith, leb-true b (freeFrom es s) f, free-room es s)) (leb-true b (freeFrom es s) f) }
+fits-says es b s h f =
+    let l = leb-true b (freeFrom es s) (both-right (aligned b s) (leb b (freeFrom es s)) f) in
+    record { aligned = aligned-says b s (both-left (aligned b s) (leb b (freeFrom es s)) f); run = le-run es b s (omega (arith, free-room es s)) l }
 
 -- the search, with nothing found below s, and m starts left
 first-says : (es : List ℕ) (b m s : ℕ) → 0 < b → s + m ≡ length es → ((q : ℕ) → q < s → Fits es b q → ⊥) → Lowest es b (firstFrom es b m s)
@@ -307,11 +335,15 @@ fits-skip es b s i lower h taken q l r = go (decLt q s)
 module _ (es : List ℕ) (k b c : ℕ) where
   pub grows-of : GrowsInPlace es k b c → growsInPlace es k b c ≡ true
   unfolding growsInPlace
-  grows-of g = le-leb (c - b) (freeFrom es (k + b)) (run-le es (c - b) (k + b) (g .run))
+  grows-of g =
+      both-of (aligned c k) (leb (c - b) (freeFrom es (k + b))) (aligned-of c k (g .aligned)) (le-leb (c - b) (freeFrom es (k + b)) (run-le es (c - b) (k + b) (g .run)))
 
   pub grows-says : k + b ≤ length es → growsInPlace es k b c ≡ true → GrowsInPlace es k b c
   unfolding growsInPlace
-  grows-says inside e = record { run = le-run es (c - b) (k + b) inside (leb-true (c - b) (freeFrom es (k + b)) e) }
+  grows-says inside e = record {
+    aligned = aligned-says c k (both-left (aligned c k) (leb (c - b) (freeFrom es (k + b))) e);
+    run = le-run es (c - b) (k + b) inside (leb-true (c - b) (freeFrom es (k + b)) (both-right (aligned c k) (leb (c - b) (freeFrom es (k + b))) e));
+  }
 
 -- ---- the longest run
 

@@ -1,4 +1,5 @@
--- The worked examples 1 to 12, a chain and a rescan, in heaps of 8 blocks at base 4,096, computed: each call's answer, and the table, the pool and the mark stack it leaves.
+-- The worked examples 1 to 12, a chain, a rescan and large objects, in heaps of 8, 12 or 16 blocks at base 4,096, computed: each call's answer, and the table, the pool and
+-- the mark stack it leaves.
 -- Assumes nothing.
 use mathlib.Core.Path.{_≡_, refl}
 use mathlib.Core.List.{List, [], _∷_, _++_, map}
@@ -8,12 +9,12 @@ use lib.ListN.{length, replicate}
 use Rattle.rules.specs.Tests.{count, leading, tabulate}
 use Rattle.rules.specs.Words.{number, bytesOf, wordAt, wordsOf}
 use Rattle.rules.specs.Entries.{entryOf, entriesOf, tableOf}
-use Rattle.rules.specs.Tables.{mayFollow, wellAfter, wellFormed, blockCount, startOf, freeFrom, fits, firstFrom, firstFit, growsInPlace, placed, released, extended, used, objects}
+use Rattle.rules.specs.Tables.{mayFollow, wellAfter, wellFormed, blockCount, startOf, freeFrom, aligned, fits, firstFrom, firstFit, growsInPlace, placed, released, extended, used, objects, longest}
 use Rattle.rules.specs.Pointers.{addressOf, goodBase, targetOf, headsObject, headAt, leadsTo}
-use Rattle.rules.specs.Outcomes.{Heap, Answer, Outcome, heapOf, onlyRefusal, changeFrom, placedAt, collectedTo, unlessRefused, clearedBlocks}
+use Rattle.rules.specs.Outcomes.{Heap, Answer, Outcome, heapOf, onlyRefusal, changeFrom, placedAt, collectedTo, surveyed, unlessRefused, clearedBlocks}
 use Rattle.rules.specs.Refusals.{firstOf, goodShape, wholeWords}
 use Rattle.rules.specs.Marking.{pushed, visitTo, visit, walkWords, walk, drainFor, drain, trace, rootTo, markRoot, markRoots, passBlock, passFrom, pass, rescanFor, rescan, markAll, sweptEntry, freeingAfter, sweepFrom, sweep}
-use Rattle.rules.specs.Calls.{blocksFor, taken, placing, allocate, freed, free, shrunk, grown, moved, movesTo, wayToGrow, wayTo, along, reallocate, collecting, collect}
+use Rattle.rules.specs.Calls.{blocksFor, taken, placing, allocate, freed, free, shrunk, grown, moved, movesTo, wayToGrow, wayTo, along, reallocate, collecting, collect, survey}
 
 -- what an example shows of an outcome: the answer and all that the lent memory then holds, in bytes
 pub record Shown : Type 0 where
@@ -54,6 +55,13 @@ stale = fives 16 ++ sevens 112
 -- a table of two bytes over that pool
 abbrev pub small : ℕ → ℕ → Heap
 small a b = heapOf stale (a ∷ b ∷ [])
+
+-- tables of three and of four bytes over such pools
+abbrev pub medium : ℕ → ℕ → ℕ → Heap
+medium a b c = heapOf (stale ++ sevens 64) (a ∷ b ∷ c ∷ [])
+
+abbrev pub large : ℕ → ℕ → ℕ → ℕ → Heap
+large a b c d = heapOf (stale ++ sevens 128) (a ∷ b ∷ c ∷ d ∷ [])
 
 -- word 0 of block 4 holds the address of block 0, given in bytes: after the 64 bytes of blocks 0 to 3
 abbrev pub linkedPool : List ℕ
@@ -115,10 +123,26 @@ examples =
     ∷ example (allocate 4096 (small 8 0) 0) (onlyRefusal 2) (8 ∷ 0 ∷ []) stale
     -- a refused collection leaves the mark stack too
     ∷ collects (collect 4096 (small 3 0) [] (sevens 8)) (onlyRefusal 2) (3 ∷ 0 ∷ []) stale (sevens 8)
+    -- four blocks pass by block 1, three get it, and growing to four they move
+    ∷ example (allocate 4096 (medium 1 0 0) 64) (placedAt 4 (pos 4)) (1 ∷ 169 ∷ 0 ∷ []) (fives 16 ++ sevens 48 ++ zeros 64 ++ sevens 64)
+    ∷ example (allocate 4096 (medium 1 169 0) 48) (placedAt 1 (pos 3)) (165 ∷ 169 ∷ 0 ∷ []) (fives 16 ++ zeros 48 ++ sevens 128)
+    ∷ example (reallocate 4096 (medium 165 169 0) 1 64) (placedAt 8 (pos 1)) (1 ∷ 169 ∷ 169 ∷ []) (stale ++ sevens 48 ++ zeros 16)
+    -- from block 1, with room directly after: to three blocks in place, to four by a move
+    ∷ example (reallocate 4096 (small 5 0) 1 48) (placedAt 1 (pos 2)) (165 ∷ 0 ∷ []) (fives 16 ++ sevens 16 ++ zeros 32 ++ sevens 64)
+    ∷ example (reallocate 4096 (small 5 0) 1 64) (placedAt 4 (pos 3)) (1 ∷ 169 ∷ []) (fives 16 ++ sevens 64 ++ zeros 48)
+    -- a table of an old heap, with an object of four blocks at block 1: fewer and as many stay, more move, or are refused
+    ∷ example (reallocate 4096 (medium 165 2 0) 1 48) (placedAt 1 (minus 1)) (165 ∷ 0 ∷ 0 ∷ []) (stale ++ sevens 64)
+    ∷ example (reallocate 4096 (medium 165 2 0) 1 64) (placedAt 1 (pos 0)) (165 ∷ 2 ∷ 0 ∷ []) (stale ++ sevens 64)
+    ∷ example (reallocate 4096 (large 165 2 0 0) 1 65) (placedAt 8 (pos 1)) (1 ∷ 0 ∷ 169 ∷ 2 ∷ []) (stale ++ sevens 64 ++ zeros 16 ++ sevens 48)
+    ∷ example (reallocate 4096 (medium 165 2 0) 1 65) (onlyRefusal 9) (165 ∷ 2 ∷ 0 ∷ []) (stale ++ sevens 64)
+    -- freed, such an object leaves no start for as many blocks again, though they are the longest run
+    ∷ example (free 4096 (small 165 86) 1) (placedAt 0 (minus 4)) (1 ∷ 84 ∷ []) stale
+    ∷ example (allocate 4096 (small 1 84) 64) (onlyRefusal 9) (1 ∷ 84 ∷ []) stale
+    ∷ example (survey 4096 (small 1 84)) (surveyed 4 4 4) (1 ∷ 84 ∷ []) stale
     ∷ []
 
 -- there are so many
-pub examples-number : length examples ≡ 28
+pub examples-number : length examples ≡ 40
 unfolding examples
 examples-number = refl
 
@@ -129,5 +153,5 @@ words-hold = (refl, refl)
 
 -- every example is as it should be
 pub examples-hold : map (λ (x : Example). x .is) examples ≡ map (λ (x : Example). x .ought) examples
-unfolding examples count leading tabulate number bytesOf wordAt wordsOf entryOf entriesOf tableOf mayFollow wellAfter wellFormed blockCount startOf freeFrom fits firstFrom firstFit growsInPlace placed released extended used objects addressOf goodBase targetOf headsObject headAt leadsTo changeFrom unlessRefused clearedBlocks firstOf goodShape wholeWords pushed visitTo visit walkWords walk drainFor drain trace rootTo markRoot markRoots passBlock passFrom pass rescanFor rescan markAll sweptEntry freeingAfter sweepFrom sweep blocksFor taken placing allocate freed free shrunk grown moved movesTo wayToGrow wayTo along reallocate collecting collect
+unfolding examples count leading tabulate number bytesOf wordAt wordsOf entryOf entriesOf tableOf mayFollow wellAfter wellFormed blockCount startOf freeFrom aligned fits firstFrom firstFit growsInPlace placed released extended used objects longest addressOf goodBase targetOf headsObject headAt leadsTo changeFrom unlessRefused clearedBlocks firstOf goodShape wholeWords pushed visitTo visit walkWords walk drainFor drain trace rootTo markRoot markRoots passBlock passFrom pass rescanFor rescan markAll sweptEntry freeingAfter sweepFrom sweep blocksFor taken placing allocate freed free shrunk grown moved movesTo wayToGrow wayTo along reallocate collecting collect survey
 examples-hold = refl

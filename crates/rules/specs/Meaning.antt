@@ -77,9 +77,21 @@ pub record Run (es : List ℕ) (b s : ℕ) : Type 0 where
   -- and FREE
   pub free : (j : ℕ) → j < b → entryAt es (s + j) ≡ FREE
 
+-- b blocks are aligned at block s: there are fewer than four, or s is divisible by four
+abbrev pub Aligned : ℕ → ℕ → Type 0
+Aligned b s = (b < 4) ⊎ (s % 4 ≡ 0)
+
+-- block r is the first from block s on at which b blocks are aligned
+pub record FirstAligned (b s r : ℕ) : Type 0 where
+  pub onward : s ≤ r
+  pub aligned : Aligned b r
+  pub first : (q : ℕ) → s ≤ q → q < r → Aligned b q → ⊥
+
 -- b blocks may start at block s
 pub record Fits (es : List ℕ) (b s : ℕ) : Type 0 where
-  -- they are a run of FREE blocks
+  -- they are aligned there
+  pub aligned : Aligned b s
+  -- and they are a run of FREE blocks
   pub run : Run es b s
 
 -- what the answer of a search says: the lowest block at which b blocks may start, or that there is none
@@ -89,7 +101,9 @@ Lowest es b none = (q : ℕ) → Fits es b q → ⊥
 
 -- the object of b blocks at k may get more, c in all, where it is
 pub record GrowsInPlace (es : List ℕ) (k b c : ℕ) : Type 0 where
-  -- the blocks that join it, directly after it, are a run of FREE blocks
+  -- c blocks are aligned there
+  pub aligned : Aligned c k
+  -- and those that join it, directly after it, are a run of FREE blocks
   pub run : Run es (c - b) (k + b)
 
 -- l is the length of the longest run of FREE blocks

@@ -3,11 +3,11 @@
 use mathlib.Core.Bool.{Bool, true, false, not}
 use mathlib.Core.List.{List, [], _∷_}
 use mathlib.Core.Option.{Option, some, none}
-use Prim.Native.Nat.{ℕ, zero, suc, _+_, _-_, max}
-use lib.Dec.{eqb, leb}
+use Prim.Native.Nat.{ℕ, zero, suc, _+_, _-_, _%_, max}
+use lib.Dec.{eqb, leb, ltb}
 use lib.ListN.{getD, drop, replicate}
 use lib.Seq.{sets}
-use Rattle.rules.specs.Tests.{pick, both, count, leading}
+use Rattle.rules.specs.Tests.{pick, both, either, count, leading}
 use Rattle.rules.specs.Entries.{FREE, HEAD, TAIL, MARK}
 
 -- the entry of block k; outside the table, FREE
@@ -52,9 +52,13 @@ startOf es (suc k) = pick (isTail (entryAt es (suc k))) (startOf es k) (suc k)
 unfoldable pub freeFrom : List ℕ → ℕ → ℕ
 freeFrom es s = leading isFree (drop s es)
 
--- b blocks may start at block s: they are blocks of the table, and FREE
+-- b blocks are aligned at block s: fewer than four are at every block, four or more at a block number divisible by four
+unfoldable pub aligned : ℕ → ℕ → Bool
+aligned b s = either (ltb b 4) (eqb (s % 4) 0)
+
+-- b blocks may start at block s: they are aligned there, and they are blocks of the table, and FREE
 unfoldable pub fits : List ℕ → ℕ → ℕ → Bool
-fits es b s = leb b (freeFrom es s)
+fits es b s = both (aligned b s) (leb b (freeFrom es s))
 
 -- the first of m starts from s on at which b blocks fit
 unfoldable pub firstFrom : List ℕ → ℕ → ℕ → ℕ → Option ℕ
@@ -65,9 +69,10 @@ firstFrom es b (suc m) s = elim (fits es b s) [ true ↦ some s | false ↦ firs
 unfoldable pub firstFit : List ℕ → ℕ → Option ℕ
 firstFit es b = firstFrom es b (lib.ListN.length es) 0
 
--- the object of b blocks at k may get more, c in all, where it is: the blocks that join it, directly after it, are blocks of the table, and FREE
+-- the object of b blocks at k may get more, c in all, where it is: c blocks are aligned there, and those that join it, directly after it, are
+-- blocks of the table, and FREE
 unfoldable pub growsInPlace : List ℕ → ℕ → ℕ → ℕ → Bool
-growsInPlace es k b c = leb (c - b) (freeFrom es (k + b))
+growsInPlace es k b c = both (aligned c k) (leb (c - b) (freeFrom es (k + b)))
 
 -- the entries with a new object of b blocks at s: a HEAD and b - 1 TAILs
 unfoldable pub placed : List ℕ → ℕ → ℕ → List ℕ

@@ -44,6 +44,9 @@ pub fn grows_in_place(table: &[u8], k: Block, old: usize, new: usize) -> bool
     requires { ⌜ (length (now table) ≤ 1024) × ((k .0 + old ≤ length (entriesOf (now table))) × (old ≤ new)) ⌝ }
     ensures { λ r. ⌜ r ≡ growsInPlace (entriesOf (now (table .entry))) (k .0) old new ⌝ }
 {
+    if !k.is_aligned(new) {
+        return false;
+    }
     let end = k.plus(old);
     let more = new - old;
     if end.until(entries::blocks(table)) < more {
@@ -52,7 +55,7 @@ pub fn grows_in_place(table: &[u8], k: Block, old: usize, new: usize) -> bool
     free_blocks(table, end, more) == more
 }
 
-// The lowest start at which count blocks fit.
+// The lowest block at which count blocks may start.
 pub fn first_fit(table: &[u8], count: usize) -> Found
     requires { ⌜ (length (now table) ≤ 1024) × (0 < count) ⌝ }
     ensures { λ r. ⌜ found r ≡ firstFit (entriesOf (now (table .entry))) count ⌝ }

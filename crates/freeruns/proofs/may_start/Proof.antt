@@ -14,6 +14,9 @@ add-b c = search needs
 shared-slice-read-b : tie.Need-shared-slice-read-b
 shared-slice-read-b c = search needs
 
+aligned-bits-requires : tie.Need-aligned-bits-requires
+aligned-bits-requires c κs = search needs
+
 spared-requires : tie.Need-spared-requires
 spared-requires c κs = search needs
 
@@ -28,9 +31,9 @@ spared-requires-4 c κs = search needs
 
 returns : tie.Need-returns
 returns c =
-    let s = c .before .before .before .before .before .before .before in
-    rw (c .before .before .before .spared .ensures, c .before .before .spared2 .ensures, c .before .spared3 .ensures, c .spared4 .ensures)
-    (may-start (s .args .table .now) (s .args .i) (s .args .count) (λ k. c .before .before .before .before .shared-slice-known3 .given k .fits) (s .pre .1))
+    let s = c .before .before .before .before .before .before .before .before in
+    rw (c .before .before .before .before .aligned-bits .ensures, c .before .before .before .spared .ensures, c .before .before .spared2 .ensures, c .before .spared3 .ensures, c .spared4 .ensures)
+    (may-start (s .args .table .now) (s .args .i) (s .args .count) (λ k. c .before .before .before .before .before .shared-slice-known3 .given k .fits) (s .pre .1))
 
 pub may-start-spec : {M : Type 1} → statement M
 may-start-spec =
@@ -39,6 +42,7 @@ may-start-spec =
     shared-slice-read-a
     add-b
     shared-slice-read-b
+    aligned-bits-requires
     spared-requires
     spared-requires-2
     spared-requires-3
