@@ -8,6 +8,7 @@ use Rattle.promises.proofs.Bytes.{on-bytes}
 use Rattle.promises.proofs.Promised.{promises}
 use Rattle.promises.proofs.Determined.{determined}
 use Rattle.promises.proofs.Whole.{whole}
+use Rattle.promises.proofs.Alignment.{new-objects-aligned, aligned-from-init}
 use Rattle.algebra.proofs.Algebra.{frees-commute, roots-are-a-set, roots-join, collect-idempotent}
 use Rattle.runs.proofs.Noninterference.{noninterference}
 use Rattle.plain.proofs.Refinement.{answers-as-list}
@@ -29,6 +30,8 @@ guarantees = record {
   promises = promises;
   determined = determined;
   whole = whole;
+  new-objects-aligned = new-objects-aligned;
+  aligned-from-init = aligned-from-init;
   keeps-exactly = keeps-exactly;
   any-stack = any-stack;
   frees-commute = frees-commute;

@@ -12,6 +12,7 @@ use Rattle.keeping.specs.Keeping.{KeepsExactly, AnyStack}
 use Rattle.promises.specs.Bytes.{OnBytes}
 use Rattle.promises.specs.Promises.{Promises}
 use Rattle.promises.specs.Determined.{Determined, Whole}
+use Rattle.promises.specs.Alignment.{NewObjectsAligned, AlignedFromInit}
 use Rattle.algebra.specs.Algebra.{FreesCommute, RootsAreASet, RootsJoin, CollectIdempotent}
 use Rattle.runs.specs.Noninterference.{Noninterference}
 use Rattle.plain.specs.Refines.{AnswersAsList, ListKeepsReachable, UsedIsSum}
@@ -35,6 +36,9 @@ pub record Guarantees : Type 2 where
   -- That leaves one outcome: the same answer, the same entries and the same bytes; and no call changes the size of the heap.
   pub determined : Determined
   pub whole : Whole
+  -- An object of four blocks or more that is made or gets more blocks starts at a block divisible by four, and from an accepted init on every such object does.
+  pub new-objects-aligned : NewObjectsAligned
+  pub aligned-from-init : AlignedFromInit
   -- A collection keeps exactly the reachable objects, and the mark stack has no influence on it.
   pub keeps-exactly : KeepsExactly
   pub any-stack : AnyStack

@@ -12,4 +12,5 @@ pub mod Promised
 pub mod Determined
 pub mod Whole
 pub mod Observed
+pub mod Alignment
 pub mod Samples

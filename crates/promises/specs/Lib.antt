@@ -2,4 +2,5 @@ pub mod Conditions
 pub mod Promises
 pub mod Bytes
 pub mod Determined
+pub mod Alignment
 pub mod Samples

@@ -1,0 +1,35 @@
+-- Where large objects start. No call makes an object of four blocks or more that starts at a block not divisible by four, nor gives one more blocks; so from init on
+-- there is none. Tables of old heaps may have some: they are left where they are.
+-- Assumes nothing.
+use mathlib.Core.Logic.{_⊎_}
+use mathlib.Core.List.{List}
+use Prim.Native.Nat.{ℕ, _≤_}
+use Rattle.rules.specs.Meaning.{Aligned}
+use Rattle.rules.specs.Outcomes.{Heap}
+use Rattle.rules.specs.Forms.{Form, Faithful}
+use Rattle.rules.specs.Runs.{Init, Turn}
+use Rattle.rules.specs.Memory.{Memory, heapIn, AcceptedIn, perform, afterIn}
+use Rattle.promises.specs.Promises.{Object, blocksOf}
+
+-- every object is aligned: it has fewer than four blocks, or starts at a block divisible by four
+abbrev pub AllAligned : Heap → Type 0
+AllAligned h = (o : ℕ) → Object h o → Aligned (blocksOf h o) o
+
+-- the object o was there before, with as many blocks or more
+pub record Older (before after : Heap) (o : ℕ) : Type 0 where
+  pub head : Object before o
+  pub blocks : blocksOf after o ≤ blocksOf before o
+
+-- every object is aligned, unless it was there before with as many blocks or more
+abbrev pub NewAligned : Heap → Heap → Type 0
+NewAligned before after = (o : ℕ) → Object after o → Aligned (blocksOf after o) o ⊎ Older before after o
+
+-- Every list of calls, refused ones included, leaves such a heap of whatever heap the memory held, for every form of the table.
+abbrev pub NewObjectsAligned : Type 0
+NewObjectsAligned = (f : Form) → Faithful f → (ts : List Turn) (m : Memory) → NewAligned (heapIn f m) (heapIn f (afterIn f ts m))
+
+-- From an accepted init on, every object is aligned after every list of calls.
+abbrev pub AlignedFromInit : Type 0
+AlignedFromInit =
+    (f : Form) → Faithful f → (base : ℕ) (stack : List ℕ) (ts : List Turn) (m : Memory) → AcceptedIn (perform f (Init base) stack m)
+    → AllAligned (heapIn f (afterIn f ts (perform f (Init base) stack m .memory)))
