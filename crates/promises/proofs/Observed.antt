@@ -348,8 +348,7 @@ module _ (base : ℕ) (h : Heap) (good : Passed base h) where
       → (reallocate base h k bytes .answer .refusal ≡ 9)
       ↔ ((blocksOf h k < blocksFor bytes) × ¬ RoomAfter h k (blocksFor bytes) × (survey base h .answer .longest < blocksFor bytes))
   reallocate-survey k bytes more few head =
-      let n = promises .reallocate-no-room base h k bytes in
-      (
+      let n = promises .reallocate-no-room base h k bytes in (
         λ e. let w = n .0 e .3 in (w .0, w .1, few-short (blocksFor bytes) (omega (arith, promises .rounded-up bytes 3 .1 few)) (w .2)),
         λ w. n .1 (good, more, head, (w .0, w .1, short-nowhere (blocksFor bytes) (w .2))),
       )
