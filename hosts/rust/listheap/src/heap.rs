@@ -4,6 +4,8 @@ use crate::Refusal;
 
 pub(crate) const BLOCK_BYTES: u64 = 16;
 pub(crate) const WORDS_PER_BLOCK: u64 = 4;
+const LARGE_BLOCKS: u64 = 4;
+const LARGE_ALIGNMENT: u64 = 4;
 
 #[derive(Clone, Debug, PartialEq, Eq)]
 pub struct Object {
@@ -70,7 +72,7 @@ impl ListHeap {
     pub fn reallocate(&mut self, block: u64, bytes: u64) -> Result<Placed, Refusal> {
         let blocks = blocks_for(bytes)?;
         let index = self.index_of(block)?;
-        let start = if blocks <= self.room_in_place(index) {
+        let start = if self.may_stay(index, blocks) {
             block
         } else {
             self.room_for(blocks).ok_or(Refusal::NoRoom)?
@@ -148,12 +150,23 @@ impl ListHeap {
             .collect()
     }
 
-    /// The lowest start of a free run of so many blocks.
+    /// The lowest aligned start of so many free blocks.
     fn room_for(&self, blocks: u64) -> Option<u64> {
-        self.gaps().into_iter().find(|(start, end)| end - start >= blocks).map(|(start, _)| start)
+        self.gaps().into_iter().find_map(|(start, end)| {
+            let aligned = start.next_multiple_of(alignment(blocks));
+            (aligned + blocks <= end).then_some(aligned)
+        })
     }
 
-    /// How many blocks the object may have without moving.
+    /// Whether the object may have so many blocks without moving: to grow it must also stand where an
+    /// object of its new size may begin.
+    fn may_stay(&self, index: usize, blocks: u64) -> bool {
+        let Object { start, blocks: had, .. } = self.objects[index];
+        let grows_here = start % alignment(blocks) == 0 && blocks <= self.room_in_place(index);
+        blocks <= had || grows_here
+    }
+
+    /// How many blocks the object and the free ones directly after it are.
     fn room_in_place(&self, index: usize) -> u64 {
         let end = self.objects.get(index + 1).map_or(self.blocks, |next| next.start);
         end - self.objects[index].start
@@ -162,6 +175,15 @@ impl ListHeap {
     fn insert(&mut self, object: Object) {
         let index = self.objects.partition_point(|other| other.start < object.start);
         self.objects.insert(index, object);
+    }
+}
+
+/// An object of so many blocks begins at a multiple of this.
+fn alignment(blocks: u64) -> u64 {
+    if blocks < LARGE_BLOCKS {
+        1
+    } else {
+        LARGE_ALIGNMENT
     }
 }
 
