@@ -73,17 +73,28 @@ static uint64_t blocks_for(uint64_t bytes)
     return bytes / BLOCKHEAP_BLOCK_BYTES + (bytes % BLOCKHEAP_BLOCK_BYTES != 0);
 }
 
+/* The first place at or after `block` where an object of so many blocks may begin. */
+static size_t align(size_t block, uint64_t wanted)
+{
+    return wanted < 4 ? block : (block + 3) / 4 * 4;
+}
+
 static bool find_run(const uint8_t *table, size_t blocks, uint64_t wanted, size_t *start)
 {
     for (size_t from = 0; from < blocks; from++) {
         size_t end = end_of(table, from, blocks, BLOCKHEAP_FREE);
-        if (end - from >= wanted) {
-            *start = from;
+        *start = align(from, wanted);
+        if (*start + wanted <= end)
             return true;
-        }
         from = end;
     }
     return false;
+}
+
+/* Whether the free blocks directly after an object let it have so many blocks where it is. */
+static bool can_grow(const uint8_t *table, size_t blocks, size_t head, size_t end, uint64_t wanted)
+{
+    return align(head, wanted) == head && head + wanted <= end_of(table, end, blocks, BLOCKHEAP_FREE);
 }
 
 static void place(uint8_t *table, size_t start, size_t blocks)
@@ -174,7 +185,7 @@ uint32_t blockheap_reallocate(uint64_t base, uint8_t *pool, size_t pool_len, uin
         return BLOCKHEAP_NO_ROOM;
     if (wanted <= had) {
         set_entries(table, block + wanted, end, BLOCKHEAP_FREE);
-    } else if (end_of(table, end, blocks, BLOCKHEAP_FREE) - block >= wanted) {
+    } else if (can_grow(table, blocks, block, end, wanted)) {
         set_entries(table, end, block + wanted, BLOCKHEAP_TAIL);
         clear(pool, end, block + wanted);
     } else if (find_run(table, blocks, wanted, &start)) {
