@@ -44,7 +44,7 @@ fn a_buffer_grows_moves_and_is_collected() -> Result<(), Refusal> {
 fn an_object_is_all_bytes_of_its_blocks() -> Result<(), Refusal> {
     let mut memory = Memory::<1024>::new();
     let mut heap = memory.init(BASE)?;
-    let blocks = (1..=70).chain([511, 512, 513]);
+    let blocks = (1..=68).chain([511, 512, 513]);
     let objects: Vec<(Block, usize)> = blocks
         .map(|blocks| Ok((heap.allocate(16 * blocks as u64 - 3)?.block, 16 * blocks)))
         .collect::<Result<_, Refusal>>()?;

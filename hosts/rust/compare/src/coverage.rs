@@ -141,7 +141,7 @@ mod tests {
     use super::*;
     use crate::second;
 
-    /// An object in block 0, and one in blocks 1 to 310 of 320.
+    /// An object in block 0, and one in blocks 4 to 313 of 320.
     fn heap() -> Lent {
         let mut lent = Lent::new(4096, &[0; 64 * 80], &[0; 80]);
         for bytes in [1, 16 * 310] {
@@ -173,15 +173,15 @@ mod tests {
 
     #[test]
     fn telling_words_are_seen() {
-        check(1, 0, &[]);
-        check(2, 0, &["a tail"]);
-        check(300, 0, &["a tail"]);
-        check(301, 0, &["a tail", "a far tail"]);
-        check(310, 0, &["a tail", "a far tail"]);
-        check(311, 0, &["behind an object"]);
-        check(312, 0, &[]);
-        check(310, 1, &["inside a block"]);
-        check(311, 1, &[]);
+        check(4, 0, &[]);
+        check(5, 0, &["a tail"]);
+        check(303, 0, &["a tail"]);
+        check(304, 0, &["a tail", "a far tail"]);
+        check(313, 0, &["a tail", "a far tail"]);
+        check(314, 0, &["behind an object"]);
+        check(315, 0, &[]);
+        check(313, 1, &["inside a block"]);
+        check(314, 1, &[]);
         check(320, 0, &[]);
     }
 }
