@@ -2,26 +2,10 @@
 //! number does not show, and words of which it matters where they lead.
 
 use crate::readings::{self, collect_reading, reads_otherwise, right, Reading};
+use crate::situations::{Made, SITUATIONS};
 use crate::{on_list, Buffer, Call, Lent, Reply};
 use std::collections::BTreeMap;
 use std::fmt::Write;
-
-/// Situations of an accepted call: which call, what it is called, and whether a reply shows it.
-type Situation = (&'static str, &'static str, fn(&Call, &Reply) -> bool);
-
-const SITUATIONS: [Situation; 11] = [
-    ("reallocate", "as many blocks", |_, reply| reply.parts["change"] == 0),
-    ("reallocate", "fewer blocks", |_, reply| reply.parts["change"] < 0),
-    ("reallocate", "grown in place", |call, reply| grown(reply) && !moved(call, reply)),
-    ("reallocate", "moved", |call, reply| grown(reply) && moved(call, reply)),
-    ("collect", "nothing kept", |_, reply| reply.parts["kept"] == 0),
-    ("collect", "some kept, some freed", |_, reply| kept(reply) && reply.parts["change"] < 0),
-    ("collect", "nothing freed", |_, reply| kept(reply) && reply.parts["change"] == 0),
-    ("collect", "one rescan", |_, reply| reply.parts["rescans"] == 1),
-    ("collect", "two or more rescans", |_, reply| reply.parts["rescans"] > 1),
-    ("survey", "no free block", |_, reply| reply.parts["longest"] == 0),
-    ("survey", "more than 32 in a row", |_, reply| reply.parts["longest"] > 32),
-];
 
 /// Words that tell a right collection from a wrong one: what they are called, and how the wrong one reads
 /// its roots and the words of its objects. It keeps more objects, or fewer.
@@ -49,18 +33,6 @@ fn telling_words(before: &Lent, kept: i64) -> [bool; TELLING_WORDS.len()] {
     })
 }
 
-fn grown(reply: &Reply) -> bool {
-    reply.parts["change"] > 0
-}
-
-fn moved(call: &Call, reply: &Reply) -> bool {
-    matches!(call, Call::Reallocate { block, .. } if reply.parts["block"] != *block as i64)
-}
-
-fn kept(reply: &Reply) -> bool {
-    reply.parts["kept"] > 0
-}
-
 /// Each call with each refusal number that it can give.
 fn reachable() -> impl Iterator<Item = (&'static str, u32)> {
     let calls = Call::DESCRIPTIONS.iter();
@@ -82,9 +54,9 @@ impl Coverage {
     pub fn count(&mut self, call: &Call, before: &Lent, reply: &Reply) {
         let name = call.description().name;
         *self.numbers.entry((name, reply.refusal)).or_default() += 1;
-        for (count, (of_call, _, shown)) in self.situations.iter_mut().zip(SITUATIONS) {
-            let seen = of_call == name && reply.refusal == 0 && shown(call, reply);
-            *count += u64::from(seen);
+        let made = Made { call, before, reply };
+        for (count, situation) in self.situations.iter_mut().zip(&SITUATIONS) {
+            *count += u64::from(made.shows(situation));
         }
         if let (0, Call::Collect) = (reply.refusal, call) {
             let telling = telling_words(before, reply.parts["kept"]);
@@ -96,7 +68,10 @@ impl Coverage {
 
     /// Each situation and each kind of telling words, and how often it was seen.
     fn seen(&self) -> impl Iterator<Item = (String, u64)> + '_ {
-        let situations = SITUATIONS.iter().map(|(call, name, _)| format!("{call}: {name}"));
+        let situations = SITUATIONS.iter().map(|(call, refusal, name, _)| match refusal {
+            0 => format!("{call}: {name}"),
+            _ => format!("{call} refused: {name}"),
+        });
         let telling_words = TELLING_WORDS.iter().map(|(name, _)| format!("collect: {name}"));
         let counts = self.situations.iter().chain(&self.telling_words).copied();
         situations.chain(telling_words).zip(counts)

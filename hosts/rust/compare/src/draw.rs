@@ -199,7 +199,10 @@ pub fn call(random: &mut Random, lent: &mut Lent) -> Call {
         0 => Call::Init,
         1..=74 => Call::Allocate { bytes: bytes(random, lent) },
         75..=104 => Call::Free { block: block(random, lent) },
-        105..=169 => Call::Reallocate { block: block(random, lent), bytes: bytes(random, lent) },
+        105..=169 => {
+            let block = block(random, lent);
+            Call::Reallocate { block, bytes: new_bytes(random, lent, block) }
+        }
         170..=214 => {
             draw_roots(random, lent);
             lent[Stack] = Guarded::new(&stack(random));
@@ -227,6 +230,15 @@ fn bytes(random: &mut Random, lent: &Lent) -> u64 {
         3 | 4 => random.between(1, pool),
         5 => 16 * random.between(1, 4),
         _ => random.between(1, 100),
+    }
+}
+
+/// Any number of bytes, or from a block less than the object has to four blocks more.
+fn new_bytes(random: &mut Random, lent: &Lent, block: u64) -> u64 {
+    if block < blocks(lent) && random.percent(25) {
+        16 * (object_blocks(&lent[Table], block) - 1) + random.below(16 * 5 + 1)
+    } else {
+        bytes(random, lent)
     }
 }
 

@@ -3,6 +3,7 @@
 //! A [`Subject`] is a heap under test: the library through its raw calls, the library through the
 //! safe wrapper, or a heap that is broken on purpose, which the comparison must notice.
 
+pub mod aligned;
 mod call;
 mod check;
 mod coverage;
@@ -16,6 +17,7 @@ mod pairs;
 mod random;
 pub mod readings;
 mod reply;
+mod situations;
 mod subject;
 mod walk;
 mod wanted;
