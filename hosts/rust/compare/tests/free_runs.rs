@@ -5,7 +5,6 @@ use compare::{library, Buffer, Call, Lent, Reply};
 use std::ops::Range;
 
 const BLOCKS_PER_BYTE: usize = 4;
-const BLOCK_BYTES: u64 = 16;
 
 fn blocks_of(lent: &Lent) -> usize {
     BLOCKS_PER_BYTE * lent[Buffer::Table].len()
@@ -101,25 +100,6 @@ fn the_longer_of_two_holes_is_found() {
             let holes = [start..start + one, next..next + other];
             let objects = lay_out(&mut lent, &holes, object_blocks);
             survey_is(&mut lent, one + other, objects, one.max(other));
-        }
-    }
-}
-
-/// Holes that are a block too short, then one that fits, at every place: that one is taken.
-#[test]
-fn the_first_hole_that_fits_is_taken_at_every_place() {
-    let mut lent = full(40);
-    let blocks = blocks_of(&lent);
-    for wanted in 1..=9 {
-        for start in 1..blocks - wanted {
-            let too_short = (0..start - 1).step_by(wanted);
-            let too_short = too_short.map(|used| used + 1..(used + wanted).min(start - 1));
-            let fits = [start..start + wanted, start + wanted + 1..blocks];
-            let holes: Vec<_> = too_short.chain(fits).collect();
-            lay_out(&mut lent, &holes, 1);
-            let call = Call::Allocate { bytes: BLOCK_BYTES * wanted as u64 };
-            let expected = Reply::accepted(&call, &[start as i64, wanted as i64]);
-            assert_eq!(library(&call, &mut lent), expected, "{wanted} blocks, {lent}");
         }
     }
 }
