@@ -14,6 +14,7 @@ pub mod laws;
 mod lent;
 mod pages;
 mod pairs;
+pub mod places;
 mod random;
 pub mod readings;
 mod reply;

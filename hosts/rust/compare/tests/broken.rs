@@ -1,6 +1,8 @@
 //! The comparison must notice a wrong heap: each heap here follows all rules but one.
 
+use compare::aligned::{aligned, lowest_start, stays_aligned, unaligned_head};
 use compare::laws::{self, run_law, Law};
+use compare::places::{anywhere, free_run, right_start, search, MayBegin, Places, RIGHT};
 use compare::readings::{self, collect_reading, Reading};
 use compare::Buffer::{self, Pool, Roots, Stack, Table};
 use compare::{
@@ -85,6 +87,12 @@ fn a_second_collection_changes_more(name: &str, subject: Subject) {
     breaks(laws::collect_idempotent, name, subject);
 }
 
+/// The heap must leave a large object that is not aligned, from an init on.
+fn leaves_unaligned_objects(name: &str, subject: Subject) {
+    let outcome = stays_aligned(subject, 8, 5, 2_000);
+    say_noticed(name, &outcome.expect_err("all large objects are aligned"));
+}
+
 fn dead_data_is_heard(name: &str, subject: Subject) {
     let outcome = run_pairs(subject, SMALL, 5, 500);
     say_noticed(name, &outcome.expect_err("no pair of heaps differed"));
@@ -159,6 +167,31 @@ each! { must_be_noticed:
     leaves_the_mark_stack
     clears_freed_bytes
     clears_the_pool_at_init
+    begins_anywhere
+    aligns_three_blocks
+    aligns_no_four_blocks
+    aligns_to_two_blocks
+    aligns_to_eight_blocks
+    aligns_addresses
+    moves_anywhere
+    grows_anywhere
+    grows_unaligned_large_objects
+    grows_no_object_to_a_large_one
+    grows_small_objects_at_borders_alone
+    moves_unaligned_objects_that_shrink
+    moves_unaligned_objects_of_the_same_size
+    rounds_up_from_aligned_starts
+    tries_the_first_block_of_a_run_alone
+    stops_at_the_first_run_that_is_long_enough
+    refuses_unaligned_objects
+    surveys_aligned_runs_alone
+}
+
+each! { leaves_unaligned_objects:
+    begins_anywhere
+    aligns_no_four_blocks
+    moves_anywhere
+    grows_anywhere
 }
 
 each! { keeps_too_few:
@@ -226,7 +259,10 @@ each! { a_second_collection_changes_more:
 
 #[test]
 fn a_right_heap_is_not_noticed() {
-    run_walks(&second, SMALL, 5, MOST_CALLS, &mut Coverage::default()).expect("a right heap");
+    for subject in [&second as Subject, &right_places] {
+        run_walks(subject, SMALL, 5, MOST_CALLS, &mut Coverage::default()).expect("a right heap");
+    }
+    stays_aligned(&second, 8, 5, 2_000).expect("a right heap");
     let all: [Law; 4] =
         [laws::frees_commute, laws::roots_are_a_set, laws::roots_join, laws::collect_idempotent];
     for law in all {
@@ -497,6 +533,126 @@ fn misses_the_lowest_start(call: &Call, lent: &mut Lent) -> Reply {
     reply
 }
 
+/// Allocate and reallocate with these places.
+fn placing(call: &Call, lent: &mut Lent, places: Places) -> Reply {
+    let before = lent.clone();
+    let right = second(call, lent);
+    let (Call::Allocate { bytes } | Call::Reallocate { bytes, .. }) = *call else {
+        return right;
+    };
+    if !matches!(right.refusal, 0 | 9) {
+        return right;
+    }
+    *lent = before;
+    let placed = on_list(lent, |heap| match *call {
+        Call::Reallocate { block, .. } => places.reallocate(heap, block, bytes.div_ceil(16)),
+        _ => places.allocate(heap, bytes.div_ceil(16)),
+    });
+    match placed {
+        Ok(placed) => Reply::accepted(call, &[placed.block as i64, placed.change]),
+        Err(refusal) => Reply::refused(call, refusal.number()),
+    }
+}
+
+/// A right heap: what the others differ from in one point.
+fn right_places(call: &Call, lent: &mut Lent) -> Reply {
+    placing(call, lent, RIGHT)
+}
+
+/// As before large objects were aligned, and as MicroPython does.
+fn begins_anywhere(call: &Call, lent: &mut Lent) -> Reply {
+    placing(call, lent, Places::all(anywhere))
+}
+
+fn aligns_three_blocks(call: &Call, lent: &mut Lent) -> Reply {
+    placing(call, lent, Places::all(|_, start, blocks| blocks < 3 || start % 4 == 0))
+}
+
+fn aligns_no_four_blocks(call: &Call, lent: &mut Lent) -> Reply {
+    placing(call, lent, Places::all(|_, start, blocks| blocks < 5 || start % 4 == 0))
+}
+
+fn aligns_to_two_blocks(call: &Call, lent: &mut Lent) -> Reply {
+    placing(call, lent, Places::all(|_, start, blocks| blocks < 4 || start % 2 == 0))
+}
+
+fn aligns_to_eight_blocks(call: &Call, lent: &mut Lent) -> Reply {
+    placing(call, lent, Places::all(|_, start, blocks| blocks < 4 || start % 8 == 0))
+}
+
+/// Of what the base makes of them, not of block numbers.
+fn aligns_addresses(call: &Call, lent: &mut Lent) -> Reply {
+    placing(call, lent, Places::all(|heap, start, blocks| aligned(heap.base / 16 + start, blocks)))
+}
+
+fn moves_anywhere(call: &Call, lent: &mut Lent) -> Reply {
+    placing(call, lent, Places { moved: anywhere, ..RIGHT })
+}
+
+fn grows_anywhere(call: &Call, lent: &mut Lent) -> Reply {
+    placing(call, lent, Places { grown: anywhere, ..RIGHT })
+}
+
+/// An object that is large already may grow where it is.
+fn grows_unaligned_large_objects(call: &Call, lent: &mut Lent) -> Reply {
+    let grown: MayBegin = |heap, start, blocks| {
+        let object = &heap.objects[heap.owner(start).expect("an object")];
+        aligned(start, blocks) || object.blocks >= 4
+    };
+    placing(call, lent, Places { grown, ..RIGHT })
+}
+
+fn grows_no_object_to_a_large_one(call: &Call, lent: &mut Lent) -> Reply {
+    placing(call, lent, Places { grown: |_, _, blocks| blocks < 4, ..RIGHT })
+}
+
+fn grows_small_objects_at_borders_alone(call: &Call, lent: &mut Lent) -> Reply {
+    placing(call, lent, Places { grown: |_, start, _| start % 4 == 0, ..RIGHT })
+}
+
+fn moves_unaligned_objects_that_shrink(call: &Call, lent: &mut Lent) -> Reply {
+    placing(call, lent, Places { shrunk: right_start, ..RIGHT })
+}
+
+fn moves_unaligned_objects_of_the_same_size(call: &Call, lent: &mut Lent) -> Reply {
+    placing(call, lent, Places { kept: right_start, ..RIGHT })
+}
+
+/// Whether the block is the first of a run of free ones, or would be if it were free.
+fn first_of_run(heap: &ListHeap, block: u64) -> bool {
+    block == 0 || heap.owner(block - 1).is_some()
+}
+
+fn rounds_up_from_aligned_starts(call: &Call, lent: &mut Lent) -> Reply {
+    let new: MayBegin =
+        |heap, start, blocks| aligned(start, blocks) && (blocks < 4 || !first_of_run(heap, start));
+    placing(call, lent, Places { new, moved: new, ..RIGHT })
+}
+
+fn tries_the_first_block_of_a_run_alone(call: &Call, lent: &mut Lent) -> Reply {
+    let new: MayBegin = |heap, start, blocks| aligned(start, blocks) && first_of_run(heap, start);
+    placing(call, lent, Places { new, moved: new, ..RIGHT })
+}
+
+/// If it begins at no multiple of four there, it looks no further.
+fn stops_at_the_first_run_that_is_long_enough(call: &Call, lent: &mut Lent) -> Reply {
+    let new: MayBegin = |heap, start, blocks| {
+        let lowest = search(heap, blocks, anywhere);
+        aligned(start, blocks) && lowest.is_some_and(|lowest| free_run(heap, lowest..start))
+    };
+    placing(call, lent, Places { new, moved: new, ..RIGHT })
+}
+
+fn refuses_unaligned_objects(call: &Call, lent: &mut Lent) -> Reply {
+    let before = lent.clone();
+    let reply = second(call, lent);
+    if reply.refusal == 1 || *call == Call::Init || unaligned_head(&before[Table]).is_none() {
+        return reply;
+    }
+    *lent = before;
+    Reply::refused(call, Refusal::Table.number())
+}
+
 /// The longest run of free blocks that lies within one of the parts of a table.
 fn longest_in_parts(table: &[u8], part_bytes: usize) -> i64 {
     let free_runs = |part: &[u8]| {
@@ -524,6 +680,16 @@ fn surveys_no_last_bytes(call: &Call, lent: &mut Lent) -> Reply {
     survey_by(call, lent, |table| {
         let whole = &table[..table.len() / 8 * 8];
         longest_in_parts(whole, whole.len().max(1))
+    })
+}
+
+fn surveys_aligned_runs_alone(call: &Call, lent: &mut Lent) -> Reply {
+    survey_by(call, lent, |table| {
+        let longest = longest_in_parts(table, table.len()) as u64;
+        let found = (0..=longest)
+            .rev()
+            .find(|blocks| lowest_start(table, *blocks, |start| aligned(start, *blocks)).is_some());
+        found.unwrap_or(0) as i64
     })
 }
 
