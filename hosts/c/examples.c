@@ -1,5 +1,5 @@
 /*
- * The checked examples of the heap's rules through the C header: 8 blocks, base 4,096.
+ * The checked examples of the heap's rules through the C header: base 4,096, and 8 blocks up to example 16.
  *
  * Each runs once for each place of the lent buffers. Against a page that cannot be touched, any access past
  * that border ends the program, also one from inside the archive. In memory from malloc, valgrind sees each
@@ -14,13 +14,16 @@
 
 #include "blockheap.h"
 
-enum { TABLE_BYTES = 2, POOL_BYTES = BLOCKHEAP_POOL_BYTES(TABLE_BYTES) };
-
 static uint64_t base;
 static uint8_t *pool;
 static uint8_t *table;
+static size_t table_bytes;
 
-#define HEAP base, pool, POOL_BYTES, table, TABLE_BYTES
+#define POOL_BYTES BLOCKHEAP_POOL_BYTES(table_bytes)
+#define HEAP base, pool, POOL_BYTES, table, table_bytes
+
+/* The bytes of a table, and how many they are. */
+#define TABLE_OF(...) (const uint8_t[]){__VA_ARGS__}, sizeof((const uint8_t[]){__VA_ARGS__})
 
 /* What every place for an answer holds before a call. */
 enum { RUBBISH = 0x5EED5EED };
@@ -78,20 +81,33 @@ static uint8_t *lent(enum buffer buffer, size_t bytes)
 }
 
 /* A heap with this table and a pool of zeros. */
-static bool from(uint8_t first, uint8_t second)
+#define from(...) from_bytes(TABLE_OF(__VA_ARGS__))
+static bool from_bytes(const uint8_t *bytes, size_t count)
 {
     base = 4096;
+    table_bytes = count;
     pool = lent(POOL, POOL_BYTES);
-    table = lent(TABLE, TABLE_BYTES);
+    table = lent(TABLE, count);
     memset(pool, 0, POOL_BYTES);
-    table[0] = first;
-    table[1] = second;
+    memcpy(table, bytes, count);
     return true;
 }
 
-static bool table_is(uint8_t first, uint8_t second)
+static bool bytes_are(const char *what, const uint8_t *bytes, const uint8_t *expected, size_t count)
 {
-    return same("table byte 0", table[0], first) && same("table byte 1", table[1], second);
+    for (size_t at = 0; at < count; at++)
+        if (!same(what, bytes[at], expected[at])) {
+            printf("    (byte %zu)\n", at);
+            return false;
+        }
+    return true;
+}
+
+#define table_is(...) table_is_bytes(TABLE_OF(__VA_ARGS__))
+static bool table_is_bytes(const uint8_t *bytes, size_t count)
+{
+    return same("table length", (long long)table_bytes, (long long)count)
+        && bytes_are("table byte", table, bytes, count);
 }
 
 static bool initialises(uint32_t refusal)
@@ -284,6 +300,32 @@ static bool example_16(void)
         && from_linked_by_tails(tail) && collects(&free_block, 64, 0, 0, -7) && table_is(0, 0);
 }
 
+static bool example_17(void)
+{
+    uint8_t object[64] = {1, 2, 3, [47] = 48};
+    bool made = from(1, 0, 0) && allocates(64, BLOCKHEAP_OK, 4, 4) && table_is(1, 169, 0)
+        && allocates(48, BLOCKHEAP_OK, 1, 3) && table_is(165, 169, 0);
+    memcpy(pool + 16, object, 48);
+    memset(pool + 128, 0xEE, 64);
+    return made && reallocates(1, 64, BLOCKHEAP_OK, 8, 1) && table_is(1, 169, 169)
+        && bytes_are("byte of the object", pool + 128, object, sizeof object);
+}
+
+static bool example_18(void)
+{
+    return from(165, 2, 0) && reallocates(1, 33, BLOCKHEAP_OK, 1, -1) && table_is(165, 0, 0)
+        && from(165, 2, 0) && reallocates(1, 64, BLOCKHEAP_OK, 1, 0) && table_is(165, 2, 0)
+        && reallocates(1, 65, BLOCKHEAP_NO_ROOM, 0, 0) && table_is(165, 2, 0)
+        && from(165, 2, 0, 0) && reallocates(1, 65, BLOCKHEAP_OK, 8, 1) && table_is(1, 0, 169, 2);
+}
+
+static bool example_19(void)
+{
+    return from(165, 86) && frees(1, BLOCKHEAP_OK, -4) && surveys(4, 4, 4)
+        && allocates(64, BLOCKHEAP_NO_ROOM, 0, 0) && table_is(1, 84)
+        && allocates(48, BLOCKHEAP_OK, 1, 3) && table_is(165, 84);
+}
+
 static const struct {
     const char *title;
     bool (*holds)(void);
@@ -304,6 +346,9 @@ static const struct {
     {"the last word and the one after", example_14},
     {"0 bytes is refused before the block is", example_15},
     {"a chain through tails", example_16},
+    {"large objects are aligned", example_17},
+    {"an unaligned object of an old table", example_18},
+    {"a free run that is not aligned", example_19},
 };
 
 static bool holds_everywhere(bool (*holds)(void))

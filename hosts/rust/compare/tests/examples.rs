@@ -1,20 +1,20 @@
 //! The checked examples of the rules, on the library, its wrapper and the plain-list heap.
-//! n = 8 blocks and base 4,096 throughout; tables in decimal.
+//! Base 4,096 throughout, and eight blocks up to example 16; tables in decimal.
 
-use compare::Buffer::{Stack, Table};
+use compare::Buffer::{Pool, Stack, Table};
 use compare::{library, second, wrapper, Call, Guarded, Lent, Reply, Subject};
 
 const BASE: u64 = 4096;
 
-/// A heap of eight blocks on which calls are made one after the other.
+/// A heap on which calls are made one after the other.
 struct Example<'s> {
     subject: Subject<'s>,
     lent: Lent,
 }
 
 impl Example<'_> {
-    fn from(&mut self, table: [u8; 2]) -> &mut Self {
-        self.lent = Lent::new(BASE, &[0; 128], &table);
+    fn from<const T: usize>(&mut self, table: [u8; T]) -> &mut Self {
+        self.lent = Lent::new(BASE, &vec![0; 64 * T], &table);
         self
     }
 
@@ -43,7 +43,12 @@ impl Example<'_> {
         self
     }
 
-    fn gives<const N: usize>(&mut self, call: Call, parts: [i64; N], table: [u8; 2]) -> &mut Self {
+    fn gives<const N: usize, const T: usize>(
+        &mut self,
+        call: Call,
+        parts: [i64; N],
+        table: [u8; T],
+    ) -> &mut Self {
         let expected = Reply::accepted(&call, &parts);
         assert_eq!((self.subject)(&call, &mut self.lent), expected, "{call:?}");
         assert_eq!(self.lent[Table][..], table, "the table after {call:?}");
@@ -203,5 +208,38 @@ fn example_16_a_chain_through_tails() {
         heap.linked_by_tails(4176, 4192, 0).gives(Call::Collect, [3, 2, 0], [169, 25]);
         heap.linked_by_tails(4184, 4192, 64).gives(Call::Collect, [2, 0, -2], [169, 16]);
         heap.linked_by_tails(4176, 4208, 64).gives(Call::Collect, [0, 0, -7], [0, 0]);
+    });
+}
+
+#[test]
+fn example_17_large_objects_are_aligned() {
+    on_every_heap(|heap| {
+        heap.from([1, 0, 0]).gives(allocate(64), [4, 4], [1, 169, 0]);
+        heap.gives(allocate(48), [1, 3], [165, 169, 0]);
+        let old: Vec<u8> = (1..=48).collect();
+        heap.lent[Pool][16..64].copy_from_slice(&old);
+        heap.lent[Pool][128..192].fill(0xEE);
+        heap.gives(reallocate(1, 64), [8, 1], [1, 169, 169]);
+        assert_eq!(heap.lent[Pool][128..176], old, "the old bytes");
+        assert_eq!(heap.lent[Pool][176..192], [0; 16], "the added bytes");
+    });
+}
+
+#[test]
+fn example_18_an_unaligned_object_of_an_old_table() {
+    on_every_heap(|heap| {
+        heap.from([165, 2, 0]).gives(reallocate(1, 33), [1, -1], [165, 0, 0]);
+        heap.from([165, 2, 0]).gives(reallocate(1, 64), [1, 0], [165, 2, 0]);
+        heap.refuses(reallocate(1, 65), 9);
+        heap.from([165, 2, 0, 0]).gives(reallocate(1, 65), [8, 1], [1, 0, 169, 2]);
+    });
+}
+
+#[test]
+fn example_19_a_free_run_that_is_not_aligned() {
+    on_every_heap(|heap| {
+        heap.from([165, 86]).gives(free(1), [-4], [1, 84]);
+        heap.gives(Call::Survey, [4, 4, 4], [1, 84]).refuses(allocate(64), 9);
+        heap.gives(allocate(48), [1, 3], [165, 84]);
     });
 }
