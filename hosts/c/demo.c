@@ -191,8 +191,11 @@ int main(void)
     show_heap();
     collect(station);
 
-    puts("8. A script holds the address of its buffer's third block and no other: all of the buffer is kept.");
+    puts("8. A script takes a buffer of five blocks: four or more begin at a multiple of four.");
     uint32_t held = allocate(5 * BLOCKHEAP_BLOCK_BYTES, station) + 2;
+    show_heap();
+
+    puts("9. It holds the address of the buffer's third block and no other: all of the buffer is kept.");
     collect(held);
     puts("  the script ends, and nothing leads to its buffer");
     collect(station);
