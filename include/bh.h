@@ -39,11 +39,12 @@ struct blockheap {
     size_t table_len;
 };
 
-/* Before an array: aligned as blocks are, where the compiler can. */
+/* Before an array: aligned to 64 bytes, as large objects are, where the compiler can. */
+#define BH_ALIGNMENT (BLOCKHEAP_LARGE_BLOCKS * BLOCKHEAP_BLOCK_BYTES)
 #if defined(__GNUC__)
-#define BH_ALIGNED __attribute__((aligned(BLOCKHEAP_BLOCK_BYTES)))
+#define BH_ALIGNED __attribute__((aligned(BH_ALIGNMENT)))
 #elif defined(__STDC_VERSION__) && __STDC_VERSION__ >= 201112L
-#define BH_ALIGNED _Alignas(BLOCKHEAP_BLOCK_BYTES)
+#define BH_ALIGNED _Alignas(BH_ALIGNMENT)
 #else
 #define BH_ALIGNED
 #endif
@@ -51,7 +52,10 @@ struct blockheap {
 /* Initialises a heap over two arrays, a pool and its table (not over pointers: it takes their sizeof). */
 #define BH_OVER(base, pool, table) {(base), (pool), sizeof(pool), (table), sizeof(table)}
 
-/* Defines a heap with static memory of its own, aligned. A pool has 64 to 65,536 bytes, a multiple of 64. */
+/*
+ * Defines a heap with static memory of its own, aligned: large objects lie at
+ * multiples of 64 bytes. A pool has 64 to 65,536 bytes, a multiple of 64.
+ */
 #define BH_DEFINE(name, base, pool_bytes) \
     static BH_ALIGNED uint8_t name##_pool[pool_bytes]; \
     static uint8_t name##_table[BLOCKHEAP_TABLE_BYTES(pool_bytes)]; \
@@ -250,7 +254,7 @@ static inline const char *bh_refusal_text(uint32_t refusal)
     case BLOCKHEAP_NO_SUCH_BLOCK: return "the block number lies outside the pool";
     case BLOCKHEAP_NOT_A_HEAD: return "the block is not the head of an object";
     case BLOCKHEAP_NO_SUCH_WORD: return "the word lies outside the object";
-    case BLOCKHEAP_NO_ROOM: return "no run of free blocks is long enough";
+    case BLOCKHEAP_NO_ROOM: return "no aligned run of free blocks is long enough";
     default: return "this version knows no such refusal number";
     }
 }

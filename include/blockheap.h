@@ -20,6 +20,13 @@
  *   pool aligned to 16 bytes and give its own address. Elsewhere choose any
  *   such number, 4,096 say, and keep to it: the library never uses it to find
  *   the pool.
+ * - A run of blocks is aligned if it has at most three blocks, or begins at a
+ *   block number divisible by 4. New objects, and those that grow or move, take
+ *   aligned runs: large ones, of four blocks or more, begin at a multiple of 64
+ *   bytes in the pool. If base is a multiple of 64, so are their addresses; if
+ *   the pool itself lies at a multiple of 64, so do their bytes. A table of an
+ *   older version may have large objects that begin elsewhere. They are valid,
+ *   and stay where they are until they grow.
  * - A word is 32 bits, lowest byte first on every host. An object of b blocks
  *   has words 0 to 4 * b - 1.
  * - A word is a pointer if it equals the address of a block of an object, head
@@ -98,6 +105,7 @@ extern "C" {
 #define BLOCKHEAP_WORD_BYTES 4
 #define BLOCKHEAP_WORDS_PER_BLOCK 4
 #define BLOCKHEAP_BLOCKS_PER_TABLE_BYTE 4
+#define BLOCKHEAP_LARGE_BLOCKS 4 /* objects of so many or more begin at a multiple of as many */
 #define BLOCKHEAP_MAX_TABLE_BYTES 1024
 #define BLOCKHEAP_MAX_BLOCKS 4096
 #define BLOCKHEAP_MAX_POOL_BYTES 65536
@@ -132,7 +140,7 @@ enum blockheap_refusal {
     BLOCKHEAP_NO_SUCH_BLOCK = 6,   /* the block number is n or more */
     BLOCKHEAP_NOT_A_HEAD = 7,      /* the block is free or a tail */
     BLOCKHEAP_NO_SUCH_WORD = 8,    /* the word is not inside the object */
-    BLOCKHEAP_NO_ROOM = 9          /* no long enough run of free blocks */
+    BLOCKHEAP_NO_ROOM = 9          /* no long enough run of free blocks that is aligned */
 };
 
 /*
@@ -144,11 +152,11 @@ uint32_t blockheap_init(uint64_t base, const uint8_t *pool, size_t pool_len,
                         uint8_t *table, size_t table_len);
 
 /*
- * Makes an object of `bytes` bytes, rounded up to whole blocks, at the lowest
- * place where it fits, and sets all bytes of its blocks to 0. `block` is the
- * number of its head, `change` the blocks it takes.
- * Refusals: BAD_SHAPE, BAD_TABLE, ZERO_BYTES, NO_ROOM (exactly if no run of
- * free blocks is long enough; nothing is collected to make room).
+ * Makes an object of `bytes` bytes, rounded up to whole blocks, in the lowest
+ * aligned run of as many free blocks, and sets all bytes of its blocks to 0.
+ * `block` is the number of its head, `change` the blocks it takes.
+ * Refusals: BAD_SHAPE, BAD_TABLE, ZERO_BYTES, NO_ROOM (exactly if there is no
+ * aligned run of as many free blocks; nothing is collected to make room).
  */
 BLOCKHEAP_NONNULL
 uint32_t blockheap_allocate(uint64_t base, uint8_t *pool, size_t pool_len,
@@ -172,10 +180,13 @@ uint32_t blockheap_free(uint64_t base, const uint8_t *pool, size_t pool_len,
  * - as many blocks as before: nothing changes;
  * - fewer: the last blocks become free, their bytes stay, and pointers to them
  *   are the caller's to mend;
- * - more, and enough free blocks follow directly: it grows in place;
+ * - more, enough free blocks follow directly, and with them it is aligned: it
+ *   grows in place;
  * - more otherwise: it moves to the place that blockheap_allocate would take
  *   while the old object still holds its blocks. The old blocks become free,
  *   their bytes stay, and pointers to any of them are the caller's to mend.
+ * So one that grows to four blocks or more moves, unless it begins at a block
+ * number divisible by 4. One that does not grow never moves.
  * The old bytes are kept, and all bytes of added blocks are 0.
  * Refusals: BAD_SHAPE, BAD_TABLE, ZERO_BYTES, NO_SUCH_BLOCK, NOT_A_HEAD,
  * NO_ROOM (exactly if it can neither grow in place nor move; the object stays
@@ -218,7 +229,9 @@ uint32_t blockheap_collect(uint64_t base, const uint8_t *pool, size_t pool_len,
 
 /*
  * Answers how many blocks are used, how many objects there are, and the length
- * in blocks of the longest run of free blocks.
+ * in blocks of the longest run of free blocks, aligned or not: an object of as
+ * many blocks may have no room in it if they are four or more. A run of b + 3
+ * free blocks always has room for b.
  * Refusals: BAD_SHAPE, BAD_TABLE.
  */
 BLOCKHEAP_NONNULL

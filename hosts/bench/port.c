@@ -76,7 +76,8 @@ static uint64_t blocks_for(uint64_t bytes)
 /* The first place at or after `block` where an object of so many blocks may begin. */
 static size_t align(size_t block, uint64_t wanted)
 {
-    return wanted < 4 ? block : (block + 3) / 4 * 4;
+    const size_t border = BLOCKHEAP_LARGE_BLOCKS;
+    return wanted < border ? block : (block + border - 1) / border * border;
 }
 
 static bool find_run(const uint8_t *table, size_t blocks, uint64_t wanted, size_t *start)

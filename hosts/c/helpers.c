@@ -31,7 +31,7 @@ static void check_makers(void)
     struct blockheap none, split;
     memset(&none, 0, sizeof none);
     check("a heap that is defined has its lengths and is aligned",
-          lengths_are(&heap, 128, 2) && (uintptr_t)heap.pool % BLOCKHEAP_BLOCK_BYTES == 0);
+          lengths_are(&heap, 128, 2) && (uintptr_t)heap.pool % 64 == 0);
     check("a heap over arrays may be const", over.base == 16 && lengths_are(&over, 64, 1) && !bh_init(&over));
     split = bh_split(BASE, area, 130);
     check("an area is split into pool and table",
