@@ -36,6 +36,7 @@ pub struct Survey {
     pub used: u32,
     /// The objects.
     pub objects: u32,
-    /// The blocks of the longest run of free blocks.
+    /// The blocks of the longest run of free blocks, aligned or not: a large object of as many blocks may
+    /// have no room in it. A run of `b + 3` free blocks always has room for `b`.
     pub longest: u32,
 }

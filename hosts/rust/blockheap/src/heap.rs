@@ -35,18 +35,36 @@ impl<'m> Heap<'m> {
     }
 
     /// The heap that pool and table already hold, as the last call left it. Nothing is asked of them
-    /// here: what does not fit is refused by each call.
+    /// here: what does not fit is refused by each call. Large objects that are not aligned, as older
+    /// versions made them, are valid, and stay where they are until they grow.
     pub fn resume(base: Address, pool: &'m mut [u8], table: &'m mut [u8]) -> Self {
         Heap { lent: Lent { base, pool, table } }
     }
 
-    /// Makes an object of so many bytes, rounded up to whole blocks, at the lowest place where it
-    /// fits. All bytes of its blocks are 0.
+    /// Makes an object of so many bytes, rounded up to whole blocks, in the lowest aligned run of as many
+    /// free blocks. All bytes of its blocks are 0.
+    ///
+    /// A run is aligned if it has at most three blocks or begins at a multiple of four: large objects, of
+    /// [`LARGE_BLOCKS`](crate::LARGE_BLOCKS) or more, begin at a multiple of 64 bytes in the pool. If the
+    /// base is a multiple of 64, so are their addresses; if the pool itself lies at one, so do their bytes.
+    ///
+    /// ```
+    /// # use blockheap::{Address, Block, Memory};
+    /// # fn main() -> Result<(), blockheap::Refusal> {
+    /// # let mut memory = Memory::<4>::new();
+    /// # let mut heap = memory.init(Address::from_word(4096))?;
+    /// heap.allocate(16)?;
+    /// let large = heap.allocate(64)?.block;
+    /// assert_eq!(large, Block::from_number(4));
+    /// assert_eq!(heap.address_of(large)?.word() % 64, 0);
+    /// # Ok(())
+    /// # }
+    /// ```
     ///
     /// # Errors
     /// [`BadShape`](Refusal::BadShape), [`BadTable`](Refusal::BadTable),
-    /// [`ZeroBytes`](Refusal::ZeroBytes), and [`NoRoom`](Refusal::NoRoom) exactly if no run of free
-    /// blocks is long enough: nothing is collected to make room.
+    /// [`ZeroBytes`](Refusal::ZeroBytes), and [`NoRoom`](Refusal::NoRoom) exactly if there is no aligned
+    /// run of as many free blocks: nothing is collected to make room.
     pub fn allocate(&mut self, bytes: u64) -> Result<Placed, Refusal> {
         self.lent.allocate(bytes).map(Placed::new)
     }
@@ -63,8 +81,9 @@ impl<'m> Heap<'m> {
     }
 
     /// Resizes an object to so many bytes, rounded up to whole blocks. Its bytes are kept, as many as
-    /// fit, and all bytes of added blocks are 0. It moves only if it cannot grow in place. Pointers to
-    /// blocks that it no longer has are the caller's to mend.
+    /// fit, and all bytes of added blocks are 0. It moves only if it cannot grow in place: if too few free
+    /// blocks follow, or if it grows to four blocks or more and does not begin at a multiple of four.
+    /// Pointers to blocks that it no longer has are the caller's to mend.
     ///
     /// ```
     /// # use blockheap::{Address, Memory};
@@ -140,7 +159,7 @@ impl<'m> Heap<'m> {
         Ok(Collected { kept, rescans, change })
     }
 
-    /// Counts the used blocks, the objects, and the blocks of the longest run of free ones.
+    /// Counts the used blocks, the objects, and the blocks of the longest run of free ones, aligned or not.
     ///
     /// # Errors
     /// [`BadShape`](Refusal::BadShape), [`BadTable`](Refusal::BadTable).

@@ -2,8 +2,10 @@ use crate::{Address, Heap, Refusal, POOL_BYTES_PER_TABLE_BYTE};
 
 /// All the memory that a heap of `TABLE_BYTES` table bytes wants, 1 to 1,024: four blocks to a byte.
 ///
-/// Who lends a `Memory` need not change when a heap wants more than a pool and a table.
+/// Who lends a `Memory` need not change when a heap wants more than a pool and a table. The pool lies at a
+/// multiple of 64, and so do the bytes of large objects.
 #[derive(Clone, Debug)]
+#[repr(C, align(64))]
 pub struct Memory<const TABLE_BYTES: usize> {
     pool: [[u8; POOL_BYTES_PER_TABLE_BYTE]; TABLE_BYTES],
     table: [u8; TABLE_BYTES],

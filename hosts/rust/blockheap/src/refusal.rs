@@ -22,7 +22,7 @@ pub enum Refusal {
     NotAHead = 7,
     /// The word is not inside the object.
     NoSuchWord = 8,
-    /// No run of free blocks is long enough.
+    /// No run of free blocks is long enough and aligned: four blocks or more begin at a multiple of four.
     NoRoom = 9,
 }
 
@@ -61,7 +61,7 @@ impl Refusal {
             Refusal::NoSuchBlock => "the block number lies outside the pool",
             Refusal::NotAHead => "the block is not the head of an object",
             Refusal::NoSuchWord => "the word lies outside the object",
-            Refusal::NoRoom => "no run of free blocks is long enough",
+            Refusal::NoRoom => "no aligned run of free blocks is long enough",
         }
     }
 }

@@ -29,6 +29,7 @@ fn the_sizes_are_the_headers() {
         ("WORD_BYTES", WORD_BYTES),
         ("WORDS_PER_BLOCK", WORDS_PER_BLOCK),
         ("BLOCKS_PER_TABLE_BYTE", BLOCKS_PER_TABLE_BYTE),
+        ("LARGE_BLOCKS", LARGE_BLOCKS),
         ("MAX_TABLE_BYTES", MAX_TABLE_BYTES),
         ("MAX_BLOCKS", MAX_BLOCKS),
         ("MAX_POOL_BYTES", MAX_POOL_BYTES),

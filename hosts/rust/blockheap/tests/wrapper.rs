@@ -59,6 +59,18 @@ fn an_object_is_all_bytes_of_its_blocks() -> Result<(), Refusal> {
 }
 
 #[test]
+fn large_objects_of_a_memory_lie_at_multiples_of_64() -> Result<(), Refusal> {
+    let mut memory = Memory::<4>::new();
+    let mut heap = memory.init(BASE)?;
+    heap.allocate(16)?;
+    let large = heap.allocate(64)?;
+    assert_eq!(parts(large), (4, 4));
+    assert_eq!(heap.address_of(large.block)?.word() % 64, 0);
+    assert_eq!(heap.object(large.block)?.as_ptr() as usize % 64, 0);
+    Ok(())
+}
+
+#[test]
 fn an_object_may_end_with_the_pool() -> Result<(), Refusal> {
     let mut memory = Memory::<2>::new();
     let mut heap = memory.init(BASE)?;
@@ -132,7 +144,8 @@ fn each_refusal_says_what_is_wrong() {
         assert!(text.starts_with(&format!("refused ({}): ", index + 1)), "{text}");
         assert!(!texts[..index].contains(text), "{text}");
     }
-    assert_eq!(Refusal::NoRoom.to_string(), "refused (9): no run of free blocks is long enough");
+    let no_room = "refused (9): no aligned run of free blocks is long enough";
+    assert_eq!(Refusal::NoRoom.to_string(), no_room);
 }
 
 #[test]
