@@ -232,6 +232,52 @@ static void words_to_five_last_blocks(void)
     five_objects(1);
 }
 
+static uint64_t wanted_bytes;
+
+/* An object in each block but for holes of so many blocks, from block 1 on, with `used` objects between them. None has
+ * room for what is wanted. */
+static void fill_with_holes(size_t hole, size_t used, size_t wanted)
+{
+    int32_t change;
+    only_heads();
+    for (size_t block = 1; block < blocks; block++)
+        if ((block - 1) % (hole + used) < hole)
+            must(blockheap_free(HEAP, block, &change));
+    wanted_bytes = BLOCKHEAP_BLOCK_BYTES * wanted;
+}
+
+static void holes_of_2(void)
+{
+    fill_with_holes(2, 1, 3);
+}
+
+static void holes_of_3(void)
+{
+    fill_with_holes(3, 1, 4);
+}
+
+static void unaligned_holes_of_4(void)
+{
+    fill_with_holes(4, 4, 4);
+}
+
+static void holes_of_7(void)
+{
+    fill_with_holes(7, 2, 8);
+}
+
+static void holes_of_63(void)
+{
+    fill_with_holes(63, 2, 64);
+}
+
+static void find_no_room(void)
+{
+    uint32_t object;
+    int32_t change;
+    add(blockheap_allocate(HEAP, wanted_bytes, &object, &change));
+}
+
 /* From the table as it was prepared. */
 static void collect(void)
 {
@@ -254,6 +300,13 @@ static const struct work {
     {"load and store", "read a word of a random object of such a heap, and write it", fill, load_and_store},
     {"survey", "count used blocks, objects and the longest free run of such a heap", fill, survey},
     {"survey, rising holes", "the same of the worst heap known", fill_with_rising_holes, survey},
+    {"no room: 3 blocks, holes of 2", "allocate 3 blocks, which is refused: no hole has more than 2", holes_of_2,
+     find_no_room},
+    {"no room: 4 blocks, holes of 3", "the same with 4, which must be aligned, and 3", holes_of_3, find_no_room},
+    {"no room: 4 blocks, holes of 4", "the same with 4 and 4, none of them aligned", unaligned_holes_of_4,
+     find_no_room},
+    {"no room: 8 blocks, holes of 7", "the same with 8 and 7, some of them aligned", holes_of_7, find_no_room},
+    {"no room: 64 blocks, holes of 63", "the same with 64 and 63", holes_of_63, find_no_room},
     {"collect, nothing reachable", "an object in each block and no roots: all are freed", only_heads, collect},
     {"collect, a chain", "each object leads to the next: all are kept", chain, collect},
     {"collect, a binary tree", "each object leads to two others: all are kept", tree, collect},
