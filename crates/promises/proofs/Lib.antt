@@ -13,4 +13,5 @@ pub mod Determined
 pub mod Whole
 pub mod Observed
 pub mod Alignment
+pub mod Large
 pub mod Samples

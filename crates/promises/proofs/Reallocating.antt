@@ -75,7 +75,7 @@ module _ (base : ℕ) (h : Heap) (k c : ℕ) (good : Passed base h) (object : Na
       equal = λ e. absurd (omega arith);
       in-place = λ _. refl;
       elsewhere = λ less full. absurd (omega arith);
-      aligned = λ less. absurd (omega arith);
+      aligned = λ more. absurd (omega arith);
       head = released-out es (k + c) (b - c) k (λ p q. omega arith) ∙ object .head;
       blocks = shrunk-count es k (object .head) c some-block (omega arith);
       kept = λ i l r. refl;

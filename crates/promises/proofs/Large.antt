@@ -1,0 +1,94 @@
+-- The promises on large objects, in bytes and block numbers, and each used at its exact bound: 48 bytes are three blocks, 49 are four.
+-- Assumes nothing.
+use mathlib.Core.Path.{_≡_, refl}
+use mathlib.Core.Logic.{_≢_, inl, ⊎-elim}
+use mathlib.Core.List.{List, []}
+use Prim.Native.Nat.{ℕ, _*_, _%_, _≤_, _<_}
+use native.Mathlib.Omega.{arith}
+use Rattle.rules.specs.Tests.{count, leading, tabulate}
+use Rattle.rules.specs.Entries.{entryOf, entriesOf}
+use Rattle.rules.specs.Tables.{mayFollow, wellAfter, wellFormed, blockCount, freeFrom, aligned, fits, firstFrom, firstFit, placed, released, used, objects, longest}
+use Rattle.rules.specs.Pointers.{addressOf, goodBase}
+use Rattle.rules.specs.Meaning.{Accepted}
+use Rattle.rules.specs.Outcomes.{Heap, changeFrom, unlessRefused, clearedBlocks}
+use Rattle.rules.specs.Refusals.{firstOf, goodShape, wholeWords, heapTests}
+use Rattle.rules.specs.Calls.{blocksFor, taken, placing, allocate, freed, free, reallocate, survey}
+use Rattle.rules.specs.Runs.{Init, Turn}
+use Rattle.rules.specs.Forms.{Form, Faithful}
+use Rattle.rules.specs.Memory.{Memory, heapIn, AcceptedIn, perform, afterIn}
+use Rattle.rules.specs.Examples.{small, medium}
+use Rattle.rules.proofs.Refusals.{passed}
+use Rattle.promises.specs.Promises.{Object, blocksOf}
+use Rattle.promises.proofs.Promised.{promises}
+use Rattle.promises.proofs.Observed.{free-again, allocate-spare}
+use Rattle.promises.proofs.Alignment.{new-objects-aligned, aligned-from-init}
+
+-- ---- one call
+
+more-than-48 : (bytes : ℕ) → 48 < bytes → 4 ≤ blocksFor bytes
+unfolding blocksFor
+more-than-48 bytes more = omega arith
+
+-- more than 48 bytes start at a block divisible by four, if they are allocated or are more blocks than the object had
+pub allocated-large : (base : ℕ) (h : Heap) (bytes : ℕ) → Accepted (allocate base h bytes) → 48 < bytes → allocate base h bytes .answer .block % 4 ≡ 0
+allocated-large base h bytes accepted more = ⊎-elim (λ few. absurd (omega (arith, more-than-48 bytes more))) (λ e. e) (promises .allocated base h bytes accepted .aligned)
+
+pub reallocated-large : (base : ℕ) (h : Heap) (k bytes : ℕ) → Accepted (reallocate base h k bytes) → 48 < bytes → blocksOf h k < blocksFor bytes
+    → reallocate base h k bytes .answer .block % 4 ≡ 0
+reallocated-large base h k bytes accepted more larger =
+    ⊎-elim (λ few. absurd (omega (arith, more-than-48 bytes more))) (λ e. e) (promises .reallocated base h k bytes accepted .aligned larger)
+
+-- to no more bytes than its blocks hold an object stays, wherever it starts
+pub reallocated-stays : (base : ℕ) (h : Heap) (k bytes : ℕ) → Accepted (reallocate base h k bytes) → bytes ≤ 16 * blocksOf h k → reallocate base h k bytes .answer .block ≡ k
+reallocated-stays base h k bytes accepted few = promises .reallocated base h k bytes accepted .in-place (inl (promises .rounded-up bytes (blocksOf h k) .1 few))
+
+-- ---- lists of calls, in every form of the table
+
+-- from an accepted init on, an object of four blocks or more starts at a block divisible by four
+pub large-from-init : (f : Form) → Faithful f → (base : ℕ) (stack : List ℕ) (ts : List Turn) (m : Memory) → AcceptedIn (perform f (Init base) stack m)
+    → let h = heapIn f (afterIn f ts (perform f (Init base) stack m .memory)) in
+    (o : ℕ) → Object h o → 4 ≤ blocksOf h o → o % 4 ≡ 0
+large-from-init f faithful base stack ts m accepted o head large =
+    ⊎-elim (λ few. absurd (omega arith)) (λ e. e) (aligned-from-init f faithful base stack ts m accepted o head)
+
+-- one that starts elsewhere was there before the calls, with as many blocks or more
+pub large-elsewhere : (f : Form) → Faithful f → (ts : List Turn) (m : Memory)
+    → let h = heapIn f (afterIn f ts m) in
+    (o : ℕ) → Object h o → 4 ≤ blocksOf h o → o % 4 ≢ 0 → Object (heapIn f m) o × (blocksOf h o ≤ blocksOf (heapIn f m) o)
+large-elsewhere f faithful ts m o head large other =
+    ⊎-elim
+    (λ placed. absurd (⊎-elim (λ few. omega arith) other placed))
+    (λ older. (older .head, older .blocks))
+    (new-objects-aligned f faithful ts m o head)
+
+-- ---- at the exact bounds, in heaps of 8 and 12 blocks at base 4,096
+
+-- what is computed: the calls that are accepted or refused, the blocks of the object at block 4, and the longest run of seven blocks and of six
+record Computed : Type 0 where
+  allocates : Accepted (allocate 4096 (medium 1 0 0) 49)
+  frees : Accepted (free 4096 (small 1 169) 4)
+  blocks : blocksOf (small 1 169) 4 ≡ 4
+  seven : survey 4096 (small 1 0) .answer .longest ≡ 7
+  six : survey 4096 (small 1 64) .answer .longest ≡ 6
+  no-room : allocate 4096 (small 1 64) 64 .answer .refusal ≡ 9
+  tests : firstOf (heapTests 4096 (small 1 0)) ≡ 0
+
+computed : Computed
+unfolding count leading tabulate entryOf entriesOf mayFollow wellAfter wellFormed blockCount freeFrom aligned fits firstFrom firstFit placed released used objects longest addressOf goodBase changeFrom unlessRefused clearedBlocks firstOf goodShape wholeWords blocksFor taken placing allocate freed free survey
+computed = record { allocates = refl; frees = refl; blocks = refl; seven = refl; six = refl; no-room = refl; tests = refl }
+
+-- 49 bytes, where the lowest run is at block 1
+pub four-blocks : allocate 4096 (medium 1 0 0) 49 .answer .block % 4 ≡ 0
+four-blocks = allocated-large 4096 (medium 1 0 0) 49 (computed .allocates) (omega arith)
+
+-- four blocks from block 4 on, freed, can be allocated again
+pub four-again : Accepted (allocate 4096 (free 4096 (small 1 169) 4 .heap) 64)
+four-again = free-again 4096 (small 1 169) 4 64 (computed .frees) (omega arith) (omega (arith, computed .blocks)) (inl refl)
+
+-- a run of seven blocks has room for four, wherever it starts, and one of six need not
+pub seven-spare : allocate 4096 (small 1 0) 64 .answer .refusal ≢ 9
+unfolding blocksFor
+seven-spare = allocate-spare 4096 (small 1 0) (passed 4096 (small 1 0) [] (computed .tests)) 64 (omega (arith, computed .seven))
+
+pub six-full : (survey 4096 (small 1 64) .answer .longest ≡ 6) × (allocate 4096 (small 1 64) 64 .answer .refusal ≡ 9)
+six-full = (computed .six, computed .no-room)
