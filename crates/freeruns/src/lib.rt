@@ -40,7 +40,7 @@ fn aligned_bits(count: usize) -> u8
     if count < 4 {
         return 0x55;
     }
-    1
+    0x01
 }
 
 // A bit for each entry of byte i at which count blocks may start. Up to five blocks of a run are looked at, which lie in this byte and the next.
