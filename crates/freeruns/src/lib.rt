@@ -1,16 +1,18 @@
-// Runs of FREE blocks: where blocks may next start, up to sixteen bytes at a time, how far a run goes in whole bytes, and how long the longest
-// is, 32 entries at a time. Beside `entries` only this crate knows how entries lie in bytes.
+// Runs of FREE blocks: where fewer than four blocks may next start and where four or more do (`aligned`), up to sixteen bytes at a time, and
+// how long the longest is, 32 entries at a time. Beside `entries` only this crate knows how entries lie in bytes.
 ghost use mathlib.Core.Path.{_≡_};
 ghost use Prim.Native.Nat.{ℕ, _+_, _-_, _*_, _≤_, _<_};
-ghost use lib.Dec.{ltb};
+ghost use lib.Dec.{eqb, ltb};
 ghost use lib.ListN.{length};
 ghost use Rattle.rules.specs.Entries.{entryOf, entriesOf};
 ghost use Rattle.rules.specs.Tables.{isUsed, longest as longestOf};
-ghost use Rattle.rules.specs.Meaning.{Run};
 ghost use Rattle.rules.specs.Tests.{pick};
 ghost use Rattle.freeruns.specs.Rows.{Holds, LowerBits, Picks, Zeros, RowStarts, WholeRow, LongestRow};
 ghost use Rattle.freeruns.specs.Scans.{ReadOn};
-ghost use Rattle.freeruns.specs.Starts.{NoStart, MayStart, Skipped};
+ghost use Rattle.freeruns.specs.Starts.{NoStart, MayStart, StartsIn};
+
+pub mod aligned;
+
 use memory::Block;
 
 // The lower bit of each of 32 entries.
@@ -33,31 +35,45 @@ fn spared(i: usize, count: usize) -> u8
     255
 }
 
-// A bit for each entry of a byte at which count blocks are aligned: all four, or the first alone.
-fn aligned_bits(count: usize) -> u8
-    ensures { λ r. ⌜ r ≡ pick (ltb count 4) 85 1 ⌝ }
+// A bit for each entry of the byte a at which count blocks may start, where the byte b is the next. There are fewer than four: they lie in these two.
+fn few_starts(a: u8, b: u8, count: usize) -> u8
+    requires { ⌜ (0 < count) × (count < 4) ⌝ }
+    ensures { λ r. ⌜ StartsIn a b count r ⌝ }
 {
-    if count < 4 {
-        return 0x55;
-    }
-    0x01
+    let free = !(a | (a >> 1)) & 0x55;
+    let next = !(b | (b >> 1)) & 0x55;
+    free
+        & ((free >> 2) | (next << 6) | spared(1, count))
+        & ((free >> 4) | (next << 4) | spared(2, count))
 }
 
-// A bit for each entry of byte i at which count blocks may start. Up to five blocks of a run are looked at, which lie in this byte and the next.
+// 1 for a byte that is 0.
+fn is_zero(b: u8) -> u8
+    ensures { λ r. ⌜ r ≡ pick (eqb b 0) 1 0 ⌝ }
+{
+    if b == 0 {
+        return 1;
+    }
+    0
+}
+
+// The same of four or more: they may start at the first entry only, which is aligned. Up to five of them are looked at.
+fn many_starts(a: u8, b: u8, count: usize) -> u8
+    requires { ⌜ 4 ≤ count ⌝ }
+    ensures { λ r. ⌜ StartsIn a b count r ⌝ }
+{
+    is_zero(a) & (is_zero(b % 4) | spared(4, count))
+}
+
+// The same of byte i.
 fn may_start(table: &[u8], i: usize, count: usize) -> u8
     requires { ⌜ (i + 1 < length (now table)) × (0 < count) ⌝ }
     ensures { λ r. ⌜ MayStart (entriesOf (now (table .entry))) count i r ⌝ }
 {
-    let a = table[i];
-    let b = table[i + 1];
-    let free = !(a | (a >> 1)) & 0x55;
-    let next = !(b | (b >> 1)) & 0x55;
-    free
-        & aligned_bits(count)
-        & ((free >> 2) | (next << 6) | spared(1, count))
-        & ((free >> 4) | (next << 4) | spared(2, count))
-        & ((free >> 6) | (next << 2) | spared(3, count))
-        & (next | spared(4, count))
+    if count < 4 {
+        return few_starts(table[i], table[i + 1], count);
+    }
+    many_starts(table[i], table[i + 1], count)
 }
 
 // Zero if count blocks may start nowhere in the 16 bytes from byte i on. No early exit.
@@ -90,24 +106,23 @@ fn pass_by_16(table: &[u8], i: usize, count: usize) -> usize
     at
 }
 
-// A block from `from` on before which count blocks may start nowhere, and at which they are aligned. Bytes are passed in which they may not start, and behind
-// them it is the first block at which they may. It is the next aligned one if that lies inside a byte, in the last one, or in one in which they may start.
+// A block from `from` on before which count blocks may start nowhere. Bytes are passed in which they may not start, and behind them it
+// is the first block at which they may. It is `from` itself if that lies inside a byte, in the last one, or in one in which they may start.
 pub fn skip(table: &[u8], from: Block, count: usize) -> Block
     requires { ⌜ (length (now table) ≤ 1024) × ((from .0 ≤ length (entriesOf (now table))) × (0 < count)) ⌝ }
-    ensures { λ r. ⌜ Skipped (entriesOf (now (table .entry))) count (from .0) (r .0) ⌝ }
+    ensures { λ r. ⌜ (r .0 ≤ length (entriesOf (now (table .entry)))) × ((from .0 ≤ r .0) × NoStart (entriesOf (now (table .entry))) count (from .0) (r .0)) ⌝ }
 {
-    let start = from.align_up(count);
-    let at = start.index();
+    let at = from.index();
     if at % 4 != 0 {
-        return start;
+        return from;
     }
     let n = table.len();
     let byte = at / 4;
     if n - byte < 2 {
-        return start;
+        return from;
     }
     if may_start(table, byte, count) != 0 {
-        return start;
+        return from;
     }
     let mut i = pass_by_16(table, byte + 1, count);
     while 1 < n - i {
@@ -118,28 +133,6 @@ pub fn skip(table: &[u8], from: Block, count: usize) -> Block
         i += 1;
     }
     Block::first().plus(4 * i)
-}
-
-// So many blocks from `from` on, count at most, are FREE: those of the whole bytes that are 0, if `from` is the first block of a byte. There may be
-// more.
-pub fn free_bytes(table: &[u8], from: Block, count: usize) -> usize
-    requires { ⌜ from .0 + count ≤ length (entriesOf (now table)) ⌝ }
-    ensures { λ r. ⌜ (r ≤ count) × Run (entriesOf (now (table .entry))) r (from .0) ⌝ }
-{
-    let at = from.index();
-    if at % 4 != 0 {
-        return 0;
-    }
-    let byte = at / 4;
-    let whole = count / 4;
-    let mut i = 0;
-    while i < whole {
-        if table[byte + i] != 0 {
-            return 4 * i;
-        }
-        i += 1;
-    }
-    4 * whole
 }
 
 // How many of 32 entries stand above the last of which a bit is set, by the zeros above it; 32 if there is none.

@@ -9,7 +9,6 @@ ghost use lib.ListN.{length, take, drop, replicate};
 ghost use lib.Seq.{sets};
 ghost use Rattle.rules.specs.Words.{number, wordAt, withWord};
 ghost use Rattle.rules.specs.Tables.{aligned};
-ghost use Rattle.rules.specs.Meaning.{FirstAligned};
 ghost use Rattle.rules.specs.Pointers.{addressOf, goodBase, targetOf};
 ghost use Rattle.rules.specs.Calls.{blocksFor};
 ghost use Rattle.memory.specs.Places.{found};
@@ -99,17 +98,6 @@ impl Block {
             return true;
         }
         self.0 % 4 == 0
-    }
-
-    // The first block from this one on at which count blocks are aligned.
-    pub fn align_up(self, count: usize) -> Block
-        requires { ⌜ self .0 < 2 ^ 32 ⌝ }
-        ensures { λ r. ⌜ FirstAligned count (self .0) (r .0) ⌝ }
-    {
-        if count < 4 {
-            return self;
-        }
-        Block((self.0 + 3) / 4 * 4)
     }
 
     // Where the block's bytes start in the pool.

@@ -1,7 +1,7 @@
 -- The gaps and the counts of a laid list are those of its table: the lowest gap with room, the gap after an object, the longest gap, used blocks and objects.
 -- Assumes nothing.
 use mathlib.Core.Path.{_≡_, refl, sym, _∙_}
-use mathlib.Core.Logic.{_≢_}
+use mathlib.Core.Logic.{_≢_, inl, inr, ⊎-elim}
 use mathlib.Core.Bool.{Bool, true, false}
 use mathlib.Core.List.{List, _∷_}
 use mathlib.Core.Option.{some, none}
@@ -16,28 +16,36 @@ use borrow.Author.Tests.{eq-eqb, ne-eqb, lt-ltb, le-ltb, leb-true, leb-false}
 use Rattle.rules.specs.Tests.{pick, count, leading}
 use Rattle.rules.specs.Entries.{FREE}
 use Rattle.rules.specs.Tables.{entryAt, isFree, isUsed, isHead, freeFrom, aligned, firstFit, used, objects, longest}
-use Rattle.rules.specs.Meaning.{Run, FirstAligned, Fits, Lowest}
+use Rattle.rules.specs.Meaning.{Run, Aligned, Fits, Lowest}
 use Rattle.rules.proofs.Lists.{count-cons, leading-is}
-use Rattle.rules.proofs.Tables.{run-le, run-longest, aligned-of, aligned-says, few-aligned, many-aligned, first-is}
+use Rattle.rules.proofs.Tables.{run-le, run-longest, aligned-of, aligned-says, first-is}
 use Rattle.rules.proofs.Refusals.{true-not-false}
 use Rattle.plain.specs.Objects.{Object, end, total, find, placeFrom, lowestGap, longestGap, nextStart}
 use Rattle.plain.proofs.Laid.{Clear, Lies, lies-used, Laid, done, next, find-below}
 
 -- ---- the first place for b blocks
 
-place-says : (b from : ℕ) → FirstAligned b from (placeFrom b from)
+-- block s is the first from block `from` on at which b blocks are aligned
+record Place (b from s : ℕ) : Type 0 where
+  onward : from ≤ s
+  aligned : Aligned b s
+  first : (q : ℕ) → from ≤ q → q < s → Aligned b q → ⊥
+
+place-says : (b from : ℕ) → Place b from (placeFrom b from)
 unfolding placeFrom
 place-says b from = go (decLt b 4)
   where
-    go : Dec (b < 4) → FirstAligned b from (pick (ltb b 4) from (4 * ((from + 3) / 4)))
-    go (yes few) = rw (lt-ltb b 4 few) (few-aligned b from few)
-    go (no many) = rw (le-ltb b 4 (omega arith)) (many-aligned b from (omega arith))
+    go : Dec (b < 4) → Place b from (pick (ltb b 4) from (4 * ((from + 3) / 4)))
+    go (yes few) = rw (lt-ltb b 4 few) (record { onward = omega arith; aligned = inl few; first = λ q l r. absurd (omega arith) })
+    go (no many) =
+        rw (le-ltb b 4 (omega arith))
+        (record { onward = omega arith; aligned = inr (omega arith); first = λ q l r. ⊎-elim (λ few. omega arith) (λ front. omega arith) })
 
 -- a block is its own first place exactly if b blocks are aligned there
 pub place-own : (b s : ℕ) → eqb (placeFrom b s) s ≡ aligned b s
 place-own b s = go (aligned b s) refl
   where
-    p : FirstAligned b s (placeFrom b s)
+    p : Place b s (placeFrom b s)
     p = place-says b s
 
     go : (v : Bool) → aligned b s ≡ v → eqb (placeFrom b s) s ≡ v
@@ -51,7 +59,7 @@ place-own b s = go (aligned b s) refl
 -- ---- the lowest gap with room
 
 -- none fits before the first place of a gap, if none does before the gap
-fits-from : {es : List ℕ} {b from s : ℕ} → FirstAligned b from s → ((q : ℕ) → q < from → Fits es b q → ⊥) → (q : ℕ) → q < s → Fits es b q → ⊥
+fits-from : {es : List ℕ} {b from s : ℕ} → Place b from s → ((q : ℕ) → q < from → Fits es b q → ⊥) → (q : ℕ) → q < s → Fits es b q → ⊥
 fits-from {from} p lower q l f = go (decLt q from)
   where
     go : Dec (q < from) → ⊥
@@ -78,7 +86,7 @@ module _ {pool es : List ℕ} (b : ℕ) (some-block : 0 < b) where
       s : ℕ
       s = placeFrom b from
 
-      p : FirstAligned b from s
+      p : Place b from s
       p = place-says b from
 
       go : (t : Bool) → leb (s + b) (length es) ≡ t → Lowest es b (pick t (some s) none)
@@ -94,7 +102,7 @@ module _ {pool es : List ℕ} (b : ℕ) (some-block : 0 < b) where
       s : ℕ
       s = placeFrom b from
 
-      p : FirstAligned b from s
+      p : Place b from s
       p = place-says b from
 
       go : (t : Bool) → leb (s + b) (o .start) ≡ t → (((q : ℕ) → q < end o → Fits es b q → ⊥) → Lowest es b (lowestGap (length es) b (end o) os))

@@ -5,7 +5,7 @@ use mathlib.Core.Logic.{_≢_, _⊎_, inl, inr, ⊎-elim}
 use mathlib.Core.Bool.{Bool, true, false, not}
 use mathlib.Core.List.{List, [], _∷_}
 use mathlib.Core.Option.{Option, some, none}
-use Prim.Native.Nat.{ℕ, zero, suc, _+_, _-_, _*_, _/_, _%_, _≤_, _<_}
+use Prim.Native.Nat.{ℕ, zero, suc, _+_, _-_, _%_, _≤_, _<_}
 use native.Mathlib.Nat.{eq-or-lt-of-le}
 use native.Mathlib.Decide.{ℕ-discrete, decLt}
 use native.Mathlib.Omega.{arith}
@@ -16,7 +16,7 @@ use borrow.Author.Tests.{eqb-true, eqb-false, eq-eqb, ne-eqb, leb-true, le-leb, 
 use Rattle.rules.specs.Tests.{pick, both, either, leading}
 use Rattle.rules.specs.Entries.{FREE, HEAD, TAIL, MARK}
 use Rattle.rules.specs.Tables.{entryAt, isFree, isUsed, isHead, isTail, mayFollow, wellAfter, wellFormed, blockCount, startOf, freeFrom, aligned, fits, firstFrom, firstFit, growsInPlace, used, objects, longest}
-use Rattle.rules.specs.Meaning.{Well, Extent, Start, Run, Aligned, FirstAligned, Fits, Lowest, GrowsInPlace, Longest}
+use Rattle.rules.specs.Meaning.{Well, Extent, Start, Run, Aligned, Fits, Lowest, GrowsInPlace, Longest}
 use Rattle.rules.proofs.Refusals.{true-not-false, both-left, both-right}
 use Rattle.rules.proofs.Lists.{count-le, leading-le, leading-pass, leading-stop, leading-more}
 
@@ -253,13 +253,6 @@ aligned-says b s e = go (ltb b 4) refl e
     go : (v : Bool) → ltb b 4 ≡ v → either v (eqb (s % 4) 0) ≡ true → Aligned b s
     go true few _ = inl (ltb-true b 4 few)
     go false _ front = inr (eqb-true (s % 4) 0 front)
-
--- the next such block is the next number divisible by four, or the block itself for fewer than four
-pub few-aligned : (b s : ℕ) → b < 4 → FirstAligned b s s
-few-aligned b s few = record { onward = omega arith; aligned = inl few; first = λ q l r. absurd (omega arith) }
-
-pub many-aligned : (b s : ℕ) → 4 ≤ b → FirstAligned b s (4 * ((s + 3) / 4))
-many-aligned b s many = record { onward = omega arith; aligned = inr (omega arith); first = λ q l r. ⊎-elim (λ few. omega arith) (λ front. omega arith) }
 
 -- ---- the lowest start
 

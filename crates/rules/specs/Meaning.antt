@@ -81,12 +81,6 @@ pub record Run (es : List ℕ) (b s : ℕ) : Type 0 where
 abbrev pub Aligned : ℕ → ℕ → Type 0
 Aligned b s = (b < 4) ⊎ (s % 4 ≡ 0)
 
--- block r is the first from block s on at which b blocks are aligned
-pub record FirstAligned (b s r : ℕ) : Type 0 where
-  pub onward : s ≤ r
-  pub aligned : Aligned b r
-  pub first : (q : ℕ) → s ≤ q → q < r → Aligned b q → ⊥
-
 -- b blocks may start at block s
 pub record Fits (es : List ℕ) (b s : ℕ) : Type 0 where
   -- they are aligned there

@@ -29,7 +29,7 @@ fn free_blocks(table: &[u8], from: Block, count: usize) -> usize
     requires { ⌜ (length (now table) ≤ 1024) × (from .0 + count ≤ length (entriesOf (now table))) ⌝ }
     ensures { λ r. ⌜ r ≡ min count (freeFrom (entriesOf (now (table .entry))) (from .0)) ⌝ }
 {
-    let mut i = freeruns::free_bytes(table, from, count);
+    let mut i = 0;
     while i < count {
         if entries::entry(table, from.plus(i)) != entries::FREE {
             return i;
@@ -58,6 +58,17 @@ pub fn grows_in_place(table: &[u8], k: Block, old: usize, new: usize) -> bool
 // The lowest block at which count blocks may start.
 pub fn first_fit(table: &[u8], count: usize) -> Found
     requires { ⌜ (length (now table) ≤ 1024) × (0 < count) ⌝ }
+    ensures { λ r. ⌜ found r ≡ firstFit (entriesOf (now (table .entry))) count ⌝ }
+{
+    if count < 4 {
+        return first_few(table, count);
+    }
+    freeruns::aligned::first_fit(table, count)
+}
+
+// The same of fewer than four blocks, which are aligned everywhere.
+fn first_few(table: &[u8], count: usize) -> Found
+    requires { ⌜ (length (now table) ≤ 1024) × ((0 < count) × (count < 4)) ⌝ }
     ensures { λ r. ⌜ found r ≡ firstFit (entriesOf (now (table .entry))) count ⌝ }
 {
     let n = entries::blocks(table);

@@ -1,50 +1,51 @@
--- `may_start`: the bits that are left are those of the law.
+-- `may_start`: what holds of the two bytes holds of byte i of the table.
 -- Assumes nothing.
+use mathlib.Core.Path.{refl}
 use borrow.Author.Needs.{needs}
-use Rattle.freeruns.proofs.Starts.{may-start}
 use Rattle.freeruns.proofs.may_start.Statement.{statement}
 use Rattle.freeruns.proofs.may_start.Tie as tie
 
-shared-slice-read-a : tie.Need-shared-slice-read-a
-shared-slice-read-a c = search needs
+shared-slice-read-few-starts : tie.Need-shared-slice-read-few-starts
+shared-slice-read-few-starts c = search needs
 
-add-b : tie.Need-add-b
-add-b c = search needs
+add-few-starts : tie.Need-add-few-starts
+add-few-starts c = search needs
 
-shared-slice-read-b : tie.Need-shared-slice-read-b
-shared-slice-read-b c = search needs
+shared-slice-read-few-starts-2 : tie.Need-shared-slice-read-few-starts-2
+shared-slice-read-few-starts-2 c = search needs
 
-aligned-bits-requires : tie.Need-aligned-bits-requires
-aligned-bits-requires c κs = search needs
-
-spared-requires : tie.Need-spared-requires
-spared-requires c κs = search needs
-
-spared-requires-2 : tie.Need-spared-requires-2
-spared-requires-2 c κs = search needs
-
-spared-requires-3 : tie.Need-spared-requires-3
-spared-requires-3 c κs = search needs
-
-spared-requires-4 : tie.Need-spared-requires-4
-spared-requires-4 c κs = search needs
+few-starts-requires : tie.Need-few-starts-requires
+few-starts-requires c κs = search needs
 
 returns : tie.Need-returns
-returns c =
-    let s = c .before .before .before .before .before .before .before .before in
-    rw (c .before .before .before .before .aligned-bits .ensures, c .before .before .before .spared .ensures, c .before .before .spared2 .ensures, c .before .spared3 .ensures, c .spared4 .ensures)
-    (may-start (s .args .table .now) (s .args .i) (s .args .count) (λ k. c .before .before .before .before .before .shared-slice-known3 .given k .fits) (s .pre .1))
+returns c = c .few-starts .ensures _ _ refl refl
+
+shared-slice-read-many-starts : tie.Need-shared-slice-read-many-starts
+shared-slice-read-many-starts c = search needs
+
+add-many-starts : tie.Need-add-many-starts
+add-many-starts c = search needs
+
+shared-slice-read-many-starts-2 : tie.Need-shared-slice-read-many-starts-2
+shared-slice-read-many-starts-2 c = search needs
+
+many-starts-requires : tie.Need-many-starts-requires
+many-starts-requires c κs = search needs
+
+returns-2 : tie.Need-returns-2
+returns-2 c = c .many-starts .ensures _ _ refl refl
 
 pub may-start-spec : {M : Type 1} → statement M
 may-start-spec =
     tie.close
     (tie.spec
-    shared-slice-read-a
-    add-b
-    shared-slice-read-b
-    aligned-bits-requires
-    spared-requires
-    spared-requires-2
-    spared-requires-3
-    spared-requires-4
-    returns)
+    shared-slice-read-few-starts
+    add-few-starts
+    shared-slice-read-few-starts-2
+    few-starts-requires
+    returns
+    shared-slice-read-many-starts
+    add-many-starts
+    shared-slice-read-many-starts-2
+    many-starts-requires
+    returns-2)

@@ -2,43 +2,23 @@
 -- it by sixteens and then one by one.
 -- Assumes nothing.
 use mathlib.Core.Path.{_≡_}
-use mathlib.Core.Logic.{inr}
 use mathlib.Core.List.{List}
-use Prim.Native.Nat.{ℕ, _+_, _-_, _*_, _/_, _%_, _≤_, _<_}
-use native.Mathlib.Decide.{decLt}
+use Prim.Native.Nat.{ℕ, _+_, _-_, _*_, _/_, _≤_, _<_}
 use native.Mathlib.Omega.{arith}
 use lib.ListN.{length}
 use borrow.Author.Needs.{needs}
 use Rattle.rules.specs.Entries.{entriesOf}
-use Rattle.rules.specs.Meaning.{Aligned, FirstAligned}
 use Rattle.rules.proofs.Entries.{length-entriesOf}
-use Rattle.freeruns.specs.Starts.{NoStart, Skipped}
+use Rattle.freeruns.specs.Starts.{NoStart}
 use Rattle.freeruns.proofs.Rows.{first-lt}
 use Rattle.freeruns.proofs.Starts.{no-start-join, none-before, none-at-all}
 use Rattle.freeruns.proofs.skip.Statement.{statement}
 use Rattle.freeruns.proofs.skip.Tie as tie
 
--- from block s the first aligned one is block a
-module _ (es : List ℕ) (b s a : ℕ) (whole : length es % 4 ≡ 0) (inside : s ≤ length es) (first : FirstAligned b s a) where
-  -- which is at most the end of the table
-  aligned-room : a ≤ length es
-  aligned-room = go (decLt (length es) a)
-    where
-      go : Dec (length es < a) → a ≤ length es
-      go (yes l) = absurd (first .first (length es) inside l (inr whole))
-      go (no l) = omega arith
-
-  -- nor may the blocks start from there on before block e
-  skipped-to : (e : ℕ) → a ≤ e → e ≤ length es → NoStart es b a e → Aligned b e → Skipped es b s e
-  skipped-to e l room none aligned = record {
-    onward = omega (arith, first .onward);
-    room = room;
-    none = no-start-join es b s a e (λ q from to f. first .first q from to (f .aligned)) none;
-    aligned = aligned;
-  }
-
-  skipped-here : Skipped es b s a
-  skipped-here = skipped-to a (omega arith) aligned-room (λ q l h f. omega arith) (first .aligned)
+-- no run starts before `end`, and the answer is the block with this number
+answered : (es : List ℕ) (count : ℕ) {from first block : ℕ} (end : ℕ) → end ≤ length es → first ≡ from → block ≡ end → (first ≤ end) × NoStart es count first end
+    → (block ≤ length es) × ((from ≤ block) × NoStart es count from block)
+answered es count end room f b known = rw (b, ← f) (room, known)
 
 abbrev Inv-loop : tie.InvT-loop
 Inv-loop table count at n byte i₀ i = (i ≤ length table) × ((at ≤ 4 * i) × NoStart (entriesOf table) count at (4 * i))
@@ -46,43 +26,23 @@ Inv-loop table count at n byte i₀ i = (i ≤ length table) × ((at ≤ 4 * i) 
 abbrev μ-loop : tie.MeasureT-loop
 μ-loop table count at n byte i₀ i = length table - i
 
-align-up-requires : tie.Need-align-up-requires Inv-loop μ-loop
-align-up-requires c κs = omega (arith, c .before .pre .0, c .before .pre .1 .0, length-entriesOf (c .before .args .table .now))
-
 index-requires : tie.Need-index-requires Inv-loop μ-loop
 index-requires c κs = search needs
 
--- the first aligned block is known as soon as it is computed
-module _ (c : tie.After-align-up Inv-loop μ-loop) where
-  abbrev es : List ℕ
-  es = entriesOf (c .before .before .args .table .now)
-
-  whole : length es % 4 ≡ 0
-  whole = omega (arith, length-entriesOf (c .before .before .args .table .now))
-
-  from-here : Skipped es (c .before .before .args .count) (c .before .before .args .from .0) (c .align-up .result .0)
-  from-here = skipped-here _ _ _ _ whole (c .before .before .pre .1 .0) (c .align-up .ensures)
-
-  from-there : (e : ℕ) → c .align-up .result .0 ≤ e → e ≤ length es → NoStart es (c .before .before .args .count) (c .align-up .result .0) e
-      → Aligned (c .before .before .args .count) e → Skipped es (c .before .before .args .count) (c .before .before .args .from .0) e
-  from-there = skipped-to _ _ _ _ whole (c .before .before .pre .1 .0) (c .align-up .ensures)
-
 returns : tie.Need-returns Inv-loop μ-loop
-returns c = from-here (c .before .before)
+returns c = (search needs, (search needs, λ q l h r. omega arith))
 
 sub-if2 : tie.Need-sub-if2 Inv-loop μ-loop
-sub-if2 c =
-    let t = c .before .before in
-    omega (arith, c .before .index .ensures, from-here t .room, length-entriesOf (t .before .before .args .table .now))
+sub-if2 c = omega (arith, length-entriesOf (c .before .before .before .args .table .now))
 
 returns-2 : tie.Need-returns-2 Inv-loop μ-loop
-returns-2 c = from-here (c .before .before .before)
+returns-2 c = (search needs, (search needs, λ q l h r. omega arith))
 
 may-start-requires : tie.Need-may-start-requires Inv-loop μ-loop
 may-start-requires c κs = search needs
 
 returns-3 : tie.Need-returns-3 Inv-loop μ-loop
-returns-3 c = from-here (c .before .before .before .before .before)
+returns-3 c = (search needs, (search needs, λ q l h r. omega arith))
 
 add-pass-by-16 : tie.Need-add-pass-by-16 Inv-loop μ-loop
 add-pass-by-16 c = search needs
@@ -92,7 +52,7 @@ pass-by-16-requires c κs = search needs
 
 loop-holds : tie.Need-loop-holds Inv-loop μ-loop
 loop-holds c =
-    let a = c .before .before .before .before .before .before .before .before .args in
+    let a = c .before .before .before .before .before .before .before .args in
     let at = c .before .before .before .before .before .index .result in
     let r = c .pass-by-16 .ensures in
     let may = c .before .before .may-start in (
@@ -138,19 +98,15 @@ returns-4 : tie.Need-returns-4 Inv-loop μ-loop
 returns-4 c =
     let l = c .before .before .before .before .before .before in
     let index = l .before .before .before .before .before .before .index in
-    let t = l .before .before .before .before .before .before .before in
-    let a = t .before .before .args in
+    let a = l .before .before .before .before .before .before .before .before .args in
     let es = entriesOf (a .table .now) in
     let may = c .before .before .before .before .may-start2 in
     let n = c .before .first2 .result in
     let few = first-of-byte (c .before) in
     let end : ℕ = 4 * l .loop .i + n in
     let none = none-before es (a .count) (l .loop .i) (may .result) n (omega arith) (may .ensures) (c .before .first2 .ensures .before) in
-    let e : c .plus .result .0 ≡ end = omega (arith, c .plus .ensures, c .before .before .first .ensures) in
-    rw e
-    (from-there t end (omega (arith, index .ensures, l .loop .inv .1 .0)) (omega (arith, length-entriesOf (a .table .now)))
-    (rw (index .ensures) at (no-start-join es (a .count) (index .result) (4 * l .loop .i) end (l .loop .inv .1 .1) none))
-    (may .ensures .aligned n few (c .before .first2 .ensures .next (omega arith))))
+    answered es (a .count) end (omega (arith, length-entriesOf (a .table .now))) (index .ensures) (omega (arith, c .plus .ensures, c .before .before .first .ensures))
+    (omega arith, no-start-join es (a .count) (index .result) (4 * l .loop .i) end (l .loop .inv .1 .1) none)
 
 add-i : tie.Need-add-i Inv-loop μ-loop
 add-i c = search needs
@@ -160,7 +116,7 @@ loop-less c = search needs
 
 loop-again : tie.Need-loop-again Inv-loop μ-loop
 loop-again c =
-    let a = c .before .before .before .before .before .before .before .before .before .before .before .before .args in
+    let a = c .before .before .before .before .before .before .before .before .before .before .before .args in
     let l = c .before .before .before .loop in (
       omega arith,
       (
@@ -182,12 +138,8 @@ plus-requires-2 c κs = search needs
 returns-5 : tie.Need-returns-5 Inv-loop μ-loop
 returns-5 c =
     let l = c .before .before .before in
-    let index = l .before .before .before .before .before .before .index in
-    let t = l .before .before .before .before .before .before .before in
-    let e : c .plus2 .result .0 ≡ 4 * l .loop .i = omega (arith, c .plus2 .ensures, c .before .first3 .ensures) in
-    rw e
-    (from-there t (4 * l .loop .i) (omega (arith, index .ensures, l .loop .inv .1 .0)) (omega (arith, l .loop .inv .0, length-entriesOf (t .before .before .args .table .now)))
-    (rw (index .ensures) at (l .loop .inv .1 .1)) (inr (omega arith)))
+    let a = l .before .before .before .before .before .before .before .before .args in
+    answered (entriesOf (a .table .now)) (a .count) (4 * l .loop .i) (omega (arith, length-entriesOf (a .table .now))) (l .before .before .before .before .before .before .index .ensures) (omega (arith, c .plus2 .ensures, c .before .first3 .ensures)) (l .loop .inv .1)
 
 pub skip-spec : {M : Type 1} → statement M
 skip-spec =
@@ -195,7 +147,6 @@ skip-spec =
     (tie.spec
     Inv-loop
     μ-loop
-    align-up-requires
     index-requires
     returns
     sub-if2

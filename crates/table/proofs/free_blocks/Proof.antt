@@ -31,15 +31,12 @@ stops es s i count h r taken =
 longer : (es : List ℕ) (s i : ℕ) → s + i < length es → Run es i s → entryAt es (s + i) ≡ FREE → Run es (i + 1) s
 longer es s i inside r free = record { room = omega arith; free = below-more _ _ (r .free) free }
 
-free-bytes-requires : tie.Need-free-bytes-requires Inv-loop μ-loop
-free-bytes-requires c κs = search needs
-
 loop-holds : tie.Need-loop-holds Inv-loop μ-loop
-loop-holds c = c .free-bytes .ensures
+loop-holds c = (omega arith, record { room = search needs; free = λ j l. absurd (omega arith) })
 
 plus-requires : tie.Need-plus-requires Inv-loop μ-loop
 plus-requires c κs =
-    let s = c .before .before .before .before in
+    let s = c .before .before .before in
     omega (arith, s .pre .0, length-entriesOf (s .args .table .now))
 
 entry-requires : tie.Need-entry-requires Inv-loop μ-loop
@@ -47,7 +44,7 @@ entry-requires c κs = search needs
 
 -- what is read is the entry i blocks after `from`
 entry-is : (c : tie.After-entry Inv-loop μ-loop)
-    → let a = c .before .before .before .before .before .before .args in c .entry .result ≡ entryAt (entriesOf (a .table .now)) (a .from .0 + c .before .before .before .loop .i)
+    → let a = c .before .before .before .before .before .args in c .entry .result ≡ entryAt (entriesOf (a .table .now)) (a .from .0 + c .before .before .before .loop .i)
 entry-is c = rw (← c .before .plus .ensures) (c .entry .ensures)
 
 returns : tie.Need-returns Inv-loop μ-loop
@@ -73,7 +70,6 @@ free-blocks-spec =
     (tie.spec
     Inv-loop
     μ-loop
-    free-bytes-requires
     loop-holds
     plus-requires
     entry-requires
