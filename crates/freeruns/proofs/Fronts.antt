@@ -5,7 +5,7 @@ use mathlib.Core.Logic.{_≢_, _⊎_, inl, inr, ⊎-elim}
 use mathlib.Core.Bool.{Bool, true, false}
 use mathlib.Core.List.{List}
 use mathlib.Core.Option.{some}
-use Prim.Native.Nat.{ℕ, zero, suc, _+_, _-_, _*_, _%_, _/_, _≤_, _<_}
+use Prim.Native.Nat.{ℕ, _+_, _-_, _*_, _%_, _/_, _≤_, _<_}
 use native.Mathlib.Decide.{decLt}
 use native.Mathlib.Omega.{arith}
 use lib.Bits.{bitAnd, bitOr}
@@ -21,7 +21,7 @@ use Rattle.rules.proofs.Entries.{four, entryOf-or, or-none, entries-zero, lengt
 use Rattle.rules.proofs.Tables.{fits-skip}
 use Rattle.freeruns.specs.Rows.{Zeros}
 use Rattle.freeruns.specs.Starts.{NoStart, StartsIn}
-use Rattle.freeruns.proofs.Starts.{fronts, no-start-join}
+use Rattle.freeruns.proofs.Starts.{fronts}
 
 -- the entry of a block, by its byte
 entry-in : (t : List ℕ) (i j : ℕ) → j < 4 → entryAt (entriesOf t) (4 * i + j) ≡ entryOf (getD t i 0) j
@@ -43,14 +43,13 @@ front-says b r z = record {
     go (yes l) = let e = or-none (entryOf b 4) (entryOf 256 4) (sym (entryOf-or b 256 4) ∙ z .before 4 l) .1 in absurd (omega (arith, e))
     go (no l) = omega arith
 
--- what is known in the search for count blocks before byte i is read, where `run` FREE blocks from the front of a byte on lie directly before it
-pub record Searched (t : List ℕ) (count i run : ℕ) : Type 0 where
+-- what is known in the search for count blocks from byte `start` on, when the bytes before byte i are read: they are 0, and still too few
+pub record Searched (t : List ℕ) (count start i : ℕ) : Type 0 where
+  pub onward : start ≤ i
   pub inside : i ≤ length t
-  pub front : run % 4 ≡ 0
-  pub back : run ≤ 4 * i
-  pub short : run < count
-  pub free : Run (entriesOf t) run (4 * i - run)
-  pub none : NoStart (entriesOf t) count 0 (4 * i - run)
+  pub short : 4 * (i - start) < count
+  pub free : Run (entriesOf t) (4 * (i - start)) (4 * start)
+  pub none : NoStart (entriesOf t) count 0 (4 * start)
 
 -- four blocks or more start at a multiple of four
 front-of : (es : List ℕ) (count q : ℕ) → 4 ≤ count → Fits es count q → q % 4 ≡ 0
@@ -95,82 +94,63 @@ module _ (t : List ℕ) (count : ℕ) (many : 4 ≤ count) where
   abbrev es : List ℕ
   es = entriesOf t
 
-  pub searched-first : (r : ℕ) → r ≤ length t → NoStart es count 0 (4 * r) → Searched t count r 0
-  searched-first r room none = record {
+  -- nothing is read yet
+  pub searched-none : (start : ℕ) → start ≤ length t → NoStart es count 0 (4 * start) → Searched t count start start
+  searched-none start room none = record {
+    onward = omega arith;
     inside = room;
-    front = omega arith;
-    back = omega arith;
     short = omega arith;
     free = record { room = omega (arith, length-entriesOf t); free = λ j l. absurd (omega arith) };
-    none = λ q l h. none q l (omega arith);
+    none = none;
   }
 
-  -- bytes are passed where no FREE blocks lie before them
-  pub searched-passed : (i run r : ℕ) → Searched t count i run → r ≤ length t → NoStart es count (4 * i) (4 * r) → (0 < run → r ≡ i) → Searched t count r run
-  searched-passed i zero r s room none _ = record {
-    inside = room;
-    front = omega arith;
-    back = omega arith;
-    short = omega arith;
-    free = record { room = omega (arith, length-entriesOf t); free = λ j l. absurd (omega arith) };
-    none = λ q l h. no-start-join es count 0 (4 * i) (4 * r) (λ q l h. s .none q l (omega arith)) none q l (omega arith);
-  }
-  searched-passed i (suc run) r s room none still = rw (still (omega arith)) s
-
-  -- at the front of byte i are `free` more
-  module _ (i run free : ℕ) (s : Searched t count i run) (within : i < length t) (z : Zeros 4 (λ (j : ℕ). entryOf (getD t i 0) j) free) where
-    more : Run es (run + free) (4 * i - run)
+  -- at the front of byte i `free` more are FREE
+  module _ (start i free : ℕ) (s : Searched t count start i) (within : i < length t) (z : Zeros 4 (λ (j : ℕ). entryOf (getD t i 0) j) free) where
+    more : Run es (4 * (i - start) + free) (4 * start)
     more = record {
-      room = omega (arith, s .back, z .few, length-entriesOf t);
-      free = λ j l. go j l (decLt j run);
+      room = omega (arith, s .onward, z .few, length-entriesOf t);
+      free = λ j l. go j l (decLt j (4 * (i - start)));
     }
       where
-        go : (j : ℕ) → j < run + free → Dec (j < run) → entryAt es (4 * i - run + j) ≡ FREE
+        go : (j : ℕ) → j < 4 * (i - start) + free → Dec (j < 4 * (i - start)) → entryAt es (4 * start + j) ≡ FREE
         go j l (yes h) = s .free .free j h
         go j l (no h) =
-            let e : 4 * i - run + j ≡ 4 * i + (j - run) = omega (arith, s .back) in
-            rw e (entry-in t i (j - run) (omega (arith, z .few)) ∙ z .before (j - run) (omega arith))
+            let e : 4 * start + j ≡ 4 * i + (j - 4 * (i - start)) = omega (arith, s .onward) in
+            rw e (entry-in t i (j - 4 * (i - start)) (omega (arith, z .few)) ∙ z .before (j - 4 * (i - start)) (omega arith))
 
-    pub found-here : count ≤ run + free → Lowest es count (some (4 * i - run))
+    pub found-here : count ≤ 4 * (i - start) + free → Lowest es count (some (4 * start))
     unfolding Lowest
     found-here enough = (
       record {
-        aligned = inr (omega (arith, s .front, s .back));
+        aligned = inr (omega arith);
         run = record { room = omega (arith, more .room); free = λ j l. more .free j (omega arith) };
       },
       λ q l. s .none q (omega arith) l,
     )
 
     -- all four are FREE, and still too few
-    pub searched-whole : run + free < count → 4 ≤ free → Searched t count (i + 1) (run + 4)
-    searched-whole fewer all =
-        let e : 4 * (i + 1) - (run + 4) ≡ 4 * i - run = omega arith in
-        record {
-          inside = omega arith;
-          front = omega (arith, s .front);
-          back = omega (arith, s .back);
-          short = omega (arith, z .few);
-          free = rw e (record { room = omega (arith, more .room, z .few); free = λ j l. more .free j (omega arith) });
-          none = rw e (s .none);
-        }
-
-    -- a used one ends them
-    pub searched-cut : run + free < count → free < 4 → Searched t count (i + 1) 0
-    searched-cut fewer cut = record {
+    pub searched-more : 4 * (i - start) + free < count → 4 ≤ free → Searched t count start (i + 1)
+    searched-more fewer all = record {
+      onward = omega (arith, s .onward);
       inside = omega arith;
-      front = omega arith;
-      back = omega arith;
-      short = omega arith;
-      free = record { room = omega (arith, length-entriesOf t); free = λ j l. absurd (omega arith) };
-      none = λ q l h f.
-          fits-skip es count (4 * i - run) (run + free) (λ q l. s .none q (omega arith) l) fewer used q (omega (arith, front-of es count q many f, s .back)) f;
+      short = omega (arith, s .onward, z .few);
+      free = record { room = omega (arith, s .onward, length-entriesOf t); free = λ j l. more .free j (omega (arith, s .onward)) };
+      none = s .none;
     }
+
+    -- a used one ends them: the blocks may start neither in this byte nor before it
+    pub none-to-here : 4 * (i - start) + free < count → free < 4 → NoStart es count 0 (4 * (i + 1))
+    none-to-here fewer cut q l h f =
+        fits-skip es count (4 * start) (4 * (i - start) + free) (λ q l. s .none q (omega arith) l) fewer used q (omega (arith, front-of es count q many f, s .onward)) f
       where
-        used : entryAt es (4 * i - run + (run + free)) ≢ FREE
+        used : entryAt es (4 * start + (4 * (i - start) + free)) ≢ FREE
         used =
-            let e : 4 * i - run + (run + free) ≡ 4 * i + free = omega (arith, s .back) in
+            let e : 4 * start + (4 * (i - start) + free) ≡ 4 * i + free = omega (arith, s .onward) in
             rw (e, entry-in t i free cut) (z .next cut)
 
-  -- all bytes are read
-  pub searched-all : (i run : ℕ) → Searched t count i run → length t ≤ i → (q : ℕ) → Fits es count q → ⊥
-  searched-all i run s end q f = s .none q (omega arith) (omega (arith, f .run .room, s .short, s .back, length-entriesOf t)) f
+  -- the table ends: where nothing more is to be read, and where no start is left
+  pub ended-in-run : (start i : ℕ) → Searched t count start i → length t ≤ i → (q : ℕ) → Fits es count q → ⊥
+  ended-in-run start i s end q f = s .none q (omega arith) (omega (arith, f .run .room, s .short, s .onward, length-entriesOf t)) f
+
+  pub ended : (start : ℕ) → NoStart es count 0 (4 * start) → length t ≤ start → (q : ℕ) → Fits es count q → ⊥
+  ended start none end q f = none q (omega arith) (omega (arith, f .run .room, length-entriesOf t)) f

@@ -1,10 +1,8 @@
-// The search for four blocks or more. They start at a block number divisible by four, which is the front of a byte: so bytes are read one after
-// the other, but for parts of sixteen in which they may not start.
+// The search for four blocks or more. They start at a block number divisible by four, which is the front of a byte: so starts and runs are read by
+// bytes, but for parts of sixteen bytes in which the blocks may not start.
 ghost use mathlib.Core.Path.{_≡_};
 ghost use Prim.Native.Nat.{ℕ, _+_, _*_, _≤_, _<_};
-ghost use lib.Dec.{ltb};
 ghost use lib.ListN.{length};
-ghost use Rattle.rules.specs.Tests.{pick};
 ghost use Rattle.rules.specs.Entries.{entryOf, entriesOf};
 ghost use Rattle.rules.specs.Tables.{firstFit};
 ghost use Rattle.memory.specs.Places.{found};
@@ -13,15 +11,11 @@ ghost use Rattle.freeruns.specs.Starts.{NoStart};
 use memory::Block;
 use memory::Found;
 
-// The byte to read next, where `run` FREE blocks lie directly before byte i: bytes are passed only where there are none, and sixteen at a time.
-fn next(table: &[u8], i: usize, run: usize, count: usize) -> usize
+// The byte at which the search goes on from byte i: that byte, or one behind parts of sixteen bytes in which count blocks may not start.
+fn go_on(table: &[u8], i: usize, count: usize) -> usize
     requires { ⌜ (i ≤ length (now table)) × (0 < count) ⌝ }
     ensures { λ r. ⌜ (r ≤ length (now (table .entry))) × ((i ≤ r) × NoStart (entriesOf (now (table .entry))) count (4 * i) (4 * r)) ⌝ }
-    ensures { λ r. ⌜ (0 < run → r ≡ i) ⌝ }
 {
-    if run != 0 {
-        return i;
-    }
     if i % 16 != 0 {
         return i;
     }
@@ -35,32 +29,27 @@ fn front(b: u8) -> usize
     crate::first(b as u64 | 256)
 }
 
-// How many FREE blocks lie directly before the next byte, where `run` do before this one, at whose front are `free` more.
-fn run_on(run: usize, free: usize) -> usize
-    requires { ⌜ run < 4096 ⌝ }
-    ensures { λ r. ⌜ r ≡ pick (ltb free 4) 0 (run + 4) ⌝ }
-{
-    if free < 4 {
-        return 0;
-    }
-    run + 4
-}
-
 // The lowest block at which count blocks may start.
 pub fn first_fit(table: &[u8], count: usize) -> Found
     requires { ⌜ (length (now table) ≤ 1024) × (4 ≤ count) ⌝ }
     ensures { λ r. ⌜ found r ≡ firstFit (entriesOf (now (table .entry))) count ⌝ }
 {
     let n = table.len();
-    let mut run = 0;
-    let mut i = crate::pass_by_16(table, 0, count);
-    while i < n {
-        let free = front(table[i]);
-        if count <= run + free {
-            return Found::At(Block::first().plus(4 * i - run));
+    let mut start = go_on(table, 0, count);
+    'starts: while start < n {
+        let mut i = start;
+        while i < n {
+            let free = front(table[i]);
+            if count <= 4 * (i - start) + free {
+                return Found::At(Block::first().plus(4 * start));
+            }
+            if free < 4 {
+                start = go_on(table, i + 1, count);
+                continue 'starts;
+            }
+            i += 1;
         }
-        run = run_on(run, free);
-        i = next(table, i + 1, run, count);
+        return Found::Nowhere;
     }
     Found::Nowhere
 }

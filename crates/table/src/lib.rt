@@ -1,6 +1,7 @@
 // Objects in the allocation table, and the search for room.
 ghost use mathlib.Core.Path.{_≡_};
-ghost use Prim.Native.Nat.{_+_, _≤_, _<_, min};
+ghost use Prim.Native.Nat.{_+_, _≤_, _<_};
+ghost use lib.Dec.{leb};
 ghost use lib.ListN.{length};
 ghost use Rattle.rules.specs.Entries.{entriesOf};
 ghost use Rattle.rules.specs.Tables.{blockCount, freeFrom, firstFit, growsInPlace, placed, released, extended};
@@ -24,19 +25,22 @@ pub fn block_count(table: &[u8], k: Block) -> usize
     count
 }
 
-// How many of the count blocks from `from` on are FREE, up to the first that is not.
-fn free_blocks(table: &[u8], from: Block, count: usize) -> usize
-    requires { ⌜ (length (now table) ≤ 1024) × (from .0 + count ≤ length (entriesOf (now table))) ⌝ }
-    ensures { λ r. ⌜ r ≡ min count (freeFrom (entriesOf (now (table .entry))) (from .0)) ⌝ }
+// Whether the count blocks from `from` on are blocks of the table, and FREE.
+fn is_free(table: &[u8], from: Block, count: usize) -> bool
+    requires { ⌜ (length (now table) ≤ 1024) × (from .0 ≤ length (entriesOf (now table))) ⌝ }
+    ensures { λ r. ⌜ r ≡ leb count (freeFrom (entriesOf (now (table .entry))) (from .0)) ⌝ }
 {
+    if from.until(entries::blocks(table)) < count {
+        return false;
+    }
     let mut i = 0;
     while i < count {
         if entries::entry(table, from.plus(i)) != entries::FREE {
-            return i;
+            return false;
         }
         i += 1;
     }
-    count
+    true
 }
 
 // Whether the object of old blocks at k may get more blocks, new in all, where it is.
@@ -47,12 +51,7 @@ pub fn grows_in_place(table: &[u8], k: Block, old: usize, new: usize) -> bool
     if !k.is_aligned(new) {
         return false;
     }
-    let end = k.plus(old);
-    let more = new - old;
-    if end.until(entries::blocks(table)) < more {
-        return false;
-    }
-    free_blocks(table, end, more) == more
+    is_free(table, k.plus(old), new - old)
 }
 
 // The lowest block at which count blocks may start.
@@ -73,12 +72,16 @@ fn first_few(table: &[u8], count: usize) -> Found
 {
     let n = entries::blocks(table);
     let mut start = freeruns::skip(table, Block::first(), count);
-    while count <= start.until(n) {
-        let free = free_blocks(table, start, count);
-        if free == count {
-            return Found::At(start);
+    'starts: while count <= start.until(n) {
+        let mut i = 0;
+        while i < count {
+            if entries::entry(table, start.plus(i)) != entries::FREE {
+                start = freeruns::skip(table, start.plus(i + 1), count);
+                continue 'starts;
+            }
+            i += 1;
         }
-        start = freeruns::skip(table, start.plus(free + 1), count);
+        return Found::At(start);
     }
     Found::Nowhere
 }

@@ -1,28 +1,18 @@
--- `grows_in_place`: where the blocks are aligned, too few after the object are no run, and so many are one exactly if all are FREE.
+-- `grows_in_place`: the two tests of the definition, one after the other.
 -- Assumes nothing.
-use mathlib.Core.Path.{_≡_, sym, _∙_}
+use mathlib.Core.Path.{_≡_, ap, sym, _∙_}
 use mathlib.Core.Bool.{true, false}
 use mathlib.Core.List.{List}
-use Prim.Native.Nat.{ℕ, _+_, _-_, _<_, min}
-use native.Mathlib.Decide.{decLt}
+use Prim.Native.Nat.{ℕ, _+_, _-_}
 use native.Mathlib.Omega.{arith}
-use lib.Dec.{eqb, leb}
+use lib.Dec.{leb}
 use borrow.Author.Needs.{needs}
-use borrow.Author.Tests.{eq-eqb, ne-eqb, le-leb, lt-leb, not-true, not-false}
+use borrow.Author.Tests.{not-true, not-false}
 use Rattle.rules.specs.Entries.{entriesOf}
 use Rattle.rules.specs.Tables.{freeFrom, aligned, growsInPlace}
 use Rattle.rules.proofs.Entries.{length-entriesOf}
-use Rattle.rules.proofs.Tables.{free-room}
 use Rattle.table.proofs.grows_in_place.Statement.{statement}
 use Rattle.table.proofs.grows_in_place.Tie as tie
-
--- the least of two numbers is the first exactly if that is not larger
-least : (a b : ℕ) → eqb (min a b) a ≡ leb a b
-least a b = go (decLt b a)
-  where
-    go : Dec (b < a) → eqb (min a b) a ≡ leb a b
-    go (yes l) = rw (lt-leb a b l) (ne-eqb (min a b) a (omega arith))
-    go (no l) = rw (le-leb a b (omega arith)) (eq-eqb (min a b) a (omega arith))
 
 module _ (es : List ℕ) (k old new : ℕ) where
   not-aligned : aligned new k ≡ false → growsInPlace es k old new ≡ false
@@ -39,40 +29,24 @@ is-aligned-requires c κs = search needs
 returns : tie.Need-returns
 returns c = sym (not-aligned _ _ _ _ (sym (c .before .is-aligned .ensures) ∙ not-true _ (c .if1 .taken)))
 
--- the blocks are aligned
-aligned-at : (c : tie.Else1) → let a = c .before .before .before .args in aligned (a .new) (a .k .0) ≡ true
-aligned-at c = sym (c .before .is-aligned .ensures) ∙ not-false _ (c .if1 .left)
-
 plus-requires : tie.Need-plus-requires
 plus-requires c κs =
     let s = c .before .before .before in
     omega (arith, s .pre .0, length-entriesOf (s .args .table .now))
 
-sub-more : tie.Need-sub-more
-sub-more c = search needs
+sub-is-free : tie.Need-sub-is-free
+sub-is-free c = search needs
 
-blocks-requires : tie.Need-blocks-requires
-blocks-requires c κs = search needs
-
-until-requires : tie.Need-until-requires
-until-requires c κs = search needs
+is-free-requires : tie.Need-is-free-requires
+is-free-requires c κs = search needs
 
 returns-2 : tie.Need-returns-2
 returns-2 c =
-    let a = c .before .before .before .before .before .before .before .args in
+    let e = c .before .before in
+    let a = e .before .before .before .args in
     let es = entriesOf (a .table .now) in
-    rw (where-aligned es (a .k .0) (a .old) (a .new) (aligned-at (c .before .before .before .before)))
-    (sym (lt-leb (a .new - a .old) (freeFrom es (a .k .0 + a .old)) (omega (arith, free-room es (a .k .0 + a .old)))))
-
-free-blocks-requires : tie.Need-free-blocks-requires
-free-blocks-requires c κs = search needs
-
-returns-3 : tie.Need-returns-3
-returns-3 c =
-    let a = c .before .before .before .before .before .before .before .before .args in
-    let es = entriesOf (a .table .now) in
-    rw (where-aligned es (a .k .0) (a .old) (a .new) (aligned-at (c .before .before .before .before .before)), c .free-blocks .ensures, c .before .before .before .before .plus .ensures)
-    (least (a .new - a .old) (freeFrom es (a .k .0 + a .old)))
+    c .is-free .ensures ∙ ap (λ (end : ℕ). leb (a .new - a .old) (freeFrom es end)) (c .before .plus .ensures)
+    ∙ sym (where-aligned es (a .k .0) (a .old) (a .new) (sym (e .before .is-aligned .ensures) ∙ not-false _ (e .if1 .left)))
 
 pub grows-in-place-spec : {M : Type 1} → statement M
 grows-in-place-spec =
@@ -81,9 +55,6 @@ grows-in-place-spec =
     is-aligned-requires
     returns
     plus-requires
-    sub-more
-    blocks-requires
-    until-requires
-    returns-2
-    free-blocks-requires
-    returns-3)
+    sub-is-free
+    is-free-requires
+    returns-2)

@@ -1,105 +1,125 @@
--- `first_fit`: blocks may start nowhere before the FREE blocks in hand, and those go on, are enough, or end. The answer is the lowest start, and there is
--- one lowest start.
+-- `first_fit`: blocks may start nowhere before the start in hand, and the bytes from there on are enough, are 0, or end the run: then the search goes on
+-- after that byte. The answer is the lowest start, and there is one lowest start.
 -- Assumes nothing.
-use mathlib.Core.Path.{_≡_, sym}
-use mathlib.Core.List.{List}
+use mathlib.Core.Path.{_≡_, refl, sym}
 use mathlib.Core.Option.{some}
-use Prim.Native.Nat.{ℕ, _+_, _-_, _*_, _≤_, _<_}
-use native.Mathlib.Decide.{decLt}
+use Prim.Native.Nat.{_+_, _-_, _*_, _≤_}
 use native.Mathlib.Omega.{arith}
-use lib.Dec.{ltb}
-use lib.ListN.{length, getD}
+use lib.ListN.{length}
 use borrow.Author.Needs.{needs}
-use borrow.Author.Tests.{lt-ltb, le-ltb}
-use Rattle.rules.specs.Tests.{pick}
-use Rattle.rules.specs.Entries.{entryOf}
+use Rattle.rules.specs.Entries.{entriesOf}
 use Rattle.rules.proofs.Tables.{first-is, none-first}
-use Rattle.freeruns.specs.Rows.{Zeros}
-use Rattle.freeruns.proofs.Fronts.{Searched, searched-first, searched-passed, found-here, searched-whole, searched-cut, searched-all}
+use Rattle.freeruns.specs.Starts.{NoStart}
+use Rattle.freeruns.proofs.Starts.{no-start-join}
+use Rattle.freeruns.proofs.Fronts.{Searched, searched-none, found-here, searched-more, none-to-here, ended-in-run, ended}
 use Rattle.freeruns.proofs.aligned.first_fit.Statement.{statement}
 use Rattle.freeruns.proofs.aligned.first_fit.Tie as tie
 
 abbrev Inv-loop : tie.InvT-loop
-Inv-loop table count n run₀ i₀ run i = Searched table count i run
+Inv-loop table count n start₀ i₀ start i = (start ≡ start₀) × Searched table count start i
 
 abbrev μ-loop : tie.MeasureT-loop
-μ-loop table count n run₀ i₀ run i = length table - i
+μ-loop table count n start₀ i₀ start i = n - i
 
--- byte i is read, and too few blocks are FREE yet
-read-on : (t : List ℕ) (count i run free r : ℕ) → 4 ≤ count → Searched t count i run → i < length t
-    → Zeros 4 (λ (j : ℕ). entryOf (getD t i 0) j) free → run + free < count → r ≡ pick (ltb free 4) 0 (run + 4) → Searched t count (i + 1) r
-read-on t count i run free r many s within z fewer e = go (decLt free 4)
-  where
-    go : Dec (free < 4) → Searched t count (i + 1) r
-    go (yes cut) = rw (e, lt-ltb free 4 cut) (searched-cut t count many i run free s within z fewer cut)
-    go (no all) = rw (e, le-ltb free 4 (omega arith)) (searched-whole t count many i run free s within z fewer (omega arith))
+abbrev Inv-starts : tie.InvT-starts
+Inv-starts table count n start₀ start = (start ≤ length table) × NoStart (entriesOf table) count 0 (4 * start)
 
-pass-by-16-requires : tie.Need-pass-by-16-requires Inv-loop μ-loop
-pass-by-16-requires c κs = search needs
+abbrev μ-starts : tie.MeasureT-starts
+μ-starts table count n start₀ start = n - start
 
-loop-holds : tie.Need-loop-holds Inv-loop μ-loop
-loop-holds c = searched-first _ _ (c .before .before .pre .1) _ (c .pass-by-16 .ensures .0) (c .pass-by-16 .ensures .1 .1)
+go-on-requires : tie.Need-go-on-requires Inv-loop μ-loop Inv-starts μ-starts
+go-on-requires c κs = search needs
 
-shared-slice-read-front : tie.Need-shared-slice-read-front Inv-loop μ-loop
+starts-holds : tie.Need-starts-holds Inv-loop μ-loop Inv-starts μ-starts
+starts-holds c = (c .go-on .ensures .0, λ q l. c .go-on .ensures .1 .1 q (omega arith))
+
+loop-holds : tie.Need-loop-holds Inv-loop μ-loop Inv-starts μ-starts
+loop-holds c =
+    let s = c .before .starts in
+    (refl, searched-none _ _ (c .before .before .before .before .pre .1) _ (s .inv .0) (s .inv .1))
+
+shared-slice-read-front : tie.Need-shared-slice-read-front Inv-loop μ-loop Inv-starts μ-starts
 shared-slice-read-front c = search needs
 
-front-requires : tie.Need-front-requires Inv-loop μ-loop
+front-requires : tie.Need-front-requires Inv-loop μ-loop Inv-starts μ-starts
 front-requires c κs = search needs
 
-add-if1 : tie.Need-add-if1 Inv-loop μ-loop
+sub-if1 : tie.Need-sub-if1 Inv-loop μ-loop Inv-starts μ-starts
+sub-if1 c = c .before .before .before .loop .inv .1 .onward
+
+mul-if1 : tie.Need-mul-if1 Inv-loop μ-loop Inv-starts μ-starts
+mul-if1 c =
+    let l = c .before .before .before in
+    record { fits = omega (arith, l .loop .inv .1 .inside, l .before .before .before .before .before .pre .0) }
+
+add-if1 : tie.Need-add-if1 Inv-loop μ-loop Inv-starts μ-starts
 add-if1 c =
     let l = c .before .before .before in
-    record { fits = omega (arith, l .loop .inv .back, l .loop .inv .inside, c .front .ensures .few, l .before .before .before .pre .0) }
+    record { fits = omega (arith, l .loop .inv .1 .inside, c .front .ensures .few, l .before .before .before .before .before .pre .0) }
 
-first-requires : tie.Need-first-requires Inv-loop μ-loop
+first-requires : tie.Need-first-requires Inv-loop μ-loop Inv-starts μ-starts
 first-requires c κs = search needs
 
-mul-plus : tie.Need-mul-plus Inv-loop μ-loop
-mul-plus c = search needs
+mul-plus : tie.Need-mul-plus Inv-loop μ-loop Inv-starts μ-starts
+mul-plus c =
+    let l = c .before .before .before .before .before in
+    record { fits = omega (arith, l .loop .inv .1 .inside, l .loop .inv .1 .onward, l .before .before .before .before .before .pre .0) }
 
-sub-plus : tie.Need-sub-plus Inv-loop μ-loop
-sub-plus c = c .before .before .before .before .before .loop .inv .back
-
-plus-requires : tie.Need-plus-requires Inv-loop μ-loop
+plus-requires : tie.Need-plus-requires Inv-loop μ-loop Inv-starts μ-starts
 plus-requires c κs =
     let l = c .before .before .before .before .before in
-    omega (arith, c .first .ensures, l .loop .inv .inside, l .before .before .before .pre .0)
+    omega (arith, c .first .ensures, l .loop .inv .1 .inside, l .loop .inv .1 .onward, l .before .before .before .before .before .pre .0)
 
-returns : tie.Need-returns Inv-loop μ-loop
+returns : tie.Need-returns Inv-loop μ-loop Inv-starts μ-starts
 returns c =
     let l = c .before .before .before .before .before .before in
-    let e : c .plus .result .0 ≡ 4 * l .loop .i - l .loop .run = omega (arith, c .plus .ensures, c .before .first .ensures) in
+    let e : c .plus .result .0 ≡ 4 * l .loop .start = omega (arith, c .plus .ensures, c .before .first .ensures) in
     rw e
-    (sym (first-is _ _ (some (4 * l .loop .i - l .loop .run)) (omega (arith, l .before .before .before .pre .1))
-    (found-here _ _ (l .before .before .before .pre .1) _ _ _ (l .loop .inv) (search needs) (c .before .before .before .front .ensures) (c .before .before .if1 .taken))))
+    (sym (first-is _ _ (some (4 * l .loop .start)) (omega (arith, l .before .before .before .before .before .pre .1))
+    (found-here _ _ (l .before .before .before .before .before .pre .1) _ _ _ (l .loop .inv .1) (search needs) (c .before .before .before .front .ensures) (c .before .before .if1 .taken))))
 
-run-on-requires : tie.Need-run-on-requires Inv-loop μ-loop
-run-on-requires c κs =
-    let l = c .before .before .before .before in
-    omega (arith, l .loop .inv .back, l .before .before .before .pre .0)
+add-go-on : tie.Need-add-go-on Inv-loop μ-loop Inv-starts μ-starts
+add-go-on c = search needs
 
-add-next : tie.Need-add-next Inv-loop μ-loop
-add-next c = search needs
+go-on-requires-2 : tie.Need-go-on-requires-2 Inv-loop μ-loop Inv-starts μ-starts
+go-on-requires-2 c κs =
+    let l = c .before .before .before .before .before in
+    (omega arith, omega (arith, l .before .before .before .before .before .pre .1))
 
-next-requires : tie.Need-next-requires Inv-loop μ-loop
-next-requires c κs = search needs
-
-loop-less : tie.Need-loop-less Inv-loop μ-loop
-loop-less c =
+starts-less : tie.Need-starts-less Inv-loop μ-loop Inv-starts μ-starts
+starts-less c =
     let l = c .before .before .before .before .before .before in
-    omega (arith, c .next .ensures .0 .0, c .next .ensures .0 .1 .0)
+    omega (arith, c .go-on2 .ensures .1 .0, l .loop .inv .0, l .loop .inv .1 .onward)
 
-loop-again : tie.Need-loop-again Inv-loop μ-loop
+starts-again : tie.Need-starts-again Inv-loop μ-loop Inv-starts μ-starts
+starts-again c =
+    let l = c .before .before .before .before .before .before in (
+      c .go-on2 .ensures .0,
+      no-start-join _ _ 0 (4 * (l .loop .i + 1)) (4 * c .go-on2 .result)
+          (none-to-here _ _ (l .before .before .before .before .before .pre .1) _ _ _ (l .loop .inv .1) (search needs) (c .before .before .before .front .ensures) (c .before .before .if1 .left) (c .before .if2 .taken))
+          (c .go-on2 .ensures .1 .1),
+    )
+
+add-i : tie.Need-add-i Inv-loop μ-loop Inv-starts μ-starts
+add-i c = search needs
+
+loop-less : tie.Need-loop-less Inv-loop μ-loop Inv-starts μ-starts
+loop-less c = search needs
+
+loop-again : tie.Need-loop-again Inv-loop μ-loop Inv-starts μ-starts
 loop-again c =
-    let l = c .before .before .before .before .before .before in
-    searched-passed _ _ (l .before .before .before .pre .1) _ _ _
-    (read-on _ _ _ _ _ _ (l .before .before .before .pre .1) (l .loop .inv) (search needs) (c .before .before .before .front .ensures) (c .before .before .if1 .left) (c .before .run-on .ensures))
-    (c .next .ensures .0 .0) (c .next .ensures .0 .1 .1) (c .next .ensures .1)
+    let l = c .before .before .before .before .before in
+    (l .loop .inv .0, searched-more _ _ (l .before .before .before .before .before .pre .1) _ _ _ (l .loop .inv .1) (search needs) (c .before .before .front .ensures) (c .before .if1 .left) (c .if2 .left))
 
-returns-2 : tie.Need-returns-2 Inv-loop μ-loop
+returns-2 : tie.Need-returns-2 Inv-loop μ-loop Inv-starts μ-starts
 returns-2 c =
     let l = c .before in
-    sym (none-first _ _ (omega (arith, l .before .before .before .pre .1)) (searched-all _ _ (l .before .before .before .pre .1) _ _ (l .loop .inv) (search needs)))
+    sym (none-first _ _ (omega (arith, l .before .before .before .before .before .pre .1)) (ended-in-run _ _ (l .before .before .before .before .before .pre .1) _ _ (l .loop .inv .1) (search needs)))
+
+returns-3 : tie.Need-returns-3 Inv-loop μ-loop Inv-starts μ-starts
+returns-3 c =
+    let s = c .before in
+    sym (none-first _ _ (omega (arith, s .before .before .before .pre .1)) (ended _ _ (s .before .before .before .pre .1) _ (s .starts .inv .1) (search needs)))
 
 pub first-fit-spec : {M : Type 1} → statement M
 first-fit-spec =
@@ -107,19 +127,26 @@ first-fit-spec =
     (tie.spec
     Inv-loop
     μ-loop
-    pass-by-16-requires
+    Inv-starts
+    μ-starts
+    go-on-requires
+    starts-holds
     loop-holds
     shared-slice-read-front
     front-requires
+    sub-if1
+    mul-if1
     add-if1
     first-requires
     mul-plus
-    sub-plus
     plus-requires
     returns
-    run-on-requires
-    add-next
-    next-requires
+    add-go-on
+    go-on-requires-2
+    starts-less
+    starts-again
+    add-i
     loop-less
     loop-again
-    returns-2)
+    returns-2
+    returns-3)
