@@ -35,6 +35,16 @@ fn spared(i: usize, count: usize) -> u8
     255
 }
 
+// 1 for a byte that is 0.
+fn is_zero(b: u8) -> u8
+    ensures { λ r. ⌜ r ≡ pick (eqb b 0) 1 0 ⌝ }
+{
+    if b == 0 {
+        return 1;
+    }
+    0
+}
+
 // A bit for each entry of the byte a at which count blocks may start, where the byte b is the next. There are fewer than four: they lie in these two.
 fn few_starts(a: u8, b: u8, count: usize) -> u8
     requires { ⌜ (0 < count) × (count < 4) ⌝ }
@@ -45,16 +55,6 @@ fn few_starts(a: u8, b: u8, count: usize) -> u8
     free
         & ((free >> 2) | (next << 6) | spared(1, count))
         & ((free >> 4) | (next << 4) | spared(2, count))
-}
-
-// 1 for a byte that is 0.
-fn is_zero(b: u8) -> u8
-    ensures { λ r. ⌜ r ≡ pick (eqb b 0) 1 0 ⌝ }
-{
-    if b == 0 {
-        return 1;
-    }
-    0
 }
 
 // The same of four or more: they may start at the first entry only, which is aligned. Up to five of them are looked at.
