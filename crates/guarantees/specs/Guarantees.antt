@@ -23,7 +23,7 @@ pub record Guarantees : Type 2 where
   -- than the packed one the calls are refused as they should be.
   pub examples-hold : map (λ (x : Example). x .is) examples ≡ map (λ (x : Example). x .ought) examples
   pub orders-hold : map (λ (x : Example). x .is) orders ≡ map (λ (x : Example). x .ought) orders
-  pub examples-number : length examples ≡ 40
+  pub examples-number : length examples ≡ 43
   pub orders-number : length orders ≡ 4
   pub words-hold : (wordAt (0 ∷ 16 ∷ 0 ∷ 0 ∷ []) 0 ≡ 4096) × (bytesOf 4096 ≡ 0 ∷ 16 ∷ 0 ∷ 0 ∷ [])
   pub bytewise-refusals : BytewiseRefusals

@@ -110,10 +110,13 @@ examples =
     ∷ exampleIn 12 (reply (Allocate 4096 64) [] (blocks 12 (zeros 0 1 ∷ []))) (placedAt 4 (pos 4)) (zeros 0 1 ∷ zeros 4 4 ∷ [])
     ∷ exampleIn 12 (reply (Allocate 4096 48) [] (blocks 12 (zeros 0 1 ∷ zeros 4 4 ∷ []))) (placedAt 1 (pos 3)) (zeros 0 1 ∷ zeros 1 3 ∷ zeros 4 4 ∷ [])
     ∷ exampleIn 12 (reply (Reallocate 4096 1 64) [] (blocks 12 (zeros 0 1 ∷ zeros 1 3 ∷ zeros 4 4 ∷ []))) (placedAt 8 (pos 1)) (zeros 0 1 ∷ zeros 4 4 ∷ zeros 8 4 ∷ [])
+    -- from block 0 four blocks grow in place
+    ∷ example (reply (Reallocate 4096 0 65) [] (eight (zeros 0 4 ∷ []))) (placedAt 0 (pos 1)) (zeros 0 5 ∷ [])
     -- from block 1, with room directly after: to three blocks in place, to four by a move
     ∷ example (reply (Reallocate 4096 1 48) [] (eight (zeros 0 1 ∷ zeros 1 1 ∷ []))) (placedAt 1 (pos 2)) (zeros 0 1 ∷ zeros 1 3 ∷ [])
     ∷ example (reply (Reallocate 4096 1 64) [] (eight (zeros 0 1 ∷ zeros 1 1 ∷ []))) (placedAt 4 (pos 3)) (zeros 0 1 ∷ zeros 4 4 ∷ [])
-    -- the object of an old heap shrinks and stays where it is, and growing it moves, or is refused
+    -- an object of an old heap shrinks and stays where it is, and growing it moves, or is refused
+    ∷ example (reply (Reallocate 4096 1 64) [] (eight (zeros 0 1 ∷ zeros 1 5 ∷ []))) (placedAt 1 (minus 1)) old
     ∷ exampleIn 12 (reply (Reallocate 4096 1 48) [] (blocks 12 old)) (placedAt 1 (minus 1)) (zeros 0 1 ∷ zeros 1 3 ∷ [])
     ∷ exampleIn 12 (reply (Reallocate 4096 1 64) [] (blocks 12 old)) (placedAt 1 (pos 0)) old
     ∷ exampleIn 16 (reply (Reallocate 4096 1 65) [] (blocks 16 old)) (placedAt 8 (pos 1)) (zeros 0 1 ∷ zeros 8 5 ∷ [])
@@ -125,7 +128,7 @@ examples =
     ∷ []
 
 -- there are so many
-pub examples-number : length examples ≡ 32
+pub examples-number : length examples ≡ 34
 unfolding examples
 examples-number = refl
 

@@ -39,7 +39,7 @@ unfoldable pub find : ℕ → List Object → Option Object
 find k [] = none
 find k (o ∷ os) = pick (eqb (o .start) k) (some o) (find k os)
 
--- the first place from block `from` on for b blocks: that block itself for fewer than four, else the next one that is a multiple of four
+-- the first place from block `from` on for b blocks: that block itself for fewer than four, else the first from it on that is a multiple of four
 unfoldable pub placeFrom : ℕ → ℕ → ℕ
 placeFrom b from = pick (ltb b 4) from (4 * ((from + 3) / 4))
 

@@ -1,15 +1,15 @@
 -- The promises on large objects, in bytes and block numbers, and each used at its exact bound: 48 bytes are three blocks, 49 are four.
 -- Assumes nothing.
 use mathlib.Core.Path.{_≡_, refl}
-use mathlib.Core.Logic.{_≢_, inl, ⊎-elim}
+use mathlib.Core.Logic.{_≢_, _⊎_, inl, inr, ⊎-elim}
 use mathlib.Core.List.{List, []}
-use Prim.Native.Nat.{ℕ, _*_, _%_, _≤_, _<_}
+use Prim.Native.Nat.{ℕ, _+_, _-_, _*_, _%_, _≤_, _<_}
 use native.Mathlib.Omega.{arith}
 use Rattle.rules.specs.Tests.{count, leading, tabulate}
 use Rattle.rules.specs.Entries.{entryOf, entriesOf}
 use Rattle.rules.specs.Tables.{mayFollow, wellAfter, wellFormed, blockCount, freeFrom, aligned, fits, firstFrom, firstFit, placed, released, used, objects, longest}
 use Rattle.rules.specs.Pointers.{addressOf, goodBase}
-use Rattle.rules.specs.Meaning.{Accepted}
+use Rattle.rules.specs.Meaning.{Run, Accepted}
 use Rattle.rules.specs.Outcomes.{Heap, changeFrom, unlessRefused, clearedBlocks}
 use Rattle.rules.specs.Refusals.{firstOf, goodShape, wholeWords, heapTests}
 use Rattle.rules.specs.Calls.{blocksFor, taken, placing, allocate, freed, free, reallocate, survey}
@@ -37,6 +37,18 @@ pub reallocated-large : (base : ℕ) (h : Heap) (k bytes : ℕ) → Accepted (re
     → reallocate base h k bytes .answer .block % 4 ≡ 0
 reallocated-large base h k bytes accepted more larger =
     ⊎-elim (λ few. absurd (omega (arith, more-than-48 bytes more))) (λ e. e) (promises .reallocated base h k bytes accepted .aligned larger)
+
+-- where blocks are numbered from a base that is a multiple of 64, their address is one
+pub large-address : (base s : ℕ) → base % 64 ≡ 0 → s % 4 ≡ 0 → addressOf base s % 64 ≡ 0
+unfolding addressOf
+large-address base s even front = omega arith
+
+-- an object grows where it is if the blocks directly after it are FREE, from a block divisible by four, or to up to 48 bytes
+pub reallocated-grows : (base : ℕ) (h : Heap) (k bytes : ℕ) → Accepted (reallocate base h k bytes) → (k % 4 ≡ 0) ⊎ (bytes ≤ 48)
+    → Run (h .entries) (blocksFor bytes - blocksOf h k) (k + blocksOf h k) → reallocate base h k bytes .answer .block ≡ k
+reallocated-grows base h k bytes accepted place run =
+    promises .reallocated base h k bytes accepted .in-place
+    (inr (record { aligned = ⊎-elim inr (λ few. inl (omega (arith, promises .rounded-up bytes 3 .1 few))) place; run = run }))
 
 -- to no more bytes than its blocks hold an object stays, wherever it starts
 pub reallocated-stays : (base : ℕ) (h : Heap) (k bytes : ℕ) → Accepted (reallocate base h k bytes) → bytes ≤ 16 * blocksOf h k → reallocate base h k bytes .answer .block ≡ k

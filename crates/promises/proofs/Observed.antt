@@ -343,6 +343,9 @@ module _ (base : ℕ) (h : Heap) (good : Passed base h) where
   pub allocate-spare : (bytes : ℕ) → blocksFor bytes + 3 ≤ survey base h .answer .longest → allocate base h bytes .answer .refusal ≢ 9
   allocate-spare bytes more e = long-somewhere (blocksFor bytes) more (promises .allocate-no-room base h bytes .0 e .2)
 
+  pub reallocate-spare : (k bytes : ℕ) → blocksFor bytes + 3 ≤ survey base h .answer .longest → reallocate base h k bytes .answer .refusal ≢ 9
+  reallocate-spare k bytes more e = long-somewhere (blocksFor bytes) more (promises .reallocate-no-room base h k bytes .0 e .3 .2)
+
   -- and whether a reallocate to up to 48 bytes does
   pub reallocate-survey : (k bytes : ℕ) → 0 < bytes → bytes ≤ 48 → Object h k
       → (reallocate base h k bytes .answer .refusal ≡ 9)

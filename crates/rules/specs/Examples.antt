@@ -127,10 +127,15 @@ examples =
     ∷ example (allocate 4096 (medium 1 0 0) 64) (placedAt 4 (pos 4)) (1 ∷ 169 ∷ 0 ∷ []) (fives 16 ++ sevens 48 ++ zeros 64 ++ sevens 64)
     ∷ example (allocate 4096 (medium 1 169 0) 48) (placedAt 1 (pos 3)) (165 ∷ 169 ∷ 0 ∷ []) (fives 16 ++ zeros 48 ++ sevens 128)
     ∷ example (reallocate 4096 (medium 165 169 0) 1 64) (placedAt 8 (pos 1)) (1 ∷ 169 ∷ 169 ∷ []) (stale ++ sevens 48 ++ zeros 16)
+    -- the number of the block counts, not its address: at base 4,112 block 4 has the address 4,176, which is no multiple of 64
+    ∷ example (allocate 4112 (medium 1 0 0) 64) (placedAt 4 (pos 4)) (1 ∷ 169 ∷ 0 ∷ []) (fives 16 ++ sevens 48 ++ zeros 64 ++ sevens 64)
+    -- from block 0 four blocks grow in place
+    ∷ example (reallocate 4096 (small 169 0) 0 65) (placedAt 0 (pos 1)) (169 ∷ 2 ∷ []) (fives 16 ++ sevens 48 ++ zeros 16 ++ sevens 48)
     -- from block 1, with room directly after: to three blocks in place, to four by a move
     ∷ example (reallocate 4096 (small 5 0) 1 48) (placedAt 1 (pos 2)) (165 ∷ 0 ∷ []) (fives 16 ++ sevens 16 ++ zeros 32 ++ sevens 64)
     ∷ example (reallocate 4096 (small 5 0) 1 64) (placedAt 4 (pos 3)) (1 ∷ 169 ∷ []) (fives 16 ++ sevens 64 ++ zeros 48)
-    -- a table of an old heap, with an object of four blocks at block 1: fewer and as many stay, more move, or are refused
+    -- a table of an old heap, with an object of five or four blocks at block 1: fewer and as many stay, more move, or are refused
+    ∷ example (reallocate 4096 (small 165 10) 1 64) (placedAt 1 (minus 1)) (165 ∷ 2 ∷ []) stale
     ∷ example (reallocate 4096 (medium 165 2 0) 1 48) (placedAt 1 (minus 1)) (165 ∷ 0 ∷ 0 ∷ []) (stale ++ sevens 64)
     ∷ example (reallocate 4096 (medium 165 2 0) 1 64) (placedAt 1 (pos 0)) (165 ∷ 2 ∷ 0 ∷ []) (stale ++ sevens 64)
     ∷ example (reallocate 4096 (large 165 2 0 0) 1 65) (placedAt 8 (pos 1)) (1 ∷ 0 ∷ 169 ∷ 2 ∷ []) (stale ++ sevens 64 ++ zeros 16 ++ sevens 48)
@@ -142,7 +147,7 @@ examples =
     ∷ []
 
 -- there are so many
-pub examples-number : length examples ≡ 40
+pub examples-number : length examples ≡ 43
 unfolding examples
 examples-number = refl
 
