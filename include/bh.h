@@ -63,8 +63,8 @@ struct blockheap {
 
 /*
  * A heap in one area of memory, as large as it can be: the pool at its front,
- * the table behind it. An area of fewer than 65 bytes is too short: bh_init
- * then answers BAD_SHAPE.
+ * the table behind it. Large objects lie at multiples of 64 bytes if the area
+ * does. One of fewer than 65 bytes is too short: bh_init then answers BAD_SHAPE.
  */
 static inline struct blockheap bh_split(uint64_t base, uint8_t *area, size_t area_len)
 {

@@ -17,7 +17,8 @@
  * - base is the address of block 0, as the words in the pool spell addresses:
  *   block k has the address base + 16 * k. It is a multiple of 16, at least
  *   16, and base + 64 * t is at most 4,294,967,296. On a 32-bit board, lend a
- *   pool aligned to 16 bytes and give its own address. Elsewhere choose any
+ *   pool aligned to 16 bytes, or to 64 (see below), and give its own address.
+ *   Elsewhere choose any
  *   such number, 4,096 say, and keep to it: the library never uses it to find
  *   the pool.
  * - A run of blocks is aligned if it has at most three blocks, or begins at a
@@ -105,7 +106,7 @@ extern "C" {
 #define BLOCKHEAP_WORD_BYTES 4
 #define BLOCKHEAP_WORDS_PER_BLOCK 4
 #define BLOCKHEAP_BLOCKS_PER_TABLE_BYTE 4
-#define BLOCKHEAP_LARGE_BLOCKS 4 /* objects of so many or more begin at a multiple of as many */
+#define BLOCKHEAP_LARGE_BLOCKS 4 /* new objects of so many or more begin at a block number divisible by 4 */
 #define BLOCKHEAP_MAX_TABLE_BYTES 1024
 #define BLOCKHEAP_MAX_BLOCKS 4096
 #define BLOCKHEAP_MAX_POOL_BYTES 65536
@@ -185,8 +186,8 @@ uint32_t blockheap_free(uint64_t base, const uint8_t *pool, size_t pool_len,
  * - more otherwise: it moves to the place that blockheap_allocate would take
  *   while the old object still holds its blocks. The old blocks become free,
  *   their bytes stay, and pointers to any of them are the caller's to mend.
- * So one that grows to four blocks or more moves, unless it begins at a block
- * number divisible by 4. One that does not grow never moves.
+ * So to four blocks or more none grows in place from a block number that is
+ * not divisible by 4. One that does not grow never moves.
  * The old bytes are kept, and all bytes of added blocks are 0.
  * Refusals: BAD_SHAPE, BAD_TABLE, ZERO_BYTES, NO_SUCH_BLOCK, NOT_A_HEAD,
  * NO_ROOM (exactly if it can neither grow in place nor move; the object stays

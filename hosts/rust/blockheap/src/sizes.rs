@@ -12,7 +12,7 @@ pub const WORDS_PER_BLOCK: usize = BLOCK_BYTES / WORD_BYTES;
 pub const BLOCKS_PER_TABLE_BYTE: usize = 4;
 /// The bytes of pool that one byte of the table rules.
 pub const POOL_BYTES_PER_TABLE_BYTE: usize = BLOCKS_PER_TABLE_BYTE * BLOCK_BYTES;
-/// An object of so many blocks or more is large: it begins at a multiple of as many.
+/// An object of so many blocks or more is large: a new one begins at a block number divisible by 4.
 pub const LARGE_BLOCKS: usize = 4;
 /// The most bytes that a table may have.
 pub const MAX_TABLE_BYTES: usize = 1024;
