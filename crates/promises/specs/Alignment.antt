@@ -1,5 +1,5 @@
--- Where large objects start. No call makes an object of four blocks or more that starts at a block not divisible by four, nor gives one more blocks; so from init on
--- there is none. Tables of old heaps may have some: they are left where they are until they grow.
+-- Where large objects start. No call makes an object of four blocks or more at a block that is not divisible by four, and none lets an object there grow to so many; so
+-- from init on there is none. Tables of old heaps may have some: they are left where they are until they grow.
 -- Assumes nothing.
 use mathlib.Core.Logic.{_⊎_}
 use mathlib.Core.List.{List}

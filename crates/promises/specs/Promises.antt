@@ -117,7 +117,7 @@ pub record Reallocated (base : ℕ) (before : Heap) (k b' : ℕ) (r : Outcome) :
   pub in-place : (b' ≤ blocksOf before k) ⊎ RoomAfter before k b' → r .answer .block ≡ k
   -- else it moves to the lowest block at which b' blocks could start, with the old object still held
   pub elsewhere : blocksOf before k < b' → ¬ RoomAfter before k b' → Lowest (before .entries) b' (some (r .answer .block))
-  -- so to more blocks: four or more then start at a block divisible by four, wherever that is
+  -- so with more blocks than before, four or more of them start at a block divisible by four
   pub aligned : blocksOf before k < b' → Aligned b' (r .answer .block)
   -- there it has b' blocks
   pub head : Object (r .heap) (r .answer .block)
@@ -206,7 +206,7 @@ pub record Promises : Type 0 where
   -- allocate answers 9 exactly if nothing else is refused and its blocks may start nowhere: no run of FREE blocks is long enough from an aligned block on
   pub allocate-no-room : (base : ℕ) (h : Heap) (bytes : ℕ)
       → (allocate base h bytes .answer .refusal ≡ 9) ↔ (Passed base h × (0 < bytes) × NoFit h (blocksFor bytes))
-  -- reallocate answers 9 exactly if nothing else is refused, and the object may neither grow where it is nor has room elsewhere
+  -- reallocate answers 9 exactly if nothing else is refused, the object may not grow where it is, and it has no room elsewhere
   pub reallocate-no-room : (base : ℕ) (h : Heap) (k bytes : ℕ)
       → (reallocate base h k bytes .answer .refusal ≡ 9) ↔ (Passed base h × (0 < bytes) × Object h k × NoWay h k (blocksFor bytes))
   -- so a request larger than the pool is 9
