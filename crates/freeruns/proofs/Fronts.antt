@@ -5,7 +5,7 @@ use mathlib.Core.Logic.{_≢_, _⊎_, inl, inr, ⊎-elim}
 use mathlib.Core.Bool.{Bool, true, false}
 use mathlib.Core.List.{List}
 use mathlib.Core.Option.{some}
-use Prim.Native.Nat.{ℕ, _+_, _-_, _*_, _%_, _/_, _≤_, _<_}
+use Prim.Native.Nat.{ℕ, _+_, _-_, _*_, _%_, _≤_, _<_}
 use native.Mathlib.Decide.{decLt}
 use native.Mathlib.Omega.{arith}
 use lib.Bits.{bitAnd, bitOr}
@@ -17,18 +17,11 @@ use Rattle.rules.specs.Entries.{FREE, entryOf, entriesOf}
 use Rattle.rules.specs.Tables.{entryAt}
 use Rattle.rules.specs.Meaning.{Run, Fits, Lowest}
 use Rattle.rules.proofs.Refusals.{true-not-false}
-use Rattle.rules.proofs.Entries.{four, entryOf-or, or-none, entries-zero, length-entriesOf, getD-entriesOf}
+use Rattle.rules.proofs.Entries.{four, entryOf-or, or-none, entries-zero, length-entriesOf}
 use Rattle.rules.proofs.Tables.{fits-skip}
 use Rattle.freeruns.specs.Rows.{Zeros}
 use Rattle.freeruns.specs.Starts.{NoStart, StartsIn}
-use Rattle.freeruns.proofs.Starts.{fronts}
-
--- the entry of a block, by its byte
-entry-in : (t : List ℕ) (i j : ℕ) → j < 4 → entryAt (entriesOf t) (4 * i + j) ≡ entryOf (getD t i 0) j
-entry-in t i j h =
-    let d : (4 * i + j) / 4 ≡ i = omega arith in
-    let m : (4 * i + j) % 4 ≡ j = omega arith in
-    getD-entriesOf t (4 * i + j) ∙ rw (d, m)
+use Rattle.freeruns.proofs.Starts.{fronts, entry-in}
 
 -- the FREE entries at the front of a byte end at a bit set above it, if not before
 pub front-says : (b r : ℕ) → Zeros 32 (λ (j : ℕ). entryOf (bitOr b 256) j) r → Zeros 4 (λ (j : ℕ). entryOf b j) r

@@ -1,7 +1,7 @@
 -- What the free bits of a byte and the next say of where fewer than four blocks may start in it. Two tests, which antt computes: the masks pick out the
 -- FREE entries of each byte, and bits that are all clear leave no place for a run's first blocks.
 -- Assumes nothing.
-use mathlib.Core.Path.{_≡_, ap, _∙_}
+use mathlib.Core.Path.{_≡_, sym, ap, _∙_}
 use mathlib.Core.Bool.{Bool, true, false, not}
 use mathlib.Core.List.{List}
 use Prim.Native.Nat.{ℕ, zero, suc, _+_, _-_, _*_, _/_, _%_, _^_, _≤_, _<_}
@@ -126,19 +126,22 @@ no-row x y c j hx hy hc hj none all =
 
 -- ---- the table
 
+-- the entry of a block, by its byte
+pub entry-in : (t : List ℕ) (i j : ℕ) → j < 4 → entryAt (entriesOf t) (4 * i + j) ≡ entryOf (getD t i 0) j
+entry-in t i j h =
+    let d : (4 * i + j) / 4 ≡ i = omega arith in
+    let m : (4 * i + j) % 4 ≡ j = omega arith in
+    getD-entriesOf t (4 * i + j) ∙ rw (d, m)
+
 flag-at : (t : List ℕ) (i a c k : ℕ) → a < 256 → c < 256 → getD t i 0 ≡ a → getD t (i + 1) 0 ≡ c → k < 8 → entryAt (entriesOf t) (4 * i + k) ≡ FREE
     → flag (quad a) (quad c) k ≡ 1
 flag-at t i a c k ha hc here there h free = go (decLt k 4)
   where
     go : Dec (k < 4) → flag (quad a) (quad c) k ≡ 1
-    go (yes l) =
-        let d : (4 * i + k) / 4 ≡ i = omega arith in
-        let m : (4 * i + k) % 4 ≡ k = omega arith in
-        rw (lt-ltb k 4 l) (quad-at a k ha l (rw (getD-entriesOf t (4 * i + k), d, m, here) at free))
+    go (yes l) = rw (lt-ltb k 4 l) (quad-at a k ha l (sym (rw here at (entry-in t i k l)) ∙ free))
     go (no l) =
-        let d : (4 * i + k) / 4 ≡ i + 1 = omega arith in
-        let m : (4 * i + k) % 4 ≡ k - 4 = omega arith in
-        rw (le-ltb k 4 (omega arith)) (quad-at c (k - 4) hc (omega arith) (rw (getD-entriesOf t (4 * i + k), d, m, there) at free))
+        let e : 4 * (i + 1) + (k - 4) ≡ 4 * i + k = omega arith in
+        rw (le-ltb k 4 (omega arith)) (quad-at c (k - 4) hc (omega arith) (sym (rw there at (entry-in t (i + 1) (k - 4) (omega arith))) ∙ rw e free))
 
 -- where nothing is left of entry j, fewer than four blocks may not start
 pub few-starts : (a c count : ℕ) → a < 256 → c < 256 → 0 < count → count < 4 → StartsIn a c count (left (freeBits a) (freeBits c) (sparedOf count))

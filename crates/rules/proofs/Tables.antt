@@ -200,12 +200,6 @@ pub free-room : (es : List ℕ) (s : ℕ) → freeFrom es s ≤ length es - s
 unfolding freeFrom
 free-room es s = omega (arith, leading-le isFree (drop s es), length-drop s es)
 
--- the block directly after it, if there is one, is not FREE
-pub free-stop : (es : List ℕ) (s : ℕ) → s + freeFrom es s < length es → entryAt es (s + freeFrom es s) ≢ FREE
-unfolding freeFrom
-free-stop es s h =
-    rw (← getD-drop s es (leading isFree (drop s es)) FREE) (eqb-false _ _ (leading-stop isFree (drop s es) FREE (omega (arith, length-drop s es))))
-
 -- a shorter run at the same start
 pub run-shorter : (es : List ℕ) (b c s : ℕ) → c ≤ b → Run es b s → Run es c s
 run-shorter es b c s h r = record { room = omega (arith, r .room); free = λ j l. r .free j (omega arith) }

@@ -1,4 +1,4 @@
--- The worked examples 1 to 12, a chain, a rescan and large objects, in heaps of 8, 12 or 16 blocks at base 4,096, computed: each call's answer, and the table, the pool and
+-- The worked examples 1 to 12, a chain, a rescan and large objects, in heaps of 8, 12 or 16 blocks at base 4,096 (one at 4,112), computed: each call's answer, and the table, the pool and
 -- the mark stack it leaves.
 -- Assumes nothing.
 use mathlib.Core.Path.{_≡_, refl}
