@@ -12,7 +12,7 @@ use Rattle.rules.specs.Tables.{entryAt, wellFormed, blockCount}
 use Rattle.rules.specs.Meaning.{Extent}
 use Rattle.rules.specs.Outcomes.{Heap}
 use Rattle.rules.specs.Reach.{Reachable}
-use Rattle.rules.specs.Marking.{sweep}
+use Rattle.rules.specs.Marking.{freeingAt, sweep}
 use Rattle.rules.proofs.Tables.{well-of, extent-of, count-is}
 use Rattle.rules.proofs.Marking.{head-inside, mark-inside, sweep-length}
 use Rattle.rules.proofs.Marks.{Marks, marks-count}
@@ -20,7 +20,7 @@ use Rattle.keeping.specs.Keeping.{marking, collected, Proper, Owns, Held
 use Rattle.keeping.proofs.Sound.{Sound, sound}
 use Rattle.keeping.proofs.Owners.{well-fresh, well-first, owns-cases, owns-used, Owned, owner}
 use Rattle.keeping.proofs.Complete.{complete}
-use Rattle.keeping.proofs.Swept.{Swept, kept, tail, freed, swept, freeingAt, swept-mark, swept-head, swept-tail, tail-kept, tail-freed}
+use Rattle.keeping.proofs.Swept.{Swept, kept, tail, freed, swept, swept-mark, swept-head, swept-tail, tail-kept, tail-freed}
 
 module _ (base : ℕ) (h : Heap) (roots : List ℕ) (room : ℕ) (well : wellFormed (h .entries) ≡ true) where
   -- the entries before, after the marking, and after the sweep
@@ -106,7 +106,7 @@ module _ (base : ℕ) (h : Heap) (roots : List ℕ) (room : ℕ) (well : wellFor
   unfolding collected
   collected-used k n = go (swept mid k) n
     where
-      go : {e : ℕ} → Swept (freeingAt false mid k) (entryAt mid k) e → e ≢ FREE → e ≡ entryAt old k
+      go : {e : ℕ} → Swept (freeingAt false (entryAt mid) k) (entryAt mid k) e → e ≢ FREE → e ≡ entryAt old k
       go (kept m) n = sym (was-head k m)
       go (tail t f) n = sym (was-tail k t)
       go (freed m t) n = absurd (n refl)
@@ -125,7 +125,7 @@ module _ (base : ℕ) (h : Heap) (roots : List ℕ) (room : ℕ) (well : wellFor
       rw e at (tail-freed mid o (k - o) (λ i p j. x .tail i p (omega arith)) (omega arith) still))
       (owns-cases old o k w)
     where
-      head-free : {e : ℕ} → Swept (freeingAt false mid o) (entryAt mid o) e → e ≡ FREE
+      head-free : {e : ℕ} → Swept (freeingAt false (entryAt mid) o) (entryAt mid o) e → e ≡ FREE
       head-free (kept m) = absurd (omega (arith, still))
       head-free (tail t f) = absurd (omega (arith, still))
       head-free (freed m t) = refl

@@ -1,43 +1,18 @@
 -- What the sweep makes of each block, said block by block: whether TAILs are being freed at a block is told by the last head before it.
 -- A MARK with its TAILs is kept, and a HEAD with its TAILs is freed.
 -- Assumes nothing.
-use mathlib.Core.Path.{_≡_, refl, ap, sym, _∙_}
+use mathlib.Core.Path.{_≡_, refl, _∙_}
 use mathlib.Core.Logic.{_≢_}
 use mathlib.Core.Bool.{Bool, true, false}
-use mathlib.Core.List.{List, [], _∷_}
+use mathlib.Core.List.{List}
 use Prim.Native.Nat.{ℕ, zero, suc, _+_, _≤_, _<_}
 use native.Mathlib.Omega.{arith}
 use native.Mathlib.Decide.{ℕ-discrete}
 use borrow.Author.Tests.{ne-eqb}
 use Rattle.rules.specs.Entries.{FREE, HEAD, TAIL, MARK}
 use Rattle.rules.specs.Tables.{entryAt}
-use Rattle.rules.specs.Marking.{sweptEntry, freeingAfter, sweepFrom, sweep}
-
--- whether TAILs are being freed when the sweep comes to block k, where f says it at the front
-unfoldable pub freeingAt : Bool → List ℕ → ℕ → Bool
-freeingAt f es zero = f
-freeingAt f es (suc k) = freeingAfter (freeingAt f es k) (entryAt es k)
-
-freeing-front : (f : Bool) (e : ℕ) (es : List ℕ) (k : ℕ) → freeingAt f (e ∷ es) (suc k) ≡ freeingAt (freeingAfter f e) es k
-unfolding freeingAt
-freeing-front f e es zero = refl
-freeing-front f e es (suc k) = ap (λ (t : Bool). freeingAfter t (entryAt es k)) (freeing-front f e es k)
-
-swept-free : (f : Bool) → sweptEntry f FREE ≡ FREE
-unfolding sweptEntry
-swept-free f = refl
-
-swept-from : (f : Bool) (es : List ℕ) (k : ℕ) → entryAt (sweepFrom f es) k ≡ sweptEntry (freeingAt f es k) (entryAt es k)
-unfolding sweepFrom freeingAt
-swept-from f [] zero = sym (swept-free f)
-swept-from f [] (suc k) = sym (swept-free (freeingAt f [] (suc k)))
-swept-from f (e ∷ es) zero = refl
-swept-from f (e ∷ es) (suc k) =
-    swept-from (freeingAfter f e) es k ∙ ap (λ (t : Bool). sweptEntry t (entryAt es k)) (sym (freeing-front f e es k))
-
-pub swept-at : (es : List ℕ) (k : ℕ) → entryAt (sweep es) k ≡ sweptEntry (freeingAt false es k) (entryAt es k)
-unfolding sweep
-swept-at es k = swept-from false es k
+use Rattle.rules.specs.Marking.{sweptEntry, freeingAfter, freeingAt, sweep}
+use Rattle.rules.proofs.Swept.{swept-at}
 
 -- ---- one entry
 
@@ -58,8 +33,8 @@ swept-entry f e = go f (ℕ-discrete e HEAD) (ℕ-discrete e MARK) (ℕ-discrete
     go false (no h) (no m) (yes t) = rw t (tail refl refl)
     go f (no h) (no m) (no t) = rw (ne-eqb e HEAD h, ne-eqb e MARK m, ne-eqb e TAIL t) (freed m (λ q. absurd (t q)))
 
-pub swept : (es : List ℕ) (k : ℕ) → Swept (freeingAt false es k) (entryAt es k) (entryAt (sweep es) k)
-swept es k = rw (swept-at es k) (swept-entry (freeingAt false es k) (entryAt es k))
+pub swept : (es : List ℕ) (k : ℕ) → Swept (freeingAt false (entryAt es) k) (entryAt es k) (entryAt (sweep es) k)
+swept es k = rw (swept-at es k) (swept-entry (freeingAt false (entryAt es) k) (entryAt es k))
 
 pub swept-mark : (es : List ℕ) (k : ℕ) → entryAt es k ≡ MARK → entryAt (sweep es) k ≡ HEAD
 unfolding sweptEntry
@@ -68,15 +43,15 @@ swept-mark es k m = swept-at es k ∙ rw m
 pub swept-head : (es : List ℕ) (k : ℕ) → entryAt (sweep es) k ≡ HEAD → entryAt es k ≡ MARK
 swept-head es k h = go (swept es k) h
   where
-    go : {e : ℕ} → Swept (freeingAt false es k) (entryAt es k) e → e ≡ HEAD → entryAt es k ≡ MARK
+    go : {e : ℕ} → Swept (freeingAt false (entryAt es) k) (entryAt es k) e → e ≡ HEAD → entryAt es k ≡ MARK
     go (kept q) h = q
     go (tail q f) h = absurd (omega arith)
     go (freed q f) h = absurd (omega arith)
 
-pub swept-tail : (es : List ℕ) (k : ℕ) → entryAt (sweep es) k ≡ TAIL → (entryAt es k ≡ TAIL) × (freeingAt false es k ≡ false)
+pub swept-tail : (es : List ℕ) (k : ℕ) → entryAt (sweep es) k ≡ TAIL → (entryAt es k ≡ TAIL) × (freeingAt false (entryAt es) k ≡ false)
 swept-tail es k t = go (swept es k) t
   where
-    go : {e : ℕ} → Swept (freeingAt false es k) (entryAt es k) e → e ≡ TAIL → (entryAt es k ≡ TAIL) × (freeingAt false es k ≡ false)
+    go : {e : ℕ} → Swept (freeingAt false (entryAt es) k) (entryAt es k) e → e ≡ TAIL → (entryAt es k ≡ TAIL) × (freeingAt false (entryAt es) k ≡ false)
     go (kept q) h = absurd (omega arith)
     go (tail q f) h = (q, f)
     go (freed q f) h = absurd (omega arith)
@@ -85,7 +60,7 @@ swept-tail es k t = go (swept es k) t
 
 -- behind a head, as long as there are TAILs, they are freed or kept as the head says
 freeing-behind : (es : List ℕ) (k j : ℕ) → ((i : ℕ) → 0 < i → i < j → entryAt es (k + i) ≡ TAIL) → 0 < j
-    → freeingAt false es (k + j) ≡ freeingAfter (freeingAt false es k) (entryAt es k)
+    → freeingAt false (entryAt es) (k + j) ≡ freeingAfter (freeingAt false (entryAt es) k) (entryAt es k)
 unfolding freeingAt freeingAfter
 freeing-behind es k zero f h = absurd (omega arith)
 freeing-behind es k (suc zero) f h = let e : k + 1 ≡ suc k = omega arith in rw e

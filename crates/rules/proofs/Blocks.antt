@@ -12,6 +12,9 @@ use Rattle.rules.specs.Meaning.{Lowest}
 use Rattle.rules.specs.Outcomes.{Heap, Outcome, unlessRefused}
 use Rattle.rules.specs.Refusals.{Test, firstOf, heapTests, noBytes, outside, noHead, noRoom}
 use Rattle.rules.specs.Calls.{Way, stay, shrink, grow, move, noWay, wayTo, isNoWay, blocksFor, placing, along, allocate, reallocate}
+use Rattle.rules.specs.Forms.{Form}
+use Rattle.rules.specs.Runs.{Call, Allocate, Reallocate, step}
+use Rattle.rules.specs.Memory.{Memory, heapIn, Result, stackFor, testsIn, orRefused, doneIn, perform}
 use Rattle.rules.proofs.Tables.{extent-of, first-fits}
 use Rattle.rules.proofs.Refusals.{passed, asked, named-resize}
 use Rattle.rules.proofs.Calls.{blocks-some, Ways, moves, way-says}
@@ -22,7 +25,7 @@ unfolding unlessRefused
 unless-small zero h stack acted small = small refl
 unless-small (suc r) h stack acted small = omega arith
 
-pub allocate-block : (base : ℕ) (h : Heap) (bytes : ℕ) → allocate base h bytes .answer .block < 4096
+allocate-block : (base : ℕ) (h : Heap) (bytes : ℕ) → allocate base h bytes .answer .block < 4096
 unfolding allocate placing
 allocate-block base h bytes = unless-small _ _ _ _ (λ ok. go ok (firstFit (h .entries) (blocksFor bytes)) refl)
   where
@@ -36,7 +39,7 @@ allocate-block base h bytes = unless-small _ _ _ _ (λ ok. go ok (firstFit (h .e
         let few = passed base h (noBytes bytes ∷ room ∷ []) ok .shape .few in
         omega (arith, first-fits (h .entries) (blocksFor bytes) s more e .run .room)
 
-pub reallocate-block : (base : ℕ) (h : Heap) (k bytes : ℕ) → reallocate base h k bytes .answer .block < 4096
+reallocate-block : (base : ℕ) (h : Heap) (k bytes : ℕ) → reallocate base h k bytes .answer .block < 4096
 unfolding reallocate along placing Lowest
 reallocate-block base h k bytes = unless-small _ _ _ _ (λ ok. go ok)
   where
@@ -64,9 +67,20 @@ reallocate-block base h k bytes = unless-small _ _ _ _ (λ ok. go ok)
         by-way (omega (arith, name .1 .inside)) few more (wayTo (h .entries) k b c)
         (way-says (h .entries) k b c (extent-of (h .entries) k (name .1 .inside) .room) more)
 
--- of an outcome that is such a call's
-pub allocated-small : (base : ℕ) (h : Heap) (bytes : ℕ) (o : Outcome) → o ≡ allocate base h bytes → o .answer .block < 4096
-allocated-small base h bytes o e = rw e (allocate-block base h bytes)
+-- the same on lent memory, where a refusal answers 0 too
+performed-small : (f : Form) (c : Call) (stack : List ℕ) (m : Memory) → step c stack (heapIn f m) .answer .block < 4096 → perform f c stack m .answer .block < 4096
+unfolding perform orRefused
+performed-small f c stack m small = go (firstOf (testsIn f c m (step c stack (heapIn f m) .answer .refusal)))
+  where
+    go : (n : ℕ) → orRefused n m (stackFor c stack) (doneIn f c stack m) .answer .block < 4096
+    go zero = small
+    go (suc r) = omega arith
 
-pub reallocated-small : (base : ℕ) (h : Heap) (k bytes : ℕ) (o : Outcome) → o ≡ reallocate base h k bytes → o .answer .block < 4096
-reallocated-small base h k bytes o e = rw e (reallocate-block base h k bytes)
+-- of a result that is such a call's
+pub allocated-small : (f : Form) (base bytes : ℕ) (m : Memory) (x : Result) → x ≡ perform f (Allocate base bytes) [] m → x .answer .block < 4096
+unfolding step
+allocated-small f base bytes m x e = rw e (performed-small f (Allocate base bytes) [] m (allocate-block base (heapIn f m) bytes))
+
+pub reallocated-small : (f : Form) (base k bytes : ℕ) (m : Memory) (x : Result) → x ≡ perform f (Reallocate base k bytes) [] m → x .answer .block < 4096
+unfolding step
+reallocated-small f base k bytes m x e = rw e (performed-small f (Reallocate base k bytes) [] m (reallocate-block base (heapIn f m) k bytes))

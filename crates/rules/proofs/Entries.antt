@@ -1,4 +1,4 @@
--- Laws of entries and table bytes: what each entry of a number is, that a table and its entries say the same, and what changes with one byte or one entry.
+-- Laws of entries and packed bytes: what each entry of a number is, that a packed table and its entries say the same, and what changes with one byte or one entry.
 -- Assumes nothing.
 use mathlib.Core.Path.{_≡_, refl, sym, ap, _∙_}
 use mathlib.Core.Logic.{_≢_}

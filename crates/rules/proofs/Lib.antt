@@ -1,11 +1,13 @@
 pub mod Lists
 pub mod Below
+pub mod Bits
 pub mod Words
 pub mod Entries
 pub mod Tables
 pub mod Changes
 pub mod Refusals
 pub mod Marking
+pub mod Swept
 pub mod Blocks
 pub mod Calls
 pub mod Marks
@@ -16,4 +18,5 @@ pub mod Twice
 pub mod Used
 pub mod Sizes
 pub mod Memory
-pub mod Bytewise
+pub mod Planes
+pub mod Agreement

@@ -108,6 +108,21 @@ unfolding count
 count-none f zero v t = refl
 count-none f (suc n) v t = rw t (count-none f n v t)
 
+-- none is counted if none passes the test, and only then
+pub count-no : (f : ℕ → Bool) (xs : List ℕ) (i d : ℕ) → count f xs ≡ 0 → i < length xs → f (getD xs i d) ≡ false
+count-no f [] i d z h = absurd (omega arith)
+count-no f (x ∷ xs) zero d z h = go (f x) (omega (arith, z, count-cons f x xs))
+  where
+    go : (b : Bool) → one b ≡ 0 → b ≡ false
+    go true e = absurd (omega arith)
+    go false e = refl
+count-no f (x ∷ xs) (suc i) d z h = count-no f xs i d (omega (arith, z, count-cons f x xs)) (omega arith)
+
+pub no-count : (f : ℕ → Bool) (xs : List ℕ) (d : ℕ) → ((i : ℕ) → i < length xs → f (getD xs i d) ≡ false) → count f xs ≡ 0
+unfolding count
+no-count f [] d h = refl
+no-count f (x ∷ xs) d h = rw (h 0 (omega arith)) (no-count f xs d (λ i l. h (suc i) (omega arith)))
+
 -- a store counts as its value, and no longer as what stood there
 pub count-set : (f : ℕ → Bool) (xs : List ℕ) (k v d : ℕ) → k < length xs → count f (set xs k v) + one (f (getD xs k d)) ≡ count f xs + one (f v)
 count-set f [] k v d h = absurd (omega arith)

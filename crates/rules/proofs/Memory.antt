@@ -2,22 +2,22 @@
 -- Assumes nothing.
 use mathlib.Core.Path.{_≡_, refl, sym, ap, subst, _∙_}
 use mathlib.Core.Bool.{Bool, true, false, not}
-use mathlib.Core.List.{List, [], _∷_}
-use Prim.Native.Nat.{ℕ, zero, suc}
+use mathlib.Core.List.{List, [], _∷_, _++_}
+use Prim.Native.Nat.{ℕ, zero, suc, _<_}
 use native.Mathlib.Omega.{arith}
-use lib.Dec.{eqb}
+use lib.Dec.{eqb, ltb}
 use lib.ListN.{length}
-use borrow.Author.Tests.{eqb-true}
+use borrow.Author.Tests.{eqb-true, ne-eqb, ltb-true}
 use Rattle.rules.specs.Tests.{pick, both, either}
 use Rattle.rules.specs.Forms.{Form, packed, Faithful}
 use Rattle.rules.specs.Outcomes.{Heap, Answer, Outcome, onlyRefusal, leavesWith, unlessRefused}
-use Rattle.rules.specs.Refusals.{firstOf}
+use Rattle.rules.specs.Refusals.{Test, firstOf}
 use Rattle.rules.specs.Calls.{init, placing, allocate, free, Way, stay, shrink, grow, move, noWay, along, reallocate, collecting, collect, survey, load, store}
 use Rattle.rules.specs.Runs.{Call, Init, Allocate, Free, Reallocate, Collect, Survey, Load, Store, step, Turn, after, answers}
 use Rattle.rules.specs.Memory.{Memory, lengthsFit, SameBeside, Sound, heapIn, holding, doneIn, Result, result, AcceptedIn, stackFor, readsTable, testsIn, orRefused, perform, turnIn, afterIn, answersIn}
 use Rattle.rules.specs.Meaning.{AllBytes}
-use Rattle.rules.proofs.Entries.{length-entriesOf, length-tableOf, entriesOf-lt, tableOf-entriesOf, entriesOf-tableOf, entriesOf-injective}
-use Rattle.rules.proofs.Refusals.{both-false, not-false}
+use Rattle.rules.proofs.Entries.{length-entriesOf, length-tableOf, entriesOf-lt, tableOf-entriesOf, entriesOf-tableOf}
+use Rattle.rules.proofs.Refusals.{both-false, both-left, both-right, not-false, numbered, first-more, first-less}
 use Rattle.rules.proofs.Sizes.{Kept, step-keeps}
 
 -- ---- a call of the rules is accepted, or leaves all as it was
@@ -163,6 +163,7 @@ Written f m = m .table ≡ f .write (f .read (m .table))
 pub record Follows (f : Form) (r : Result) (o : Outcome) : Type 0 where
   pub answer : r .answer ≡ o .answer
   pub heap : heapIn f (r .memory) ≡ o .heap
+  pub stack : r .stack ≡ o .stack
   -- if it is accepted, the table is as the form asks, and is what its entries are written as
   pub sound : AcceptedIn r → Sound f (r .memory)
   pub written : AcceptedIn r → Written f (r .memory)
@@ -188,11 +189,12 @@ module _ (f : Form) (faithful : Faithful f) (c : Call) (stack : List ℕ) (m : M
           (record {
             answer = refl;
             heap = rw back refl;
+            stack = refl;
             sound = λ _. record { fits = still-fit f faithful c m (there .heap) fits (kept .long); clean = faithful .write-clean (m .table) _ (table-fits f m fits) (kept .long) };
             written = λ _. rw back refl;
           })
       go (refused r q) =
-          rw (perform-refused f c stack m fits clean r q, q) (record { answer = refl; heap = refl; sound = λ z. absurd (omega arith); written = λ z. absurd (omega arith) })
+          rw (perform-refused f c stack m fits clean r q, q) (record { answer = refl; heap = refl; stack = refl; sound = λ z. absurd (omega arith); written = λ z. absurd (omega arith) })
 
 -- an accepted call does, whether or not the table was clean before
 pub follows-accepted : (f : Form) → Faithful f → (c : Call) (stack : List ℕ) (m : Memory) → AcceptedIn (perform f c stack m)
@@ -272,20 +274,73 @@ module _ (f : Form) (faithful : Faithful f) where
   after-written (t ∷ ts) m s w =
       after-written ts (turnIn f t m .memory) (sound-next (t .call) (t .stack) m s) (kept-by (Written f) f (t .call) (t .stack) m (follows-sound (t .call) (t .stack) m s .written) w)
 
+-- ---- the tests of a call that reads the table, where 1 and 2 are also what the form refuses
+
+abbrev refusedIn : Form → Memory → List Test → ℕ
+refusedIn f m ts = firstOf (testsIn f (Survey 0) m (firstOf ts))
+
+-- the numbers are above 2
+abbrev pub later : List Test → Bool
+later [] = true
+later (t ∷ ts) = both (ltb 2 (t .number)) (later ts)
+
+later-first : (ts : List Test) → later ts ≡ true → (eqb (firstOf ts) 1 ≡ false) × (eqb (firstOf ts) 2 ≡ false)
+unfolding firstOf
+later-first [] l = (refl, refl)
+later-first (t ∷ ts) l = go (t .holds) (later-first ts (both-right (ltb 2 (t .number)) (later ts) l))
+  where
+    high : 2 < t .number
+    high = ltb-true 2 (t .number) (both-left (ltb 2 (t .number)) (later ts) l)
+
+    go : (b : Bool) → (eqb (firstOf ts) 1 ≡ false) × (eqb (firstOf ts) 2 ≡ false)
+        → (eqb (pick b (t .number) (firstOf ts)) 1 ≡ false) × (eqb (pick b (t .number) (firstOf ts)) 2 ≡ false)
+    go true r = (ne-eqb (t .number) 1 (λ q. omega (arith, high, q)), ne-eqb (t .number) 2 (λ q. omega (arith, high, q)))
+    go false r = r
+
+-- once none of the first tests holds, the memory is as the form asks
+pub sound-of : (f : Form) (m : Memory) (ts : List Test) {r : ℕ} → r ≡ refusedIn f m ts → r ≡ 0 → Sound f m × (firstOf ts ≡ 0)
+sound-of f m ts e z =
+    let p = tests-passed f (Survey 0) m (firstOf ts) (sym e ∙ z) in
+    (record { fits = p .fits; clean = not-false _ (p .clean) }, p .own)
+
+-- where only the form refuses, it does so whatever the later tests say
+form-refuses : (d e : Bool) (u : ℕ) {r : ℕ} → eqb u 1 ≡ false → eqb u 2 ≡ false → r ≡ pick (not d) 1 (pick (not e) 2 0) → (r ≡ 0 → ⊥)
+    → r ≡ pick (either (eqb u 1) (not d)) 1 (pick (either (eqb u 2) (not e)) 2 (pick (not (eqb u 0)) u 0))
+form-refuses false e u p q h ne = rw p h
+form-refuses true false u p q h ne = rw (p, q) h
+form-refuses true true u p q h ne = absurd (ne h)
+
+-- a refusal by the first tests is that of the whole list
+pub refused-first-in : (f : Form) (m : Memory) (ts us : List Test) {r : ℕ} → numbered ts ≡ true → later us ≡ true → r ≡ refusedIn f m ts → (r ≡ 0 → ⊥) → r ≡ refusedIn f m (ts ++ us)
+unfolding firstOf
+refused-first-in f m ts us {r = r} k l e ne = go (firstOf ts) refl
+  where
+    go : (n : ℕ) → firstOf ts ≡ n → r ≡ refusedIn f m (ts ++ us)
+    go (suc n) q = e ∙ ap (λ (x : ℕ). firstOf (testsIn f (Survey 0) m x)) (q ∙ sym (first-less ts us (suc n) (omega arith) q))
+    go zero q =
+        let u = later-first us l in
+        form-refuses (lengthsFit f m) (f .clean (m .table)) (firstOf us) (u .0) (u .1) (e ∙ ap (λ (x : ℕ). firstOf (testsIn f (Survey 0) m x)) q) ne
+        ∙ ap (λ (x : ℕ). firstOf (testsIn f (Survey 0) m x)) (sym (first-more ts us k q))
+
+-- and where they do not hold it is that of the others
+pub refused-next-in : (f : Form) (m : Memory) (ts us : List Test) {r n : ℕ} → numbered ts ≡ true → r ≡ refusedIn f m ts → r ≡ 0 → n ≡ firstOf us → n ≡ refusedIn f m (ts ++ us)
+refused-next-in f m ts us k e z h =
+    let p = sound-of f m ts e z in
+    h ∙ sym (ap (λ (x : ℕ). firstOf (testsIn f (Survey 0) m x)) (first-more ts us k (p .1)) ∙ tests-own f (Survey 0) m (firstOf us) (p .0 .fits) (ap not (p .0 .clean)))
+
 -- ---- what the code leaves, in bytes
 
--- A call whose answer and heap are those of the rules leaves the bytes of the packed form that memory's rules give: tables with the same entries are the same.
-pub in-bytes : (c : Call) (stack : List ℕ) (m m′ : Memory) (stack′ : List ℕ) (a : Answer) → AllBytes (m .table) → AllBytes (m′ .table) → lengthsFit packed m ≡ true
-    → leavesWith a (heapIn packed m′) stack′ ≡ step c stack (heapIn packed m) → result a m′ stack′ ≡ perform packed c stack m
-in-bytes c stack m m′ stack′ a small small′ fit e = go (step-ended c stack (heapIn packed m))
-  where
-    unread : both (readsTable c) false ≡ false
-    unread = both-false (readsTable c)
+-- a call that is refused by r, as the tests on memory give it, leaves everything
+pub left-in : (f : Form) (c : Call) (stack : List ℕ) (m : Memory) (r : ℕ) → firstOf (testsIn f c m (step c stack (heapIn f m) .answer .refusal)) ≡ r → 0 < r
+    → result (onlyRefusal r) m (stackFor c stack) ≡ perform f c stack m
+unfolding perform orRefused
+left-in f c stack m zero e p = absurd (omega arith)
+left-in f c stack m (suc r) e p = rw e
 
-    go : Ended (heapIn packed m) (stackFor c stack) (step c stack (heapIn packed m)) → result a m′ stack′ ≡ perform packed c stack m
-    go (accepted z) = rw (perform-accepted packed c stack m fit unread z, ← e, tableOf-entriesOf (m′ .table) small′)
-    go (refused r q) =
-        let d = e ∙ q in
-        let t : m′ .table ≡ m .table = entriesOf-injective (m′ .table) (m .table) small′ small (ap (λ (x : Outcome). x .heap .entries) d) in
-        let p : m′ .pool ≡ m .pool = ap (λ (x : Outcome). x .heap .pool) d in
-        rw (perform-refused packed c stack m fit unread r q, t, p, ap (λ (x : Outcome). x .answer) d, ap (λ (x : Outcome). x .stack) d)
+-- An accepted call whose answer and heap are those of the rules, and that leaves a table as the form asks, leaves the bytes that memory's rules give: they are what its
+-- entries are written as.
+pub acted-in : (f : Form) → Faithful f → (c : Call) (stack : List ℕ) (m m′ : Memory) (stack′ : List ℕ) (a : Answer) → lengthsFit f m ≡ true
+    → both (readsTable c) (not (f .clean (m .table))) ≡ false → AllBytes (m′ .table) → Sound f m′ → a .refusal ≡ 0
+    → leavesWith a (heapIn f m′) stack′ ≡ step c stack (heapIn f m) → result a m′ stack′ ≡ perform f c stack m
+acted-in f faithful c stack m m′ stack′ a fits clean bytes s z e =
+    rw (perform-accepted f c stack m fits clean (sym (ap (λ (x : Outcome). x .answer .refusal) e) ∙ z), ← e, faithful .write-read (m′ .table) bytes (table-fits f m′ (s .fits)) (s .clean))

@@ -1,22 +1,20 @@
 -- Laws of the refusals: the first test that holds, what the shape test says, and what a refusal leaves.
 -- Assumes nothing.
 use mathlib.Core.Path.{_≡_, refl, sym, ap, _∙_}
-use mathlib.Core.Logic.{_↔_}
 use mathlib.Core.Bool.{Bool, true, false, not}
 use mathlib.Core.List.{List, [], _∷_, _++_}
-use Prim.Native.Nat.{ℕ, zero, suc, _*_, _%_, _≤_, _<_}
+use Prim.Native.Nat.{ℕ, zero, suc, _*_, _%_, _<_}
 use native.Mathlib.Omega.{arith}
 use lib.Dec.{eqb, leb, ltb}
 use lib.ListN.{length}
 use borrow.Author.Tests.{eqb-true, eqb-false, leb-true, leb-false, ltb-true, eq-eqb, ne-eqb, le-leb, lt-leb}
 use Rattle.rules.specs.Tests.{pick, both}
 use Rattle.rules.specs.Pointers.{addressOf, goodBase}
-use Rattle.rules.specs.Entries.{HEAD, entriesOf}
+use Rattle.rules.specs.Entries.{HEAD}
 use Rattle.rules.specs.Tables.{entryAt, wellFormed}
-use Rattle.rules.specs.Outcomes.{Heap, Outcome, heapOf, onlyRefusal, unlessRefused}
+use Rattle.rules.specs.Outcomes.{Heap, Outcome, onlyRefusal, unlessRefused}
 use Rattle.rules.specs.Refusals.{Test, firstOf, goodShape, wholeWords, goodLists, badShape, illFormed, firstTests, heapTests, nameTests, noBytes, outside, noHead}
-use Rattle.rules.specs.Meaning.{Shape, ShapeInBytes, Passed, Named, Accepted}
-use Rattle.rules.proofs.Entries.{length-entriesOf}
+use Rattle.rules.specs.Meaning.{Shape, Passed, Named, Accepted}
 
 -- ---- booleans
 
@@ -109,6 +107,12 @@ unfolding unlessRefused
 refuses zero h stack acted e p = absurd (omega arith)
 refuses (suc r) h stack acted e p = rw e
 
+-- the refusal of a call of the rules is the number of its tests, if its act has none
+pub refusal-is : (n : ℕ) (h : Heap) (stack : List ℕ) (acted : Outcome) → (n ≡ 0 → acted .answer .refusal ≡ 0) → unlessRefused n h stack acted .answer .refusal ≡ n
+unfolding unlessRefused
+refusal-is zero h stack acted z = z refl
+refusal-is (suc n) h stack acted z = refl
+
 pub accepts : (h : Heap) (stack : List ℕ) (acted : Outcome) {n : ℕ} → n ≡ 0 → unlessRefused n h stack acted ≡ acted
 unfolding unlessRefused
 accepts h stack acted e = rw e
@@ -145,37 +149,6 @@ shape-of base h s =
 
 pub shape-not : (base : ℕ) (h : Heap) → (Shape base h → ⊥) → goodShape base h ≡ false
 shape-not base h f = not-so (goodShape base h) (λ t. f (shape-true base h t))
-
--- the shape, in bytes
-pub shape-in-bytes : (base : ℕ) (pool table : List ℕ) → Shape base (heapOf pool table) ↔ ShapeInBytes base pool table
-shape-in-bytes base pool table = (there, back)
-  where
-    n : length (entriesOf table) ≡ 4 * length table
-    n = length-entriesOf table
-
-    there : Shape base (heapOf pool table) → ShapeInBytes base pool table
-    there s = record {
-      some = omega (arith, n, s .some);
-      few = omega (arith, n, s .few);
-      size = omega (arith, n, s .pool);
-      aligned = s .aligned;
-      above = s .above;
-      below = omega (arith, n, s .below);
-    }
-
-    back : ShapeInBytes base pool table → Shape base (heapOf pool table)
-    back s = record {
-      some = omega (arith, n, s .some);
-      few = omega (arith, n, s .few);
-      pool = omega (arith, n, s .size);
-      aligned = s .aligned;
-      above = s .above;
-      below = omega (arith, n, s .below);
-    }
-
--- a table of a heap of good shape has at most 1,024 bytes
-pub few-bytes : (base : ℕ) (pool table : List ℕ) → Shape base (heapOf pool table) → length table ≤ 1024
-few-bytes base pool table s = shape-in-bytes base pool table .0 s .few
 
 -- of a collection: the shape, and whole words
 pub lists-of : (base : ℕ) (h : Heap) (roots stack : List ℕ) → Shape base h × (length roots % 4 ≡ 0) × (length stack % 4 ≡ 0) → goodLists base h roots stack ≡ true

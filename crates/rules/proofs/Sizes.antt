@@ -57,7 +57,7 @@ marking-length c ws es = rescan-keeps c (Sane c (length es)) sane-pass _ 0 (sane
 
 -- ---- entries of two bits
 
-small-set : (es : List ℕ) (k v : ℕ) → Small es → v < 4 → Small (set es k v)
+pub small-set : (es : List ℕ) (k v : ℕ) → Small es → v < 4 → Small (set es k v)
 small-set es k v s h i = go (ℕ-discrete i k) (decLt k (length es))
   where
     go : Dec (i ≡ k) → Dec (k < length es) → entryAt (set es k v) i < 4

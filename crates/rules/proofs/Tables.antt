@@ -56,13 +56,13 @@ may-of p e no-mark after = go (ℕ-discrete e TAIL)
     go (no other) = rw (ne-eqb e MARK no-mark, ne-eqb e TAIL other)
 
 -- each entry may stand after the one before it
-may-at : (p : ℕ) (es : List ℕ) → wellAfter p es ≡ true → (k : ℕ) → k < length es → mayFollow (entryAt (p ∷ es) k) (entryAt es k) ≡ true
+pub may-at : (p : ℕ) (es : List ℕ) → wellAfter p es ≡ true → (k : ℕ) → k < length es → mayFollow (entryAt (p ∷ es) k) (entryAt es k) ≡ true
 unfolding wellAfter
 may-at p [] w k h = absurd (omega arith)
 may-at p (e ∷ es) w zero h = both-left (mayFollow p e) (wellAfter e es) w
 may-at p (e ∷ es) w (suc k) h = may-at e es (both-right (mayFollow p e) (wellAfter e es) w) k (omega arith)
 
-may-all : (p : ℕ) (es : List ℕ) → ((k : ℕ) → k < length es → mayFollow (entryAt (p ∷ es) k) (entryAt es k) ≡ true) → wellAfter p es ≡ true
+pub may-all : (p : ℕ) (es : List ℕ) → ((k : ℕ) → k < length es → mayFollow (entryAt (p ∷ es) k) (entryAt es k) ≡ true) → wellAfter p es ≡ true
 unfolding wellAfter
 may-all p [] all = refl
 may-all p (e ∷ es) all = both-of (mayFollow p e) (wellAfter e es) (all 0 (omega arith)) (may-all e es (λ k h. all (suc k) (omega arith)))

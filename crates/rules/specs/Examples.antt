@@ -1,5 +1,5 @@
--- The worked examples 1 to 12, a chain, a rescan and large objects, in heaps of 8, 12 or 16 blocks at base 4,096 (one at 4,112), computed: each call's answer, and the table, the pool and
--- the mark stack it leaves.
+-- The worked examples 1 to 12, a chain, a rescan and large objects, in heaps of 8, 12 or 16 blocks at base 4,096 (one at 4,112), computed: each call's answer, and the entries, the pool
+-- and the mark stack it leaves. Entries are written as packed bytes, because that is short; PlaneExamples has the worked examples in the bytes that are lent.
 -- Assumes nothing.
 use mathlib.Core.Path.{_≡_, refl}
 use mathlib.Core.List.{List, [], _∷_, _++_, map}
@@ -16,7 +16,7 @@ use Rattle.rules.specs.Refusals.{firstOf, goodShape, wholeWords}
 use Rattle.rules.specs.Marking.{pushed, visitTo, visit, walkWords, walk, drainFor, drain, trace, rootTo, markRoot, markRoots, passBlock, passFrom, pass, rescanFor, rescan, markAll, sweptEntry, freeingAfter, sweepFrom, sweep}
 use Rattle.rules.specs.Calls.{blocksFor, taken, placing, allocate, freed, free, shrunk, grown, moved, movesTo, wayToGrow, wayTo, along, reallocate, collecting, collect, survey}
 
--- what an example shows of an outcome: the answer and all that the lent memory then holds, in bytes
+-- what an example shows of an outcome: the answer, the entries as a packed table, the pool and the mark stack
 pub record Shown : Type 0 where
   pub answer : Answer
   pub table : List ℕ
@@ -52,11 +52,11 @@ sevens n = replicate n 7
 abbrev pub stale : List ℕ
 stale = fives 16 ++ sevens 112
 
--- a table of two bytes over that pool
+-- entries of two packed bytes over that pool
 abbrev pub small : ℕ → ℕ → Heap
 small a b = heapOf stale (a ∷ b ∷ [])
 
--- tables of three and of four bytes over such pools
+-- of three and of four over such pools
 abbrev pub medium : ℕ → ℕ → ℕ → Heap
 medium a b c = heapOf (stale ++ sevens 64) (a ∷ b ∷ c ∷ [])
 

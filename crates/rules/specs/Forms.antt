@@ -18,7 +18,8 @@ pub record Form : Type 0 where
   pub read : List ℕ → List ℕ
   pub write : List ℕ → List ℕ
 
--- the packed form: two bits for each block, four blocks to a byte. It adds no refusal: how many blocks there are is tested with the shape, and every bit is one of an entry
+-- The packed form: two bits for each block, four blocks to a byte. It is that of heap images, and of no lent table (Planes). Every length is one of it, and every bit is one
+-- of an entry
 abbrev pub packed : Form
 packed = record { fits = λ t. true; clean = λ t. true; read = entriesOf; write = tableOf }
 

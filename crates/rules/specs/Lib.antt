@@ -1,5 +1,6 @@
 pub mod Tests
 pub mod Words
+pub mod Bits
 pub mod Entries
 pub mod Tables
 pub mod Pointers
@@ -10,8 +11,10 @@ pub mod Reach
 pub mod Calls
 pub mod Runs
 pub mod Forms
+pub mod Planes
 pub mod Memory
+pub mod Agreement
 pub mod Meaning
 pub mod Examples
 pub mod Orders
-pub mod Bytewise
+pub mod PlaneExamples

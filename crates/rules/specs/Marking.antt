@@ -125,6 +125,11 @@ sweptEntry freeing e = pick (eqb e HEAD) FREE (pick (eqb e MARK) HEAD (pick (eqb
 unfoldable pub freeingAfter : Bool → ℕ → Bool
 freeingAfter freeing e = pick (eqb e HEAD) true (pick (eqb e MARK) false freeing)
 
+-- whether TAILs are being freed at entry k, where `freeing` says it at entry 0
+unfoldable pub freeingAt : Bool → (ℕ → ℕ) → ℕ → Bool
+freeingAt freeing entry zero = freeing
+freeingAt freeing entry (suc k) = freeingAfter (freeingAt freeing entry k) (entry k)
+
 unfoldable pub sweepFrom : Bool → List ℕ → List ℕ
 sweepFrom freeing [] = []
 sweepFrom freeing (e ∷ es) = sweptEntry freeing e ∷ sweepFrom (freeingAfter freeing e) es

@@ -5,7 +5,7 @@ use mathlib.Core.Logic.{_≢_, _⊎_}
 use mathlib.Core.Bool.{true}
 use mathlib.Core.List.{List}
 use mathlib.Core.Option.{Option, some, none}
-use Prim.Native.Nat.{ℕ, suc, _+_, _-_, _*_, _%_, _^_, _≤_, _<_}
+use Prim.Native.Nat.{ℕ, suc, _+_, _-_, _*_, _/_, _%_, _^_, _≤_, _<_}
 use lib.ListN.{length, getD}
 use Rattle.rules.specs.Entries.{FREE, HEAD, TAIL, MARK, entriesOf}
 use Rattle.rules.specs.Tables.{entryAt, wellFormed, blockCount}
@@ -16,7 +16,7 @@ use Rattle.rules.specs.Outcomes.{Heap, Outcome}
 abbrev pub AllBytes : List ℕ → Type 0
 AllBytes bs = (i : ℕ) → getD bs i 0 < 256
 
--- a table is its entries: what the rules say of entries is said of every byte of the table
+-- a packed table, as in a heap image, is its entries: what the rules say of entries is said of every byte of it
 abbrev pub TableIsEntries : Type 0
 TableIsEntries = (t u : List ℕ) → AllBytes t → AllBytes u → entriesOf t ≡ entriesOf u → t ≡ u
 
@@ -117,14 +117,15 @@ pub record Shape (base : ℕ) (h : Heap) : Type 0 where
   pub above : 16 ≤ base
   pub below : base + 16 * length (h .entries) ≤ 2 ^ 32
 
--- the same in bytes: a table of t bytes has t from 1 to 1,024 and rules 4t blocks, which are 64t bytes
-pub record ShapeInBytes (base : ℕ) (pool table : List ℕ) : Type 0 where
-  pub some : 1 ≤ length table
-  pub few : length table ≤ 1024
-  pub size : length pool ≡ 64 * length table
+-- the same in bytes: t is from 1 to 1,024; the table has two planes of ⌈t/2⌉ bytes, so twice ⌈t/2⌉, and rules 4t blocks, which are 64t bytes
+pub record ShapeInBytes (base t : ℕ) (pool table : List ℕ) : Type 0 where
+  pub some : 1 ≤ t
+  pub few : t ≤ 1024
+  pub planes : length table ≡ 2 * ((t + 1) / 2)
+  pub size : length pool ≡ 64 * t
   pub aligned : base % 16 ≡ 0
   pub above : 16 ≤ base
-  pub below : base + 64 * length table ≤ 2 ^ 32
+  pub below : base + 64 * t ≤ 2 ^ 32
 
 -- what every call but init knows of its heap once it is not refused
 pub record Passed (base : ℕ) (h : Heap) : Type 0 where

@@ -13,7 +13,7 @@ pub record Heap : Type 0 where
   pub pool : List ℕ
   pub entries : List ℕ
 
--- the heap in a pool and a packed table; equal entries are then equal tables (Meaning: TableIsEntries)
+-- the heap in a pool and a packed table, as the examples write it. The heap in lent bytes is heapIn (Memory), and in two planes heapAt (Planes)
 abbrev pub heapOf : List ℕ → List ℕ → Heap
 heapOf pool table = record { pool = pool; entries = entriesOf table }
 

@@ -24,7 +24,7 @@ unfoldable pub firstOf : List Test → ℕ
 firstOf [] = 0
 firstOf (t ∷ ts) = pick (t .holds) (t .number) (firstOf ts)
 
--- 1: there are n blocks, from 1 to 4,096; the pool has 16 bytes for each; the base suits n. Of a table of t bytes: Meaning, ShapeInBytes
+-- 1: there are n blocks, from 1 to 4,096; the pool has 16 bytes for each; the base suits n. In bytes: Meaning, ShapeInBytes
 unfoldable pub goodShape : ℕ → Heap → Bool
 goodShape base h =
     both (both (leb 1 (length (h .entries))) (leb (length (h .entries)) 4096))
