@@ -1,4 +1,4 @@
--- The laws used on the sample heap, in the packed form and with a byte for each entry. One order is computed, with few roots and no mark stack;
+-- The laws used on the sample heap, in two planes, with spare bits, and in the packed form. One order is computed, with few roots and no mark stack;
 -- the other follows, with 4,096 roots and 64 mark stack entries, the most that there may be, and back from there to few roots and no mark stack.
 -- Assumes nothing.
 use mathlib.Core.Path.{_≡_, refl, sym, ap, subst, _∙_}
@@ -11,11 +11,12 @@ use lib.Dec.{eqb, eqb→eq}
 use lib.IntN.{pos, negℤ}
 use lib.ListN.{length, length-append}
 use Rattle.rules.specs.Tests.{count, leading, tabulate}
+use Rattle.rules.specs.Bits.{bitOf, bitAt, byteOf}
 use Rattle.rules.specs.Words.{number, bytesOf, wordAt, withWord, wordsOf}
 use Rattle.rules.specs.Entries.{entryOf, entriesOf, tableOf}
 use Rattle.rules.specs.Tables.{entryAt, mayFollow, wellAfter, wellFormed, blockCount, startOf, released, used, objects, longest}
 use Rattle.rules.specs.Forms.{Form, Faithful, packed}
-use Rattle.rules.specs.Bytewise.{lowBits, lowOnly, bytewise}
+use Rattle.rules.specs.Planes.{planeBytes, entryIn as entryOfBlock, entriesIn, spare, spareFree, plane, planesOf, planes}
 use Rattle.rules.specs.Pointers.{addressOf, goodBase, targetOf, headsObject, headAt, leadsTo}
 use Rattle.rules.specs.Outcomes.{Answer, changeFrom, placedAt, collectedTo, unlessRefused}
 use Rattle.rules.specs.Refusals.{firstOf, goodShape, wholeWords}
@@ -26,7 +27,7 @@ use Rattle.rules.specs.Memory.{Memory, Result, AcceptedIn, orRefused, perform}
 use Rattle.rules.proofs.Below.{below}
 use Rattle.rules.proofs.Tables.{entry-outside}
 use Rattle.rules.proofs.Memory.{packed-faithful}
-use Rattle.rules.proofs.Bytewise.{bytewise-faithful}
+use Rattle.rules.proofs.Planes.{planes-faithful}
 use Rattle.keeping.specs.Keeping.{butRescans, GoodRoots, GoodStack}
 use Rattle.keeping.specs.Samples.{sampleBase, addressAt}
 use Rattle.algebra.specs.Algebra.{freeIn, collectIn, Usable, entryIn, ObjectIn, Commute, SameMembers, SameCollection, unlessFree, Union, NothingMore}
@@ -57,14 +58,14 @@ pub record Computed (f : Form) : Type 0 where
   pub b : AcceptedIn (collectIn f sampleBase rootB [] (sampleIn f)) × (f .read (collectIn f sampleBase rootB [] (sampleIn f) .memory .table) ≡ entriesAB)
   pub ac : AcceptedIn (collectIn f sampleBase rootsAC [] (sampleIn f)) × (f .read (collectIn f sampleBase rootsAC [] (sampleIn f) .memory .table) ≡ entriesACDE)
 
+pub planes-computed : Computed (planes 3)
+unfolding count leading tabulate number bytesOf wordAt withWord wordsOf bitOf bitAt byteOf planeBytes entryOfBlock entriesIn spare spareFree plane planesOf mayFollow wellAfter wellFormed blockCount startOf released used objects longest addressOf goodBase targetOf headsObject headAt leadsTo changeFrom unlessRefused firstOf goodShape wholeWords pushed visitTo visit walkWords walk drainFor drain trace rootTo markRoot markRoots passBlock passFrom pass rescanFor rescan markAll sweptEntry freeingAfter sweepFrom sweep placing freedHeap free collecting collect survey step orRefused perform
+planes-computed =
+    record { usable = refl; objects = (refl, refl, refl, refl); b-c = (refl, refl, refl); e-a = (refl, refl, refl); ce = (refl, refl); b = (refl, refl); ac = (refl, refl) }
+
 pub packed-computed : Computed packed
 unfolding count leading tabulate number bytesOf wordAt withWord wordsOf entryOf entriesOf tableOf mayFollow wellAfter wellFormed blockCount startOf released used objects longest addressOf goodBase targetOf headsObject headAt leadsTo changeFrom unlessRefused firstOf goodShape wholeWords pushed visitTo visit walkWords walk drainFor drain trace rootTo markRoot markRoots passBlock passFrom pass rescanFor rescan markAll sweptEntry freeingAfter sweepFrom sweep placing freedHeap free collecting collect survey step orRefused perform
 packed-computed =
-    record { usable = refl; objects = (refl, refl, refl, refl); b-c = (refl, refl, refl); e-a = (refl, refl, refl); ce = (refl, refl); b = (refl, refl); ac = (refl, refl) }
-
-pub bytewise-computed : Computed bytewise
-unfolding count leading tabulate number bytesOf wordAt withWord wordsOf lowBits lowOnly mayFollow wellAfter wellFormed blockCount startOf released used objects longest addressOf goodBase targetOf headsObject headAt leadsTo changeFrom unlessRefused firstOf goodShape wholeWords pushed visitTo visit walkWords walk drainFor drain trace rootTo markRoot markRoots passBlock passFrom pass rescanFor rescan markAll sweptEntry freeingAfter sweepFrom sweep placing freedHeap free collecting collect survey step orRefused perform
-bytewise-computed =
     record { usable = refl; objects = (refl, refl, refl, refl); b-c = (refl, refl, refl); e-a = (refl, refl, refl); ce = (refl, refl); b = (refl, refl); ac = (refl, refl) }
 
 -- ---- what follows
@@ -242,8 +243,8 @@ module _ {f : Form} (faithful : Faithful f) (c : Computed f) where
     second-many = again-many .same ∙ many-left;
   }
 
+pub planes-concluded : Concluded (planes 3)
+planes-concluded = concluded (planes-faithful 3) planes-computed
+
 pub packed-concluded : Concluded packed
 packed-concluded = concluded packed-faithful packed-computed
-
-pub bytewise-concluded : Concluded bytewise
-bytewise-concluded = concluded bytewise-faithful bytewise-computed

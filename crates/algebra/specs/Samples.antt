@@ -5,15 +5,15 @@
 --
 -- C points to E and E to D; B points to A; F points to itself.
 -- Assumes nothing.
-use mathlib.Core.Bool.{true}
 use mathlib.Core.List.{List, [], _∷_, _++_}
 use Prim.Native.Nat.{ℕ, zero, suc, _*_}
 use lib.ListN.{replicate}
 use Rattle.rules.specs.Tests.{pick}
 use Rattle.rules.specs.Words.{bytesOf}
-use Rattle.rules.specs.Entries.{FREE, HEAD, TAIL, entriesOf, tableOf}
+use Rattle.rules.specs.Entries.{FREE, HEAD, TAIL}
 use Rattle.rules.specs.Tables.{entryAt, isHead}
-use Rattle.rules.specs.Forms.{Form, packed}
+use Rattle.rules.specs.Forms.{Form}
+use Rattle.rules.specs.Planes.{entriesIn, planesOf, planes}
 use Rattle.rules.specs.Memory.{Memory, memory}
 use Rattle.keeping.specs.Samples.{addressAt, samplePool}
 
@@ -80,8 +80,8 @@ torn roots = roots ++ 0 ∷ []
 
 -- the same heap with a TAIL in block 0, which no call but init accepts
 abbrev pub tailFirst : Memory
-tailFirst = withEntries packed (TAIL ∷ HEAD ∷ TAIL ∷ TAIL ∷ HEAD ∷ TAIL ∷ HEAD ∷ FREE ∷ HEAD ∷ TAIL ∷ HEAD ∷ TAIL ∷ [])
+tailFirst = withEntries (planes 3) (TAIL ∷ HEAD ∷ TAIL ∷ TAIL ∷ HEAD ∷ TAIL ∷ HEAD ∷ FREE ∷ HEAD ∷ TAIL ∷ HEAD ∷ TAIL ∷ [])
 
--- a form that is not faithful: it loses a table with an object at block 1
+-- a form that is not faithful: two planes, but it loses a table with an object at block 1
 abbrev pub lossy : Form
-lossy = record { fits = λ t. true; clean = λ t. true; read = entriesOf; write = λ es. pick (isHead (entryAt es 1)) [] (tableOf es) }
+lossy = record { fits = planes 3 .fits; clean = planes 3 .clean; read = entriesIn 3; write = λ es. pick (isHead (entryAt es 1)) [] (planesOf 3 es) }

@@ -11,11 +11,11 @@ use borrow.Author.Tests.{ltb-false, le-ltb}
 use Rattle.rules.specs.Words.{wordsOf}
 use Rattle.rules.specs.Entries.{FREE}
 use Rattle.rules.specs.Tables.{entryAt, wellFormed, blockCount, used}
-use Rattle.rules.specs.Outcomes.{Heap, Outcome, heapOf, unlessRefused}
+use Rattle.rules.specs.Outcomes.{Heap, Outcome, unlessRefused}
 use Rattle.rules.specs.Refusals.{firstOf, goodLists, badShape, illFormed, manyRoots, longStack, collectionTests}
 use Rattle.rules.specs.Calls.{collecting, collect}
 use Rattle.rules.specs.Meaning.{Passed, Accepted}
-use Rattle.rules.proofs.Entries.{entriesOf-lt}
+use Rattle.rules.specs.Memory.{heapIn}
 use Rattle.rules.proofs.Refusals.{first-no, first-last, first-none, first-passed, lists-of, lists-say, accepts, accepted-none}
 use Rattle.rules.proofs.Tables.{extent-of, extent-used}
 use Rattle.rules.proofs.Marking.{head-inside}
@@ -110,12 +110,12 @@ module _ (base : ℕ) (h : Heap) (roots stack : List ℕ) (accepted : Accepted (
 -- ---- the statements
 
 pub keeps-exactly : KeepsExactly
-keeps-exactly base pool table roots stack accepted = collect-keeps base (heapOf pool table) roots stack accepted (entriesOf-lt table)
+keeps-exactly f faithful base m roots stack accepted = collect-keeps base (heapIn f m) roots stack accepted (faithful .small (m .table))
 
 pub any-stack : AnyStack
 unfolding collecting collected
-any-stack base pool table roots stack stack′ accepted accepted′ =
-    let h = heapOf pool table in
+any-stack f base m roots stack stack′ accepted accepted′ =
+    let h = heapIn f m in
     let same = any-room base h (wordsOf roots) (length stack / 4) (length stack′ / 4) (collect-well base h roots stack accepted) in
     rw (collect-is base h roots stack accepted, collect-is base h roots stack′ accepted′) (rw same, rw same)
 

@@ -9,11 +9,13 @@ use lib.ListN.{length, getD, replicate}
 use Rattle.rules.specs.Words.{wordAt, wordsOf}
 use Rattle.rules.specs.Entries.{FREE, HEAD}
 use Rattle.rules.specs.Tables.{entryAt, wellFormed, blockCount, objects}
-use Rattle.rules.specs.Outcomes.{Heap, Answer, Outcome, heapOf, changeFrom}
+use Rattle.rules.specs.Outcomes.{Heap, Answer, Outcome, changeFrom}
 use Rattle.rules.specs.Reach.{Reachable}
 use Rattle.rules.specs.Marking.{Context, Marked, markAll, sweep}
 use Rattle.rules.specs.Calls.{collect}
 use Rattle.rules.specs.Meaning.{Accepted}
+use Rattle.rules.specs.Forms.{Form, Faithful}
+use Rattle.rules.specs.Memory.{Memory, heapIn}
 
 -- what the marking of a heap reads, with a mark stack that has room for so many entries
 abbrev pub contextOf : ℕ → Heap → ℕ → Context
@@ -27,7 +29,7 @@ marking base h roots room = markAll (contextOf base h room) roots (h .entries)
 unfoldable pub collected : ℕ → Heap → List ℕ → ℕ → List ℕ
 collected base h roots room = sweep (marking base h roots room .last .entries)
 
--- a table that bytes give and the rules accept: well-formed, and each entry one of the four (a list may hold other numbers, a table cannot)
+-- entries that bytes give and the rules accept: well-formed, and each one of the four (a list may hold other numbers, a table cannot)
 pub record Proper (es : List ℕ) : Type 0 where
   pub well : wellFormed es ≡ true
   pub small : (k : ℕ) → entryAt es k < 4
@@ -94,18 +96,18 @@ withRescans r a =
 abbrev pub butRescans : Answer → Answer
 butRescans a = withRescans 0 a
 
--- Exact keeping: every accepted collection of a pool and a table, from any roots and with any mark stack, answers and leaves that.
+-- Exact keeping: every accepted collection of the heap in lent memory, for every form of the table, from any roots and with any mark stack, answers and leaves that.
 abbrev pub KeepsExactly : Type 0
 KeepsExactly =
-    (base : ℕ) (pool table roots stack : List ℕ) → Accepted (collect base (heapOf pool table) roots stack)
-    → Collected base (heapOf pool table) roots stack (collect base (heapOf pool table) roots stack)
+    (f : Form) → Faithful f → (base : ℕ) (m : Memory) (roots stack : List ℕ) → Accepted (collect base (heapIn f m) roots stack)
+    → Collected base (heapIn f m) roots stack (collect base (heapIn f m) roots stack)
 
 -- The mark stack has no influence on what is kept: two collections, each with its own, leave the same heap, and answer the same but for the number of rescans.
 abbrev pub AnyStack : Type 0
 AnyStack =
-    (base : ℕ) (pool table roots stack stack′ : List ℕ) →
-    let o : Outcome = collect base (heapOf pool table) roots stack in
-    let o′ : Outcome = collect base (heapOf pool table) roots stack′ in
+    (f : Form) (base : ℕ) (m : Memory) (roots stack stack′ : List ℕ) →
+    let o : Outcome = collect base (heapIn f m) roots stack in
+    let o′ : Outcome = collect base (heapIn f m) roots stack′ in
     Accepted o → Accepted o′ → (o .heap ≡ o′ .heap) × (butRescans (o .answer) ≡ butRescans (o′ .answer))
 
 -- Two heaps that differ in bytes of unreachable objects and of free blocks alone: the same table, and the same bytes in each object that is reachable in the first.

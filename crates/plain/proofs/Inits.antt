@@ -4,11 +4,13 @@ use mathlib.Core.Path.{_≡_, refl}
 use mathlib.Core.Logic.{_↔_}
 use mathlib.Core.Bool.{true}
 use mathlib.Core.List.{[]}
-use Prim.Native.Nat.{ℕ}
+use Prim.Native.Nat.{ℕ, _*_}
 use native.Mathlib.Omega.{arith}
 use lib.ListN.{length, replicate}
+use borrow.Author.Tests.{eqb-true, eq-eqb}
 use Rattle.rules.specs.Entries.{FREE}
-use Rattle.rules.specs.Forms.{Form, Faithful, packed}
+use Rattle.rules.specs.Forms.{Form, Faithful}
+use Rattle.rules.specs.Planes.{planeBytes, planes}
 use Rattle.rules.specs.Outcomes.{Heap, onlyRefusal, leaves}
 use Rattle.rules.specs.Refusals.{goodShape, badShape}
 use Rattle.rules.specs.Calls.{init}
@@ -53,6 +55,11 @@ init-exactly f base m = (
       rw (perform-accepted f (Init base) [] m (t .1) refl (rw e refl)) (rw e refl),
 )
 
--- every length is one of the packed form, so there exactly if the shape is good
-pub init-packed : (base : ℕ) (m : Memory) → lengthsFit packed m ≡ true → AcceptedIn (perform packed (Init base) [] m) ↔ (goodShape base (heapIn packed m) ≡ true)
-init-packed base m fit = (shape-in packed base m, λ good. init-exactly packed base m .1 (good, fit))
+-- so of two planes exactly if the shape is good and the table has the bytes of both
+pub init-planes : (base t : ℕ) (m : Memory)
+    → AcceptedIn (perform (planes t) (Init base) [] m) ↔ ((goodShape base (heapIn (planes t) m) ≡ true) × (length (m .table) ≡ 2 * planeBytes t))
+init-planes base t m =
+    let e = init-exactly (planes t) base m in (
+      λ z. let g = e .0 z in (g .0, eqb-true (length (m .table)) (2 * planeBytes t) (g .1)),
+      λ g. e .1 (g .0, eq-eqb (length (m .table)) (2 * planeBytes t) (g .1)),
+    )

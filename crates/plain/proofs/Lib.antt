@@ -14,4 +14,4 @@ pub mod Refinement
 pub mod Reached
 pub mod Consequences
 pub mod Samples
-pub mod Bytewise
+pub mod Planes

@@ -1,7 +1,7 @@
 -- The theorems used on one run, from a table that is not well-formed: what the list answers is computed, and what the heap answers, how many
 -- blocks it uses and what a collection keeps follow by the theorems.
 -- Assumes nothing.
-use mathlib.Core.Path.{_≡_, refl, _∙_}
+use mathlib.Core.Path.{_≡_, refl, sym, _∙_}
 use mathlib.Core.Bool.{not}
 use mathlib.Core.List.{List, [], _∷_, _++_, List·Memᴰ, List·Memᴰ·head, List·Memᴰ·tail}
 use native.Mathlib.Omega.{arith}
@@ -9,13 +9,12 @@ use lib.Dec.{eqb}
 use lib.IntN.{pos}
 use lib.ListN.{replicate, set}
 use Rattle.rules.specs.Tests.{tabulate}
-use Rattle.rules.specs.Entries.{entriesOf}
 use Rattle.rules.specs.Tables.{used}
 use Rattle.rules.specs.Pointers.{addressOf, goodBase}
-use Rattle.rules.specs.Forms.{packed}
+use Rattle.rules.specs.Planes.{entriesIn, planes}
 use Rattle.rules.specs.Calls.{blocksFor}
 use Rattle.rules.specs.Memory.{afterIn, answersIn}
-use Rattle.rules.proofs.Memory.{packed-faithful}
+use Rattle.rules.proofs.Planes.{length-entriesIn, planes-faithful}
 use Rattle.plain.specs.Objects.{Object, object, total, find, placeFrom, lowestGap, insert, replace}
 use Rattle.plain.specs.Tracing.{isIn, ledTo, trace, among}
 use Rattle.plain.specs.Reaching.{Reachable, root, edge, Keeps}
@@ -29,17 +28,17 @@ use Rattle.plain.proofs.Consequences.{summed, used-answered, allOf, lea
 -- ---- what the heap answers
 
 -- as the list does, whatever memory and list held before
-pub garbage-answers : answersIn packed run garbage ≡ runAnswers
-unfolding AnswersAsList entriesOf
-garbage-answers = answers-as-list packed packed-faithful runBase garbage twelve (filling ++ ending) (run-accepted .0) refl ∙ run-answers
+pub garbage-answers : answersIn (planes 3) run garbage ≡ runAnswers
+unfolding AnswersAsList
+garbage-answers = answers-as-list (planes 3) (planes-faithful 3) runBase garbage twelve (filling ++ ending) (run-accepted .0) (sym (length-entriesIn 3 (garbage .table))) ∙ run-answers
 
 -- ---- how many blocks are used
 
 -- whatever was counted before the init
-pub garbage-used : used (entriesOf (afterIn packed run garbage .table)) ≡ 10
+pub garbage-used : used (entriesIn 3 (afterIn (planes 3) run garbage .table)) ≡ 10
 unfolding summed counted filling ending runAnswers
 garbage-used =
-    let s = rw garbage-answers at (used-answered packed packed-faithful runBase garbage (filling ++ ending) (pos 99) (run-accepted .0)) in
+    let s = rw garbage-answers at (used-answered (planes 3) (planes-faithful 3) runBase garbage (filling ++ ending) (pos 99) (run-accepted .0)) in
     cc
 
 -- ---- what a collection keeps

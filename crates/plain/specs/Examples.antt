@@ -8,11 +8,11 @@ use Prim.Native.Nat.{ℕ, _*_}
 use lib.IntN.{pos}
 use lib.ListN.{length, replicate, set}
 use Rattle.rules.specs.Tests.{tabulate}
+use Rattle.rules.specs.Bits.{bitOf, bitAt}
 use Rattle.rules.specs.Words.{number, bytesOf, wordAt, wordsOf}
 use Rattle.rules.specs.Pointers.{addressOf, goodBase}
-use Rattle.rules.specs.Entries.{entryOf, entriesOf}
 use Rattle.rules.specs.Tables.{mayFollow, wellAfter, wellFormed}
-use Rattle.rules.specs.Forms.{packed}
+use Rattle.rules.specs.Planes.{planeBytes, entryIn, entriesIn, planes}
 use Rattle.rules.specs.Outcomes.{Answer, unlessRefused, onlyRefusal, placedAt, collectedTo, surveyed, loaded}
 use Rattle.rules.specs.Refusals.{firstOf, goodShape, wholeWords}
 use Rattle.rules.specs.Calls.{blocksFor, init}
@@ -172,13 +172,13 @@ ending =
 abbrev pub run : List Turn
 run = fromInit runBase (filling ++ ending)
 
--- before the init: a pool full of ones, and a table that is not even well-formed
+-- before the init: a pool full of ones, and two planes that are not even well-formed
 abbrev pub garbage : Memory
-garbage = memory (replicate 192 255) (7 ∷ 255 ∷ 170 ∷ [])
+garbage = memory (replicate 192 255) (7 ∷ 15 ∷ 170 ∷ 8 ∷ [])
 
 -- the init is accepted all the same
-pub run-accepted : AcceptedIn (perform packed (Init runBase) [] garbage) × (wellFormed (entriesOf (garbage .table)) ≡ false)
-unfolding perform orRefused step init unlessRefused firstOf goodShape goodBase addressOf entriesOf entryOf mayFollow wellAfter wellFormed
+pub run-accepted : AcceptedIn (perform (planes 3) (Init runBase) [] garbage) × (wellFormed (entriesIn 3 (garbage .table)) ≡ false)
+unfolding perform orRefused step init unlessRefused firstOf goodShape goodBase addressOf tabulate bitOf bitAt planeBytes entryIn entriesIn mayFollow wellAfter wellFormed
 run-accepted = (refl, refl)
 
 -- a list with an object in it

@@ -4,28 +4,31 @@ use mathlib.Core.Path.{_≡_, refl, ap, sym, _∙_}
 use mathlib.Core.Logic.{_≢_, _⊎_, inl, inr, ⊎-elim}
 use mathlib.Core.Bool.{Bool, true, false, not}
 use mathlib.Core.List.{List, [], _∷_}
-use Prim.Native.Nat.{ℕ, zero, suc}
+use Prim.Native.Nat.{ℕ, zero, suc, _*_}
+use native.Mathlib.Decide.{ℕ-discrete}
 use native.Mathlib.Omega.{arith}
 use lib.Dec.{eqb}
 use lib.ListN.{length, replicate}
 use borrow.Author.Tests.{eqb-true, eqb-false, eq-eqb}
 use Rattle.rules.specs.Tests.{both, either}
-use Rattle.rules.specs.Entries.{FREE, entriesOf, tableOf}
-use Rattle.rules.specs.Outcomes.{Heap, Outcome, heapOf, onlyRefusal}
+use Rattle.rules.specs.Entries.{FREE}
+use Rattle.rules.specs.Outcomes.{Heap, Outcome, onlyRefusal}
 use Rattle.rules.specs.Refusals.{test, firstOf}
-use Rattle.rules.specs.Runs.{Call, Init, Survey, Load, Store, step}
-use Rattle.rules.specs.Forms.{Form, packed, Faithful}
+use Rattle.rules.specs.Runs.{Call, Init, Allocate, Free, Reallocate, Collect, Survey, Load, Store, step}
+use Rattle.rules.specs.Forms.{Form, Faithful}
+use Rattle.rules.specs.Planes.{planeBytes, entriesIn, spareFree, planesOf, planes, heapAt}
 use Rattle.rules.specs.Memory.{Memory, memory, heapIn, lengthsFit, doneIn, Result, result, AcceptedIn, stackFor, readsTable, testsIn, orRefused, perform}
-use Rattle.rules.specs.Meaning.{AllBytes, Accepted}
-use Rattle.rules.proofs.Entries.{length-entriesOf, entriesOf-replicate, tableOf-entriesOf}
-use Rattle.rules.proofs.Refusals.{true-not-false, both-left, both-right, not-true, not-false, shape-in-bytes}
-use Rattle.rules.proofs.Memory.{packed-sound, tests-passed, perform-accepted, passes-in, accepted-sound, Performed, acted, left, performed, packed-faithful, follows-sound, sound-next}
-use Rattle.promises.specs.Conditions.{First, when}
-use Rattle.promises.specs.Bytes.{OnBytes}
+use Rattle.rules.specs.Meaning.{AllBytes, Shape, Accepted}
+use Rattle.rules.proofs.Refusals.{true-not-false, both-left, both-right, not-true, not-false}
+use Rattle.rules.proofs.Memory.{tests-passed, perform-accepted, passes-in, accepted-sound, Performed, acted, left, performed, packed-faithful, follows-accepted, follows-sound, sound-next}
+use Rattle.rules.proofs.Planes.{length-entriesIn, planes-faithful}
+use Rattle.rules.proofs.Agreement.{in-planes, in-packed, planes-agree}
+use Rattle.promises.specs.Conditions.{Condition, First, when, ofInit, ofAllocate, ofFree, ofReallocate, ofCollect, ofSurvey, ofWord}
+use Rattle.promises.specs.Bytes.{OnBytes, AsPacked}
 use Rattle.promises.proofs.Checked.{init-checked, acts}
-use Rattle.promises.proofs.Initialising.{all-free}
+use Rattle.promises.proofs.Planes.{shape-in-bytes, spare-in-bytes, free-planes}
 use Rattle.promises.proofs.Storing.{stored, survey-leaves, load-leaves}
-use Rattle.promises.proofs.Numbers.{first-step, first-end}
+use Rattle.promises.proofs.Numbers.{first-step, first-end, init-refusal, allocate-refusal, free-refusal, reallocate-refusal, collect-refusal, survey-refusal, load-refusal, store-refusal}
 
 refused-bytes : (f : Form) (c : Call) (stack : List ℕ) (m : Memory) → ¬ AcceptedIn (perform f c stack m)
     → perform f c stack m ≡ result (onlyRefusal (perform f c stack m .answer .refusal)) m (stackFor c stack)
@@ -85,16 +88,57 @@ accepted-bytes f c stack m z =
     let p = passes-in f c stack m z in
     (p .own, perform-accepted f c stack m (p .fits) (p .clean) (p .own))
 
-init-zero : (base : ℕ) (pool table : List ℕ) → AcceptedIn (perform packed (Init base) [] (memory pool table))
-    → perform packed (Init base) [] (memory pool table) .memory ≡ memory pool (replicate (length table) 0)
+init-zero : (base t : ℕ) (pool table : List ℕ) → AcceptedIn (perform (planes t) (Init base) [] (memory pool table))
+    → perform (planes t) (Init base) [] (memory pool table) .memory ≡ memory pool (replicate (length table) 0)
 unfolding step
-init-zero base pool table z =
-    let a = accepted-bytes packed (Init base) [] (memory pool table) z in
-    let e = acts (init-checked base (heapOf pool table)) (a .0) in
-    let t : tableOf (replicate (length (entriesOf table)) FREE) ≡ replicate (length table) 0 =
-    ap (λ (n : ℕ). tableOf (replicate n FREE)) (length-entriesOf table) ∙ ap tableOf (sym (entriesOf-replicate (length table)))
-    ∙ tableOf-entriesOf (replicate (length table) 0) (λ i. omega (arith, all-free (length table) i)) in
-    rw (a .1, e, t)
+init-zero base t pool table z =
+    let a = accepted-bytes (planes t) (Init base) [] (memory pool table) z in
+    let long = eqb-true (length table) (2 * planeBytes t) (passes-in (planes t) (Init base) [] (memory pool table) z .fits) in
+    let e = acts (init-checked base (heapAt t pool table)) (a .0) in
+    let written : planesOf t (replicate (length (entriesIn t table)) FREE) ≡ replicate (length table) 0 =
+    ap (λ (n : ℕ). planesOf t (replicate n FREE)) (length-entriesIn t table) ∙ free-planes t ∙ ap (λ (n : ℕ). replicate n 0) (sym long) in
+    rw (a .1, e, written)
+
+clean-after : (t : ℕ) (c : Call) (stack : List ℕ) (m : Memory) → AcceptedIn (perform (planes t) c stack m) → spareFree t (perform (planes t) c stack m .memory .table) ≡ true
+clean-after t c stack m z = follows-accepted (planes t) (planes-faithful t) c stack m z .sound z .clean
+
+-- ---- one t
+
+-- if the number is another than that of the first condition, that does not hold
+first-not : (c : Condition) (cs : List Condition) (r : ℕ) → First (c ∷ cs) r → r ≢ c .number → ¬ (c .holds)
+unfolding First
+first-not c cs r x other = ⊎-elim (λ here. absurd (other (here .1))) (λ later. later .0) x
+
+sized : (base : ℕ) (h : Heap) → ¬ (¬ Shape base h) → length (h .pool) ≡ 16 * length (h .entries)
+sized base h given = go (ℕ-discrete (length (h .pool)) (16 * length (h .entries)))
+  where
+    go : Dec (length (h .pool) ≡ 16 * length (h .entries)) → length (h .pool) ≡ 16 * length (h .entries)
+    go (yes e) = e
+    go (no bad) = absurd (given (λ s. bad (s .pool)))
+
+-- a call that is not refused by 1 has 16 bytes of the pool for each block
+pool-size : (c : Call) (stack : List ℕ) (h : Heap) → step c stack h .answer .refusal ≢ 1 → length (h .pool) ≡ 16 * length (h .entries)
+unfolding step ofInit ofAllocate ofFree ofReallocate ofCollect ofSurvey ofWord
+pool-size (Init base) stack h other = sized base h (first-not _ _ _ (init-refusal base h) other)
+pool-size (Allocate base bytes) stack h other = sized base h (first-not _ _ _ (allocate-refusal base h bytes) other)
+pool-size (Free base k) stack h other = sized base h (first-not _ _ _ (free-refusal base h k) other)
+pool-size (Reallocate base k bytes) stack h other = sized base h (first-not _ _ _ (reallocate-refusal base h k bytes) other)
+pool-size (Collect base roots) stack h other = sized base h (λ bad. first-not _ _ _ (collect-refusal base h roots stack) other (λ s. bad (s .0)))
+pool-size (Survey base) stack h other = sized base h (first-not _ _ _ (survey-refusal base h) other)
+pool-size (Load base k i) stack h other = sized base h (first-not _ _ _ (load-refusal base h k i) other)
+pool-size (Store base k i w) stack h other = sized base h (first-not _ _ _ (store-refusal base h k i w) other)
+
+-- so 64 for each of t
+pool-of : (t : ℕ) (c : Call) (stack : List ℕ) (m : Memory) → perform (planes t) c stack m .answer .refusal ≢ 1 → length (m .pool) ≡ 64 * t
+pool-of t c stack m other =
+    let own : step c stack (heapIn (planes t) m) .answer .refusal ≢ 1 = λ e. first-not _ _ _ (number (planes t) c stack m) other (inl e) in
+    omega (arith, pool-size c stack (heapIn (planes t) m) own, length-entriesIn t (m .table))
+
+one-t : (t t′ : ℕ) (c c′ : Call) (stack stack′ : List ℕ) (m : Memory) → perform (planes t) c stack m .answer .refusal ≢ 1
+    → perform (planes t′) c′ stack′ m .answer .refusal ≢ 1 → t ≡ t′
+one-t t t′ c c′ stack stack′ m other other′ = omega (arith, pool-of t c stack m other, pool-of t′ c′ stack′ m other′)
+
+-- ---- calls that leave the table
 
 -- a call that reads the table and leaves its entries leaves its bytes
 module _ (f : Form) (faithful : Faithful f) (c : Call) (stack : List ℕ) (m : Memory) (bytes : AllBytes (m .table)) (reads : readsTable c ≡ true)
@@ -144,8 +188,14 @@ on-bytes = record {
   survey-bytes = survey-bytes;
   load-bytes = load-bytes;
   store-bytes = store-bytes;
+  planes-faithful = planes-faithful;
   packed-faithful = packed-faithful;
-  packed-sound = packed-sound;
-  init-zero = init-zero;
   shape-in-bytes = shape-in-bytes;
+  one-t = one-t;
+  spare-in-bytes = spare-in-bytes;
+  clean-after = clean-after;
+  init-zero = init-zero;
 }
+
+pub as-packed : AsPacked
+as-packed = record { planes-agree = planes-agree; in-planes = in-planes; in-packed = in-packed }

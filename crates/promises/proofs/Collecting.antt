@@ -4,7 +4,9 @@ use mathlib.Core.Path.{ap, _∙_}
 use mathlib.Core.List.{List}
 use Prim.Native.Nat.{ℕ, _+_, _*_}
 use lib.ListN.{length, getD}
-use Rattle.rules.specs.Outcomes.{Heap, Outcome, heapOf}
+use Rattle.rules.specs.Outcomes.{Heap, Outcome}
+use Rattle.rules.specs.Forms.{Form, Faithful}
+use Rattle.rules.specs.Memory.{Memory, heapIn}
 use Rattle.rules.specs.Calls.{collect}
 use Rattle.rules.specs.Meaning.{Shape, Accepted}
 use Rattle.rules.proofs.Calls.{collect-change}
@@ -13,9 +15,9 @@ use Rattle.keeping.proofs.Collections.{collect-asks, keeps-exactly, collect-les
 use Rattle.promises.specs.Promises.{Reclaimed}
 use Rattle.promises.proofs.Counting.{counts-of, shape-kept}
 
-module _ (base : ℕ) (pool table roots stack : List ℕ) (accepted : Accepted (collect base (heapOf pool table) roots stack)) where
+module _ (f : Form) (faithful : Faithful f) (base : ℕ) (m : Memory) (roots stack : List ℕ) (accepted : Accepted (collect base (heapIn f m) roots stack)) where
   abbrev h : Heap
-  h = heapOf pool table
+  h = heapIn f m
 
   abbrev r : Outcome
   r = collect base h roots stack
@@ -25,7 +27,7 @@ module _ (base : ℕ) (pool table roots stack : List ℕ) (accepted : Accepted (
 
   pub reclaimed : Reclaimed base h roots r
   reclaimed =
-      let k : Collected base h roots stack r = keeps-exactly base pool table roots stack accepted in
+      let k : Collected base h roots stack r = keeps-exactly f faithful base m roots stack accepted in
       record {
         bytes = k .pool;
         others = λ o reach. record {

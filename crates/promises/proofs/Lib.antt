@@ -7,6 +7,7 @@ pub mod Freeing
 pub mod Reallocating
 pub mod Storing
 pub mod Collecting
+pub mod Planes
 pub mod Bytes
 pub mod Promised
 pub mod Determined

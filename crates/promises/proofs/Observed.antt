@@ -3,7 +3,7 @@
 -- Assumes nothing.
 use mathlib.Core.Path.{_≡_, refl, ap, ap₂, sym, _∙_}
 use mathlib.Core.Logic.{_≢_, _↔_, _⊎_, ⊎-elim, inl, inr}
-use mathlib.Core.Bool.{true, false}
+use mathlib.Core.Bool.{Bool, true, false}
 use mathlib.Core.List.{List, [], _∷_}
 use mathlib.Core.Option.{Option, none}
 use Prim.Native.Nat.{ℕ, zero, suc, _+_, _-_, _*_, _/_, _%_, _≤_, _<_}
@@ -12,16 +12,16 @@ use native.Mathlib.Omega.{arith}
 use lib.IntN.{ℤ, pos, negℤ, subℕ, _+ℤ_, natAbs}
 use lib.ListN.{getD}
 use Rattle.rules.specs.Words.{number, wordAt, wordsOf}
-use Rattle.rules.specs.Entries.{entriesOf}
 use Rattle.rules.specs.Tables.{used, objects}
 use Rattle.rules.specs.Pointers.{targetOf, leadsTo}
 use Rattle.rules.specs.Meaning.{Points, Leads, Longest, ShapeInBytes, Passed, Accepted}
-use Rattle.rules.specs.Outcomes.{Heap, Answer, Outcome, heapOf, placement, collection, findings, onlyRefusal, placedAt, collectedTo, surveyed, loaded}
+use Rattle.rules.specs.Outcomes.{Heap, Answer, Outcome, placement, collection, findings, onlyRefusal, placedAt, collectedTo, surveyed, loaded}
 use Rattle.rules.specs.Reach.{Reachable}
 use Rattle.rules.specs.Calls.{blocksFor, init, allocate, free, reallocate, collect, survey, load, store}
 use Rattle.rules.specs.Runs.{Call, Init, Allocate, Free, Reallocate, Collect, Survey, Load, Store, step}
-use Rattle.rules.specs.Forms.{Form}
-use Rattle.rules.specs.Memory.{Memory, heapIn, Result, AcceptedIn, readsTable, perform}
+use Rattle.rules.specs.Forms.{Form, Faithful}
+use Rattle.rules.specs.Planes.{spareFree, planes, heapAt}
+use Rattle.rules.specs.Memory.{Memory, memory, heapIn, lengthsFit, Result, AcceptedIn, readsTable, perform}
 use Rattle.rules.proofs.Words.{wordAt-same}
 use Rattle.rules.proofs.Refusals.{true-not-false}
 use Rattle.rules.proofs.Tables.{entry-inside, well-says, run-shorter}
@@ -70,14 +70,37 @@ refusals-alike c c' stack stack' h no-number e =
 
 -- ---- shape, table and addresses
 
--- a pool and a table are accepted by init exactly if their shape is good
-pub init-shape : (base : ℕ) (pool table : List ℕ) → ShapeInBytes base pool table → Accepted (init base (heapOf pool table))
-unfolding First ofInit
-init-shape base pool table s = init-number base (heapOf pool table) 0 (inr (λ bad. bad (on-bytes .shape-in-bytes base pool table .1 s), refl))
+-- a pool and two planes are accepted by init exactly if their shape is good
+module _ (base t : ℕ) (pool table : List ℕ) where
+  abbrev lent : Memory
+  lent = memory pool table
 
-pub init-bad-shape : (base : ℕ) (pool table : List ℕ) → ¬ ShapeInBytes base pool table → init base (heapOf pool table) .answer .refusal ≡ 1
-unfolding First ofInit
-init-bad-shape base pool table bad = init-number base (heapOf pool table) 1 (inl (λ s. bad (on-bytes .shape-in-bytes base pool table .0 s), refl))
+  -- its number, where r is that of the heap's
+  init-in : (n : ℕ) → let r : ℕ = init base (heapAt t pool table) .answer .refusal in
+      First
+      (when 1 ((r ≡ 1) ⊎ (lengthsFit (planes t) lent ≡ false)) ∷ when 2 ((r ≡ 2) ⊎ ((false ≡ true) × (spareFree t table ≡ false))) ∷ when r (r ≢ 0) ∷ []) n
+      → perform (planes t) (Init base) [] lent .answer .refusal ≡ n
+  unfolding step
+  init-in n = first-one _ _ n (on-bytes .number (planes t) (Init base) [] lent)
+
+  pub init-shape : ShapeInBytes base t pool table → AcceptedIn (perform (planes t) (Init base) [] lent)
+  unfolding First ofInit
+  init-shape s =
+      let g = on-bytes .shape-in-bytes base t pool table .1 s in
+      let r : init base (heapAt t pool table) .answer .refusal ≡ 0 = init-number base (heapAt t pool table) 0 (inr (λ bad. bad (g .0), refl)) in
+      init-in 0
+      (inr (
+        ⊎-elim (λ e. omega (arith, e, r)) (λ e. true-not-false (g .1) e),
+        inr (⊎-elim (λ e. omega (arith, e, r)) (λ e. true-not-false (e .0) refl), inr (λ some-number. some-number r, refl)),
+      ))
+
+  pub init-bad-shape : ¬ ShapeInBytes base t pool table → perform (planes t) (Init base) [] lent .answer .refusal ≡ 1
+  unfolding First ofInit
+  init-bad-shape bad = go (planes t .fits table) refl
+    where
+      go : (b : Bool) → planes t .fits table ≡ b → perform (planes t) (Init base) [] lent .answer .refusal ≡ 1
+      go true e = init-in 1 (inl (inl (init-number base (heapAt t pool table) 1 (inl (λ s. bad (on-bytes .shape-in-bytes base t pool table .0 (s, e)), refl))), refl))
+      go false e = init-in 1 (inl (inr e, refl))
 
 -- an accepted call leaves the bytes that its entries are written as
 pub table-written : (f : Form) (c : Call) (stack : List ℕ) (m : Memory) → AcceptedIn (perform f c stack m)
@@ -174,13 +197,13 @@ module _ (base : ℕ) (h : Heap) (good : Passed base h) where
       let p = promises .stored base h k j w accepted in
       same-loads base h (store base h k j w .heap) o good (p .good) head (p .others o head other)
 
-pub collect-loads : (base : ℕ) (pool table roots stack : List ℕ) → Passed base (heapOf pool table) → Accepted (collect base (heapOf pool table) roots stack)
-    → (o : ℕ) → Reachable base (heapOf pool table) (wordsOf roots) o
-    → (i : ℕ) → load base (collect base (heapOf pool table) roots stack .heap) o i .answer ≡ load base (heapOf pool table) o i .answer
-collect-loads base pool table roots stack good accepted o reach =
-    let p = promises .reclaimed base pool table roots stack accepted in
-    same-loads base (heapOf pool table) (collect base (heapOf pool table) roots stack .heap) o good (p .good)
-    (reachable-head base (heapOf pool table) (wordsOf roots) (good .well) o reach) (p .others o reach)
+pub collect-loads : (f : Form) → Faithful f → (base : ℕ) (m : Memory) (roots stack : List ℕ) → Passed base (heapIn f m) → Accepted (collect base (heapIn f m) roots stack)
+    → (o : ℕ) → Reachable base (heapIn f m) (wordsOf roots) o
+    → (i : ℕ) → load base (collect base (heapIn f m) roots stack .heap) o i .answer ≡ load base (heapIn f m) o i .answer
+collect-loads f faithful base m roots stack good accepted o reach =
+    let kept = promises .reclaimed f faithful base m roots stack accepted in
+    same-loads base (heapIn f m) (collect base (heapIn f m) roots stack .heap) o good (kept .good)
+    (reachable-head base (heapIn f m) (wordsOf roots) (good .well) o reach) (kept .others o reach)
 
 -- ---- the new object
 
@@ -262,10 +285,10 @@ module _ (base : ℕ) (h : Heap) (good : Passed base h) where
   pub reallocate-sums : (k bytes : ℕ) → Accepted (reallocate base h k bytes) → Sums base h (reallocate base h k bytes)
   reallocate-sums k bytes accepted = let p = promises .reallocated base h k bytes accepted in used-sum base h _ good (p .good) (p .counts)
 
-pub collect-sums : (base : ℕ) (pool table roots stack : List ℕ) → Passed base (heapOf pool table) → Accepted (collect base (heapOf pool table) roots stack)
-    → Sums base (heapOf pool table) (collect base (heapOf pool table) roots stack)
-collect-sums base pool table roots stack good accepted =
-    let p = promises .reclaimed base pool table roots stack accepted in used-sum base (heapOf pool table) _ good (p .good) (p .counts)
+pub collect-sums : (f : Form) → Faithful f → (base : ℕ) (m : Memory) (roots stack : List ℕ) → Passed base (heapIn f m) → Accepted (collect base (heapIn f m) roots stack)
+    → Sums base (heapIn f m) (collect base (heapIn f m) roots stack)
+collect-sums f faithful base m roots stack good accepted =
+    let p = promises .reclaimed f faithful base m roots stack accepted in used-sum base (heapIn f m) _ good (p .good) (p .counts)
 
 -- after an init none are used
 pub init-none-used : (base : ℕ) (h : Heap) → Accepted (init base h) → survey base (init base h .heap) .answer .used ≡ 0
@@ -283,11 +306,10 @@ size-of zero = refl
 size-of (suc n) = refl
 
 -- what a collection no longer uses and what it still uses are together what was used
-pub collect-less : (base : ℕ) (pool table roots stack : List ℕ) → Accepted (collect base (heapOf pool table) roots stack)
-    → used (collect base (heapOf pool table) roots stack .heap .entries) + natAbs (collect base (heapOf pool table) roots stack .answer .change)
-    ≡ used (entriesOf table)
-collect-less base pool table roots stack accepted =
-    let p = promises .reclaimed base pool table roots stack accepted in
+pub collect-less : (f : Form) → Faithful f → (base : ℕ) (m : Memory) (roots stack : List ℕ) → Accepted (collect base (heapIn f m) roots stack)
+    → used (collect base (heapIn f m) roots stack .heap .entries) + natAbs (collect base (heapIn f m) roots stack .answer .change) ≡ used (f .read (m .table))
+collect-less f faithful base m roots stack accepted =
+    let p = promises .reclaimed f faithful base m roots stack accepted in
     rw (p .change, size-of) (omega (arith, p .fewer))
 
 -- ---- room

@@ -7,24 +7,26 @@ use mathlib.Core.Bool.{true}
 use mathlib.Core.List.{List, [], _∷_, List·Memᴰ·head}
 use mathlib.Core.Option.{some, none}
 use Prim.Native.Nat.{ℕ, zero, suc, _+_, _*_, _≤_, _<_}
+use native.Mathlib.Decide.{ℕ-discrete}
 use native.Mathlib.Omega.{arith}
 use lib.IntN.{ℤ, pos, negℤ, _+ℤ_, natAbs}
 use lib.ListN.{replicate}
 use Rattle.rules.specs.Tests.{count, leading, tabulate}
+use Rattle.rules.specs.Bits.{bitOf, bitAt}
 use Rattle.rules.specs.Words.{number, bytesOf, wordAt, withWord, wordsOf}
-use Rattle.rules.specs.Entries.{HEAD, entryOf, entriesOf}
+use Rattle.rules.specs.Entries.{HEAD}
 use Rattle.rules.specs.Tables.{entryAt, mayFollow, wellAfter, wellFormed, blockCount, startOf, freeFrom, aligned, fits, firstFrom, firstFit, placed, released, extended, used, objects, longest, growsInPlace}
 use Rattle.rules.specs.Pointers.{addressOf, goodBase, targetOf, headsObject, headAt, leadsTo}
-use Rattle.rules.specs.Meaning.{Lowest, Longest, Points, PointsInto, Leads, ShapeInBytes, Passed, Accepted}
-use Rattle.rules.specs.Outcomes.{Heap, Answer, Outcome, heapOf, onlyRefusal, loaded, surveyed, leaves, changeFrom, unlessRefused, clearedBlocks}
+use Rattle.rules.specs.Meaning.{AllBytes, Lowest, Longest, Points, PointsInto, Leads, ShapeInBytes, Passed, Accepted}
+use Rattle.rules.specs.Outcomes.{Heap, Answer, Outcome, onlyRefusal, loaded, surveyed, leaves, changeFrom, unlessRefused, clearedBlocks}
 use Rattle.rules.specs.Refusals.{firstOf, goodShape, wholeWords}
 use Rattle.rules.specs.Reach.{Reachable, root, edge}
 use Rattle.rules.specs.Marking.{pushed, visitTo, visit, walkWords, walk, drainFor, drain, trace, rootTo, markRoot, markRoots, passBlock, passFrom, pass, rescanFor, rescan, markAll, sweptEntry, freeingAfter, sweepFrom, sweep}
 use Rattle.rules.specs.Calls.{blocksFor, taken, placing, init, allocate, freed, free, shrunk, grown, moved, movesTo, wayToGrow, wayTo, along, reallocate, collecting, collect, survey, load, store}
-use Rattle.rules.specs.Runs.{Call, Init, Allocate, Reallocate, Collect, step}
-use Rattle.rules.specs.Forms.{packed}
-use Rattle.rules.specs.Memory.{memory, result, perform}
-use Rattle.rules.proofs.Entries.{length-entriesOf}
+use Rattle.rules.specs.Runs.{Call, Init, Allocate, Free, Reallocate, Collect, Survey, step}
+use Rattle.rules.specs.Planes.{planeBytes, entryIn, entriesIn, spare, spareFree, planes}
+use Rattle.rules.specs.Memory.{memory, Sound, result, AcceptedIn, perform}
+use Rattle.rules.proofs.Planes.{length-entriesIn}
 use Rattle.rules.proofs.Tables.{first-lowest, longest-says, le-run, well-says, extent-of}
 use Rattle.rules.proofs.Pointers.{into-used}
 use Rattle.rules.proofs.Marking.{head-inside}
@@ -46,7 +48,8 @@ base = sampleBase
 
 pub record Computed : Type 0 where
   -- the heap
-  pub shape : ShapeInBytes base samplePool sampleTable
+  pub shape : ShapeInBytes base 3 samplePool sampleTable
+  pub sound : Sound (planes 3) sampleMemory
   pub well : wellFormed (h .entries) ≡ true
   pub heads : (entryAt (h .entries) 0 ≡ HEAD) × (entryAt (h .entries) 2 ≡ HEAD) × (entryAt (h .entries) 7 ≡ HEAD) × (entryAt (h .entries) 11 ≡ HEAD)
   pub counts : (blocksOf h 0 ≡ 2) × (blocksOf h 2 ≡ 3) × (blocksOf h 7 ≡ 1)
@@ -69,9 +72,10 @@ pub record Computed : Type 0 where
   pub collects : Accepted (collect base h sampleRoots (sampleStack 256))
 
 pub computed : Computed
-unfolding count leading tabulate number bytesOf wordAt withWord wordsOf entryOf entriesOf mayFollow wellAfter wellFormed blockCount startOf freeFrom aligned fits firstFrom firstFit placed released extended used objects longest addressOf goodBase targetOf headsObject headAt leadsTo changeFrom unlessRefused clearedBlocks firstOf goodShape wholeWords pushed visitTo visit walkWords walk drainFor drain trace rootTo markRoot markRoots passBlock passFrom pass rescanFor rescan markAll sweptEntry freeingAfter sweepFrom sweep blocksFor taken placing init allocate freed free shrunk grown moved movesTo growsInPlace wayToGrow wayTo along reallocate collecting collect survey load store
+unfolding count leading tabulate number bytesOf wordAt withWord wordsOf bitOf bitAt planeBytes entryIn entriesIn spare spareFree mayFollow wellAfter wellFormed blockCount startOf freeFrom aligned fits firstFrom firstFit placed released extended used objects longest addressOf goodBase targetOf headsObject headAt leadsTo changeFrom unlessRefused clearedBlocks firstOf goodShape wholeWords pushed visitTo visit walkWords walk drainFor drain trace rootTo markRoot markRoots passBlock passFrom pass rescanFor rescan markAll sweptEntry freeingAfter sweepFrom sweep blocksFor taken placing init allocate freed free shrunk grown moved movesTo growsInPlace wayToGrow wayTo along reallocate collecting collect survey load store
 computed = record {
-  shape = record { some = omega arith; few = omega arith; size = refl; aligned = refl; above = omega arith; below = omega arith };
+  shape = record { some = omega arith; few = omega arith; planes = refl; size = refl; aligned = refl; above = omega arith; below = omega arith };
+  sound = record { fits = refl; clean = refl };
   well = refl;
   heads = (refl, refl, refl, refl);
   counts = (refl, refl, refl);
@@ -93,11 +97,11 @@ computed = record {
 }
 
 good : Passed base h
-good = record { shape = on-bytes .shape-in-bytes base samplePool sampleTable .1 (computed .shape); well = computed .well }
+good = record { shape = on-bytes .shape-in-bytes base 3 samplePool sampleTable .1 (computed .shape) .0; well = computed .well }
 
 -- on the sample's bytes a call is refused as on its heap
-number-on : (c : Call) (stack : List ℕ) → perform packed c stack sampleMemory .answer .refusal ≡ step c stack h .answer .refusal
-number-on c stack = ap (λ (a : Answer). a .refusal) (on-bytes .as-on-heap packed (on-bytes .packed-faithful) c stack sampleMemory (on-bytes .packed-sound sampleMemory refl) .answer)
+number-on : (c : Call) (stack : List ℕ) → perform (planes 3) c stack sampleMemory .answer .refusal ≡ step c stack h .answer .refusal
+number-on c stack = ap (λ (a : Answer). a .refusal) (on-bytes .as-on-heap (planes 3) (on-bytes .planes-faithful 3) c stack sampleMemory (computed .sound) .answer)
 
 -- the lowest start, where the search is computed
 lowest : (b s : ℕ) → 0 < b → firstFit (h .entries) b ≡ some s → Lowest (h .entries) b (some s)
@@ -112,22 +116,55 @@ used-after r d n sums change e =
 -- ---- init
 
 -- with a pool one byte shorter it is 1
-pub init-refused : init base (heapOf (replicate 191 0) sampleTable) .answer .refusal ≡ 1
-init-refused = init-bad-shape base (replicate 191 0) sampleTable (λ s. omega (arith, s .size))
+pub init-refused : perform (planes 3) (Init base) [] (memory (replicate 191 0) sampleTable) .answer .refusal ≡ 1
+init-refused = init-bad-shape base 3 (replicate 191 0) sampleTable (λ s. omega (arith, s .size))
+
+-- and with a table as long as a packed one
+pub init-packed : perform (planes 3) (Init base) [] (memory samplePool (153 ∷ 66 ∷ 64 ∷ [])) .answer .refusal ≡ 1
+init-packed = init-bad-shape base 3 samplePool (153 ∷ 66 ∷ 64 ∷ []) (λ s. omega (arith, s .planes))
+
+init-accepted-in : AcceptedIn (perform (planes 3) (Init base) [] sampleMemory)
+init-accepted-in = init-shape base 3 samplePool sampleTable (computed .shape)
 
 init-accepted : Accepted (init base h)
-init-accepted = init-shape base samplePool sampleTable (computed .shape)
-
--- else it leaves three zero bytes, no used block and the pool
-pub init-memory : perform packed (Init base) [] sampleMemory .memory ≡ memory samplePool (0 ∷ 0 ∷ 0 ∷ [])
 unfolding step
-init-memory = on-bytes .init-zero base samplePool sampleTable (number-on (Init base) [] ∙ init-accepted)
+init-accepted = sym (number-on (Init base) []) ∙ init-accepted-in
+
+-- else it leaves four zero bytes, no used block and the pool
+pub init-memory : perform (planes 3) (Init base) [] sampleMemory .memory ≡ memory samplePool (0 ∷ 0 ∷ 0 ∷ 0 ∷ [])
+init-memory = on-bytes .init-zero base 3 samplePool sampleTable init-accepted-in
 
 pub init-unused : survey base (init base h .heap) .answer .used ≡ 0
 init-unused = init-none-used base h init-accepted
 
 pub init-pool : init base h .heap .pool ≡ samplePool
 init-pool = promises .initialised base h init-accepted .bytes
+
+-- ---- the planes
+
+-- another t is refused by 1, also 4, with which the table would be as long
+pub other-t : perform (planes 4) (Survey base) [] sampleMemory .answer .refusal ≡ 1
+other-t = go (ℕ-discrete (perform (planes 4) (Survey base) [] sampleMemory .answer .refusal) 1)
+  where
+    go : Dec (perform (planes 4) (Survey base) [] sampleMemory .answer .refusal ≡ 1) → perform (planes 4) (Survey base) [] sampleMemory .answer .refusal ≡ 1
+    go (yes e) = e
+    go (no other) = absurd (omega (arith, on-bytes .one-t 3 4 (Init base) (Survey base) [] [] sampleMemory (λ e. omega (arith, e, init-accepted-in)) other))
+
+-- the last byte of a plane may be 15, and not 16
+last-bytes : (b : ℕ) → b < 256 → AllBytes (133 ∷ 8 ∷ 26 ∷ b ∷ [])
+last-bytes b h zero = omega arith
+last-bytes b h (suc zero) = omega arith
+last-bytes b h (suc (suc zero)) = omega arith
+last-bytes b h (suc (suc (suc zero))) = h
+last-bytes b h (suc (suc (suc (suc i)))) = omega arith
+
+pub spare-15 : spareFree 3 (133 ∷ 8 ∷ 26 ∷ 15 ∷ []) ≡ true
+unfolding planeBytes
+spare-15 = on-bytes .spare-in-bytes 3 (133 ∷ 8 ∷ 26 ∷ 15 ∷ []) (last-bytes 15 (omega arith)) .1 (λ _. (omega arith, omega arith))
+
+pub spare-16 : ¬ (spareFree 3 (133 ∷ 8 ∷ 26 ∷ 16 ∷ []) ≡ true)
+unfolding planeBytes
+spare-16 clean = omega (arith, on-bytes .spare-in-bytes 3 (133 ∷ 8 ∷ 26 ∷ 16 ∷ []) (last-bytes 16 (omega arith)) .0 clean refl .1)
 
 -- ---- allocate: 17 bytes are two blocks, and those of the lowest run are blocks 5 and 6
 
@@ -158,8 +195,13 @@ pub freed-beside : load base (free base h 2 .heap) 7 3 .answer ≡ loaded 259606
 freed-beside = free-loads base h good 2 (computed .frees) 7 (computed .heads .2) (λ e. omega arith) 3 ∙ computed .last-7
 
 pub freed-used : survey base (free base h 2 .heap) .answer .used ≡ 4
-unfolding blockCount leading entriesOf entryOf
+unfolding blockCount leading tabulate bitOf bitAt planeBytes entryIn entriesIn
 freed-used = used-after (free base h 2) (negℤ (pos 3)) 4 (free-sums base h good 2 (computed .frees)) (promises .freed base h 2 (computed .frees) .change) refl
+
+-- in bytes: no spare bit is set
+pub freed-clean : spareFree 3 (perform (planes 3) (Free base 2) [] sampleMemory .memory .table) ≡ true
+unfolding step
+freed-clean = on-bytes .clean-after 3 (Free base 2) [] sampleMemory (number-on (Free base 2) [] ∙ computed .frees)
 
 -- its 48 bytes can be allocated again
 pub freed-room : Accepted (allocate base (free base h 2 .heap) 48)
@@ -168,7 +210,7 @@ freed-room = free-again base h 2 48 (computed .frees) (omega arith) (omega (arit
 -- ---- reallocate: the object of block 7 to three blocks, that of blocks 2 to 4 to one, that of blocks 0 and 1 to three and to two
 
 room-after : RoomAfter h 7 (blocksFor 48)
-unfolding blocksFor blockCount freeFrom leading entriesOf entryOf
+unfolding blocksFor blockCount freeFrom leading tabulate bitOf bitAt planeBytes entryIn entriesIn
 room-after = record { aligned = inl (omega arith); run = le-run (h .entries) 2 8 (omega arith) (omega arith) }
 
 grown-at : reallocate base h 7 48 .answer .block ≡ 7
@@ -197,12 +239,12 @@ unfolding blocksFor
 shrunk-end = rw shrunk-at at (again-beyond base h 2 16 good (computed .heads .1) (computed .shrinks) 4 (omega arith))
 
 pub shrunk-used : survey base (reallocate base h 2 16 .heap) .answer .used ≡ 5
-unfolding blocksFor blockCount leading entriesOf entryOf
+unfolding blocksFor blockCount leading tabulate bitOf bitAt planeBytes entryIn entriesIn
 shrunk-used = used-after (reallocate base h 2 16) (negℤ (pos 2)) 5 (reallocate-sums base h good 2 16 (computed .shrinks)) (promises .reallocated base h 2 16 (computed .shrinks) .change) refl
 
 -- block 2 is not FREE, so the object moves to block 8
 moved-at : reallocate base h 0 48 .answer .block ≡ 8
-unfolding blocksFor blockCount leading entriesOf entryOf
+unfolding blocksFor blockCount leading tabulate bitOf bitAt planeBytes entryIn entriesIn
 moved-at =
     start-one (h .entries) 3 (reallocate base h 0 48 .answer .block) 8
     (promises .reallocated base h 0 48 (computed .moves) .elsewhere (omega arith) (λ room. omega (arith, room .run .free 0 (omega arith))))
@@ -261,7 +303,7 @@ unfolding blocksFor
 allocate-fits e = omega (arith, allocate-survey base h good 48 (omega arith) (omega arith) .0 e, survey-finds .2)
 
 pub reallocate-full : reallocate base h 0 49 .answer .refusal ≡ 9
-unfolding blocksFor blockCount leading entriesOf entryOf
+unfolding blocksFor blockCount leading tabulate bitOf bitAt planeBytes entryIn entriesIn
 reallocate-full =
     promises .reallocate-no-room base h 0 49 .1
     (good, omega arith, computed .heads .0, (omega arith, λ room. omega (arith, room .run .free 0 (omega arith)), λ s f. omega (arith, sample-longest .most 4 s (f .run))))
@@ -301,7 +343,7 @@ leads-third = leads-block 2 4 (computed .heads .1) (omega arith) (omega (arith, 
 
 -- that of block 5, which is FREE and directly after it, to none
 pub leads-free : leadsTo base (h .entries) 536870992 ≡ none
-unfolding Leads addressOf entriesOf entryOf
+unfolding Leads addressOf tabulate bitOf bitAt planeBytes entryIn entriesIn
 leads-free = lead-one base (h .entries) 536870992 none not-5
   where
     not-5 : (k : ℕ) → PointsInto base (h .entries) 536870992 k → ⊥
@@ -349,14 +391,14 @@ abbrev kept : Outcome
 kept = collect base h sampleRoots (sampleStack 256)
 
 pub collected-last : load base (kept .heap) 7 3 .answer ≡ loaded 2596069104
-collected-last = collect-loads base samplePool sampleTable sampleRoots (sampleStack 256) good (computed .collects) 7 reach-7 3 ∙ computed .last-7
+collected-last = collect-loads (planes 3) (on-bytes .planes-faithful 3) base sampleMemory sampleRoots (sampleStack 256) good (computed .collects) 7 reach-7 3 ∙ computed .last-7
 
 -- what is still used and what is given back are the seven blocks
 pub collected-used : used (kept .heap .entries) + natAbs (kept .answer .change) ≡ 7
-collected-used = collect-less base samplePool sampleTable sampleRoots (sampleStack 256) (computed .collects) ∙ computed .findings .0
+collected-used = collect-less (planes 3) (on-bytes .planes-faithful 3) base sampleMemory sampleRoots (sampleStack 256) (computed .collects) ∙ computed .findings .0
 
 pub collected-sums : Sums base h kept
-collected-sums = collect-sums base samplePool sampleTable sampleRoots (sampleStack 256) good (computed .collects)
+collected-sums = collect-sums (planes 3) (on-bytes .planes-faithful 3) base sampleMemory sampleRoots (sampleStack 256) good (computed .collects)
 
 -- ---- refused calls
 
@@ -375,16 +417,16 @@ refused-alike k =
     refusals-alike (Allocate base 0) (Reallocate base k 0) [] [] h (λ zero. omega (arith, no-bytes)) (no-bytes ∙ sym (no-bytes-again k)) .0
 
 -- it leaves every byte as it is
-pub refused-memory : perform packed (Allocate base 0) [] sampleMemory ≡ result (onlyRefusal 5) sampleMemory []
+pub refused-memory : perform (planes 3) (Allocate base 0) [] sampleMemory ≡ result (onlyRefusal 5) sampleMemory []
 unfolding step
 refused-memory =
     let n = number-on (Allocate base 0) [] ∙ no-bytes in
-    on-bytes .refused-bytes packed (Allocate base 0) [] sampleMemory (λ z. omega (arith, n)) ∙ ap (λ (r : ℕ). result (onlyRefusal r) sampleMemory []) n
+    on-bytes .refused-bytes (planes 3) (Allocate base 0) [] sampleMemory (λ z. omega (arith, n)) ∙ ap (λ (r : ℕ). result (onlyRefusal r) sampleMemory []) n
 
 -- block 12 is outside
 pub free-outside : free base h 12 .answer .refusal ≡ 6
 unfolding First ofFree
-free-outside = free-number base h 12 6 (inr (λ bad. bad (good .shape), inr (λ bad. bad (well-says (h .entries) (good .well)), inl (omega (arith, length-entriesOf sampleTable), refl))))
+free-outside = free-number base h 12 6 (inr (λ bad. bad (good .shape), inr (λ bad. bad (well-says (h .entries) (good .well)), inl (omega (arith, length-entriesIn 3 sampleTable), refl))))
 
 -- the object of blocks 2 to 4 has words 0 to 11
 pub store-beyond : store base h 2 12 0 .answer .refusal ≡ 8
@@ -395,7 +437,7 @@ store-beyond =
       λ bad. bad (good .shape),
       inr (
         λ bad. bad (well-says (h .entries) (good .well)),
-        inr (λ out. omega (arith, length-entriesOf sampleTable), inr (λ other. other (computed .heads .1), inl (omega (arith, computed .counts .1), refl))),
+        inr (λ out. omega (arith, length-entriesIn 3 sampleTable), inr (λ other. other (computed .heads .1), inl (omega (arith, computed .counts .1), refl))),
       ),
     ))
 
@@ -410,11 +452,11 @@ pub stack-left : collect base h sampleRoots (sampleStack 260) .stack ≡ sampleS
 stack-left = promises .refused-stack base h sampleRoots (sampleStack 260) (λ none. omega (arith, stack-too-long))
 
 -- in bytes: nothing at all is written
-pub collect-memory : perform packed (Collect base sampleRoots) (sampleStack 260) sampleMemory ≡ result (onlyRefusal 4) sampleMemory (sampleStack 260)
+pub collect-memory : perform (planes 3) (Collect base sampleRoots) (sampleStack 260) sampleMemory ≡ result (onlyRefusal 4) sampleMemory (sampleStack 260)
 unfolding step
 collect-memory =
     let n = number-on (Collect base sampleRoots) (sampleStack 260) ∙ stack-too-long in
-    on-bytes .refused-bytes packed (Collect base sampleRoots) (sampleStack 260) sampleMemory (λ z. omega (arith, n))
+    on-bytes .refused-bytes (planes 3) (Collect base sampleRoots) (sampleStack 260) sampleMemory (λ z. omega (arith, n))
     ∙ ap (λ (r : ℕ). result (onlyRefusal r) sampleMemory (sampleStack 260)) n
 
 pub heap-left : collect base h sampleRoots (sampleStack 260) .heap ≡ h

@@ -4,11 +4,14 @@ use mathlib.Core.Path.{_≡_}
 use mathlib.Core.Logic.{_≢_, _↔_, _⊎_}
 use mathlib.Core.Bool.{true, false}
 use mathlib.Core.List.{List, [], _∷_}
-use Prim.Native.Nat.{ℕ}
-use lib.ListN.{length, replicate}
-use Rattle.rules.specs.Outcomes.{Outcome, heapOf, onlyRefusal}
+use Prim.Native.Nat.{ℕ, _-_, _*_, _%_, _<_}
+use lib.ListN.{length, getD, replicate}
+use Rattle.rules.specs.Entries.{entriesOf, tableOf}
+use Rattle.rules.specs.Outcomes.{Outcome, onlyRefusal}
 use Rattle.rules.specs.Runs.{Call, Init, Survey, Load, Store, step}
 use Rattle.rules.specs.Forms.{Form, packed, Faithful}
+use Rattle.rules.specs.Planes.{planeBytes, entriesIn, spareFree, planesOf, planes, heapAt}
+use Rattle.rules.specs.Agreement.{HoldSame, FormsAgree}
 use Rattle.rules.specs.Memory.{Memory, memory, heapIn, lengthsFit, Sound, doneIn, Result, result, AcceptedIn, stackFor, readsTable, perform}
 use Rattle.rules.specs.Meaning.{AllBytes, Shape, ShapeInBytes, Accepted}
 use Rattle.promises.specs.Conditions.{First, when}
@@ -42,11 +45,27 @@ pub record OnBytes : Type 0 where
   pub survey-bytes : (f : Form) → Faithful f → (base : ℕ) (m : Memory) → AllBytes (m .table) → perform f (Survey base) [] m .memory ≡ m
   pub load-bytes : (f : Form) → Faithful f → (base k i : ℕ) (m : Memory) → AllBytes (m .table) → perform f (Load base k i) [] m .memory ≡ m
   pub store-bytes : (f : Form) → Faithful f → (base k i w : ℕ) (m : Memory) → AllBytes (m .table) → perform f (Store base k i w) [] m .memory .table ≡ m .table
-  -- the packed form holds entries faithfully, and every table is as it asks
+  -- two planes, which every lent table has, hold entries faithfully, and so does the packed form, which heap images have
+  pub planes-faithful : (t : ℕ) → Faithful (planes t)
   pub packed-faithful : Faithful packed
-  pub packed-sound : (m : Memory) → lengthsFit packed m ≡ true → Sound packed m
-  -- an accepted init leaves a table of zero bytes, and the pool
-  pub init-zero : (base : ℕ) (pool table : List ℕ) → AcceptedIn (perform packed (Init base) [] (memory pool table))
-      → perform packed (Init base) [] (memory pool table) .memory ≡ memory pool (replicate (length table) 0)
-  -- the shape of a heap in a pool and a packed table, in bytes
-  pub shape-in-bytes : (base : ℕ) (pool table : List ℕ) → Shape base (heapOf pool table) ↔ ShapeInBytes base pool table
+  -- the shape of a heap in a pool and two planes, and the length of those, in bytes
+  pub shape-in-bytes : (base t : ℕ) (pool table : List ℕ) → (Shape base (heapAt t pool table) × (planes t .fits table ≡ true)) ↔ ShapeInBytes base t pool table
+  -- so memory has one t: two calls on it that are both not refused by 1 were given the same, and any other t is refused by 1
+  pub one-t : (t t′ : ℕ) (c c′ : Call) (stack stack′ : List ℕ) (m : Memory) → perform (planes t) c stack m .answer .refusal ≢ 1
+      → perform (planes t′) c′ stack′ m .answer .refusal ≢ 1 → t ≡ t′
+  -- the spare bits are the upper four of the last byte of each plane, where t is odd
+  pub spare-in-bytes : (t : ℕ) (table : List ℕ) → AllBytes table
+      → (spareFree t table ≡ true) ↔ (t % 2 ≡ 1 → (getD table (planeBytes t - 1) 0 < 16) × (getD table (2 * planeBytes t - 1) 0 < 16))
+  -- an accepted call leaves none of them set
+  pub clean-after : (t : ℕ) (c : Call) (stack : List ℕ) (m : Memory) → AcceptedIn (perform (planes t) c stack m)
+      → spareFree t (perform (planes t) c stack m .memory .table) ≡ true
+  -- an accepted init leaves a table of zero bytes, the spare bits with them, and the pool
+  pub init-zero : (base t : ℕ) (pool table : List ℕ) → AcceptedIn (perform (planes t) (Init base) [] (memory pool table))
+      → perform (planes t) (Init base) [] (memory pool table) .memory ≡ memory pool (replicate (length table) 0)
+
+-- Two planes say what a packed table says: reading and writing an entry agree, and so do every call and every list of calls, in all that they answer and in the entries that they leave.
+pub record AsPacked : Type 0 where
+  pub planes-agree : (t : ℕ) → FormsAgree packed (planes t)
+  -- each has its counterpart in the other form: a packed table of t bytes, and two planes that are as their form asks
+  pub in-planes : (t : ℕ) (m : Memory) → length (m .table) ≡ t → HoldSame packed (planes t) m (memory (m .pool) (planesOf t (entriesOf (m .table))))
+  pub in-packed : (t : ℕ) (m : Memory) → Sound (planes t) m → HoldSame packed (planes t) (memory (m .pool) (tableOf (entriesIn t (m .table)))) m

@@ -12,7 +12,9 @@ use Rattle.rules.specs.Entries.{FREE, HEAD, TAIL}
 use Rattle.rules.specs.Tables.{entryAt, blockCount, used, objects}
 use Rattle.rules.specs.Pointers.{targetOf, leadsTo}
 use Rattle.rules.specs.Meaning.{Points, Leads, Aligned, Lowest, Longest, Passed, Accepted}
-use Rattle.rules.specs.Outcomes.{Heap, Outcome, heapOf, onlyRefusal, loaded}
+use Rattle.rules.specs.Outcomes.{Heap, Outcome, onlyRefusal, loaded}
+use Rattle.rules.specs.Forms.{Form, Faithful}
+use Rattle.rules.specs.Memory.{Memory, heapIn}
 use Rattle.rules.specs.Reach.{Reachable}
 use Rattle.rules.specs.Calls.{blocksFor, init, allocate, free, reallocate, collect, survey, load, store}
 use Rattle.rules.specs.Runs.{Call, step}
@@ -225,8 +227,8 @@ pub record Promises : Type 0 where
   pub read : (base : ℕ) (h : Heap) (k i : ℕ) → Accepted (load base h k i) → Loaded h k i (load base h k i)
   pub stored : (base : ℕ) (h : Heap) (k i w : ℕ) → Accepted (store base h k i w) → Stored base h k i w (store base h k i w)
   pub surveyed : (base : ℕ) (h : Heap) → Accepted (survey base h) → Surveyed h (survey base h)
-  pub reclaimed : (base : ℕ) (pool table roots stack : List ℕ) → Accepted (collect base (heapOf pool table) roots stack)
-      → Reclaimed base (heapOf pool table) roots (collect base (heapOf pool table) roots stack)
+  pub reclaimed : (f : Form) → Faithful f → (base : ℕ) (m : Memory) (roots stack : List ℕ) → Accepted (collect base (heapIn f m) roots stack)
+      → Reclaimed base (heapIn f m) roots (collect base (heapIn f m) roots stack)
   -- survey and load leave the heap as it is
   pub survey-leaves : (base : ℕ) (h : Heap) → survey base h .heap ≡ h
   pub load-leaves : (base : ℕ) (h : Heap) (k i : ℕ) → load base h k i .heap ≡ h

@@ -2,7 +2,7 @@ pub mod Same
 pub mod Collections
 pub mod Heaps
 pub mod Noninterference
-pub mod Packed
+pub mod OnHeaps
 pub mod Conclusions
 pub mod Hypotheses
 pub mod Unseen

@@ -11,10 +11,11 @@ use lib.Dec.{T, eqb, eqb→eq}
 use lib.IntN.{pos, negℤ}
 use lib.ListN.{length, getD, replicate}
 use Rattle.rules.specs.Tests.{either, count, leading, tabulate}
+use Rattle.rules.specs.Bits.{bitOf, bitAt, byteOf}
 use Rattle.rules.specs.Words.{number, bytesOf, wordAt, withWord, wordsOf}
-use Rattle.rules.specs.Entries.{TAIL, entryOf, entriesOf, tableOf}
+use Rattle.rules.specs.Entries.{TAIL}
 use Rattle.rules.specs.Tables.{entryAt, isHead, mayFollow, wellAfter, wellFormed, blockCount, startOf, freeFrom, aligned, fits, firstFrom, firstFit, placed, used, objects, longest}
-use Rattle.rules.specs.Forms.{packed}
+use Rattle.rules.specs.Planes.{planeBytes, entryIn, entriesIn, spare, spareFree, plane, planesOf, planes}
 use Rattle.rules.specs.Pointers.{addressOf, goodBase, targetOf, headsObject, headAt, leadsTo}
 use Rattle.rules.specs.Outcomes.{Heap, Answer, onlyRefusal, changeFrom, placedAt, collectedTo, surveyed, loaded, unlessRefused, clearedBlocks}
 use Rattle.rules.specs.Refusals.{firstOf, goodShape, wholeWords}
@@ -24,7 +25,7 @@ use Rattle.rules.specs.Runs.{Turn, step}
 use Rattle.rules.specs.Memory.{Memory, heapIn, AcceptedIn, orRefused, perform, turnIn, afterIn, answersIn}
 use Rattle.rules.proofs.Below.{allBelow, below}
 use Rattle.rules.proofs.Marking.{head-inside}
-use Rattle.rules.proofs.Memory.{packed-faithful}
+use Rattle.rules.proofs.Planes.{planes-faithful}
 use Rattle.keeping.specs.Keeping.{marking, collected, Agree}
 use Rattle.keeping.proofs.Owners.{reachable-head}
 use Rattle.keeping.proofs.Kept.{collected-kept}
@@ -61,13 +62,13 @@ agree-tested base h h′ roots well table t =
 
 -- the heaps in the three memories
 abbrev pub firstHeap : Heap
-firstHeap = heapIn packed firstMemory
+firstHeap = heapIn (planes 3) firstMemory
 
 abbrev pub secondHeap : Heap
-secondHeap = heapIn packed secondMemory
+secondHeap = heapIn (planes 3) secondMemory
 
 abbrev pub thirdHeap : Heap
-thirdHeap = heapIn packed thirdMemory
+thirdHeap = heapIn (planes 3) thirdMemory
 
 -- the answers to the earlier and to the last calls, with r rescans
 abbrev pub earlierAnswers : ℕ → List Answer
@@ -93,18 +94,18 @@ pub record Computed : Type 0 where
   pub first-bytes : getD firstPool 16 0 ∷ getD firstPool 79 0 ∷ getD firstPool 127 0 ∷ [] ≡ 0 ∷ 0 ∷ 0 ∷ []
   pub second-bytes : getD secondPool 16 0 ∷ getD secondPool 79 0 ∷ getD secondPool 127 0 ∷ [] ≡ 112 ∷ 255 ∷ 32 ∷ []
   -- what the first answers, and the table and the last word of g that it is left with
-  pub first-answers : answersIn packed firstCalls firstMemory ≡ earlierAnswers 2 ++ lastAnswers 1
-  pub first-table : afterIn packed firstCalls firstMemory .table ≡ 65 ∷ 36 ∷ 165 ∷ []
-  pub first-used : entryAt (entriesOf (afterIn packed firstCalls firstMemory .table)) 11 ≡ TAIL
-  pub first-word : wordAt (afterIn packed firstCalls firstMemory .pool) 47 ≡ 0xDEAD_BEEF
+  pub first-answers : answersIn (planes 3) firstCalls firstMemory ≡ earlierAnswers 2 ++ lastAnswers 1
+  pub first-table : afterIn (planes 3) firstCalls firstMemory .table ≡ 41 ∷ 3 ∷ 64 ∷ 12 ∷ []
+  pub first-used : entryAt (entriesIn 3 (afterIn (planes 3) firstCalls firstMemory .table)) 11 ≡ TAIL
+  pub first-word : wordAt (afterIn (planes 3) firstCalls firstMemory .pool) 47 ≡ 0xDEAD_BEEF
   -- three entries are enough for the second, and two at last
-  pub second-rescans : rescansOf (answersIn packed secondCalls secondMemory) ≡ replicate 8 0
+  pub second-rescans : rescansOf (answersIn (planes 3) secondCalls secondMemory) ≡ replicate 8 0
   -- the first and the third answer a load differently
-  pub first-loads : answersIn packed loadingCalls firstMemory ≡ collectedTo 5 2 (negℤ (pos 3)) ∷ loaded 0xDEAD_BEEF ∷ []
-  pub third-loads : answersIn packed loadingCalls thirdMemory ≡ collectedTo 5 2 (negℤ (pos 3)) ∷ loaded 0x00AD_BEEF ∷ []
+  pub first-loads : answersIn (planes 3) loadingCalls firstMemory ≡ collectedTo 5 2 (negℤ (pos 3)) ∷ loaded 0xDEAD_BEEF ∷ []
+  pub third-loads : answersIn (planes 3) loadingCalls thirdMemory ≡ collectedTo 5 2 (negℤ (pos 3)) ∷ loaded 0x00AD_BEEF ∷ []
 
 pub computed : Computed
-unfolding agreeIn agreeTest marking collected count leading tabulate number bytesOf wordAt withWord wordsOf entryOf entriesOf tableOf mayFollow wellAfter wellFormed blockCount startOf freeFrom aligned fits firstFrom firstFit placed used objects longest addressOf goodBase targetOf headsObject headAt leadsTo changeFrom unlessRefused clearedBlocks firstOf goodShape wholeWords pushed visitTo visit walkWords walk drainFor drain trace rootTo markRoot markRoots passBlock passFrom pass rescanFor rescan markAll sweptEntry freeingAfter sweepFrom sweep blocksFor taken placing allocate collecting collect free survey load step orRefused perform afterIn answersIn
+unfolding agreeIn agreeTest marking collected count leading tabulate number bytesOf wordAt withWord wordsOf bitOf bitAt byteOf planeBytes entryIn entriesIn spare spareFree plane planesOf mayFollow wellAfter wellFormed blockCount startOf freeFrom aligned fits firstFrom firstFit placed used objects longest addressOf goodBase targetOf headsObject headAt leadsTo changeFrom unlessRefused clearedBlocks firstOf goodShape wholeWords pushed visitTo visit walkWords walk drainFor drain trace rootTo markRoot markRoots passBlock passFrom pass rescanFor rescan markAll sweptEntry freeingAfter sweepFrom sweep blocksFor taken placing allocate collecting collect free survey load step orRefused perform afterIn answersIn
 computed =
     record {
       well = refl;
@@ -127,7 +128,7 @@ firstRefusal [] = 0
 firstRefusal (a ∷ xs) = a .refusal
 
 -- a first answer that is accepted
-accepted : (t : Turn) (ts : List Turn) (m : Memory) (a : Answer) (xs : List Answer) → answersIn packed (t ∷ ts) m ≡ a ∷ xs → a .refusal ≡ 0 → AcceptedIn (turnIn packed t m)
+accepted : (t : Turn) (ts : List Turn) (m : Memory) (a : Answer) (xs : List Answer) → answersIn (planes 3) (t ∷ ts) m ≡ a ∷ xs → a .refusal ≡ 0 → AcceptedIn (turnIn (planes 3) t m)
 unfolding answersIn firstRefusal
 accepted t ts m a xs e z = ap firstRefusal e ∙ z
 
@@ -156,18 +157,18 @@ pub first-second-agree : Agree sampleBase (wordsOf sampleRoots) firstHeap second
 first-second-agree = agree-tested sampleBase firstHeap secondHeap (wordsOf sampleRoots) (computed .well) refl (computed .tested)
 
 -- so they are not told apart: the second collection is accepted because the first is
-pub first-second-indistinct : Indistinct packed firstCalls secondCalls firstMemory secondMemory
+pub first-second-indistinct : Indistinct (planes 3) firstCalls secondCalls firstMemory secondMemory
 first-second-indistinct =
     let x = accepted _ _ firstMemory _ _ (computed .first-answers) refl in
-    noninterference packed packed-faithful sampleBase sampleRoots [] (replicate 12 9) firstMemory secondMemory _ _ (record { table = refl }) first-second-agree samples-alike
-    x (also-accepted packed packed-faithful sampleBase sampleRoots [] (replicate 12 9) firstMemory secondMemory (computed .long) (record { table = refl }) samples-stacks x)
+    noninterference (planes 3) (planes-faithful 3) sampleBase sampleRoots [] (replicate 12 9) firstMemory secondMemory _ _ (record { table = refl }) first-second-agree samples-alike
+    x (also-accepted (planes 3) (planes-faithful 3) sampleBase sampleRoots [] (replicate 12 9) firstMemory secondMemory (computed .long) (record { table = refl }) samples-stacks x)
 
 -- equal parts of a list
 joined-same : {xs xs′ ys ys′ zs : List Answer} → zs ≡ xs ++ ys → xs ≡ xs′ → ys ≡ ys′ → zs ≡ xs′ ++ ys′
 joined-same e f g = cc
 
 -- so the second answers, with some numbers of rescans of the two collections whose mark stacks are not equally long
-pub second-answers : (r : ℕ) × (s : ℕ) × (answersIn packed secondCalls secondMemory ≡ earlierAnswers r ++ lastAnswers s)
+pub second-answers : (r : ℕ) × (s : ℕ) × (answersIn (planes 3) secondCalls secondMemory ≡ earlierAnswers r ++ lastAnswers s)
 unfolding stackLengths bytesOf
 second-answers =
     let (zs, ws, e, x, y) = answers-joined (earlierCalls [] (1 ∷ 2 ∷ 3 ∷ [])) (earlierCalls (replicate 12 9) (253 ∷ 254 ∷ 255 ∷ [])) (earlierAnswers 2) refl refl
@@ -177,16 +178,16 @@ second-answers =
     (r, s, joined-same e f g)
 
 -- the table which it is left with
-pub second-table : afterIn packed secondCalls secondMemory .table ≡ 65 ∷ 36 ∷ 165 ∷ []
+pub second-table : afterIn (planes 3) secondCalls secondMemory .table ≡ 41 ∷ 3 ∷ 64 ∷ 12 ∷ []
 second-table = sym (same-tables first-second-indistinct) ∙ computed .first-table
 
 -- and the last word of g
-pub second-word : wordAt (afterIn packed secondCalls secondMemory .pool) 47 ≡ 0xDEAD_BEEF
+pub second-word : wordAt (afterIn (planes 3) secondCalls secondMemory .pool) 47 ≡ 0xDEAD_BEEF
 second-word = sym (same-words first-second-indistinct 11 (λ f. let e = computed .first-used in omega arith) 3 (omega arith)) ∙ computed .first-word
 
 -- the rescans do differ: 2 and 0, and at last 1 and 0
-pub rescans-differ : (rescansAt 0 (answersIn packed firstCalls firstMemory) ≢ rescansAt 0 (answersIn packed secondCalls secondMemory))
-    × (rescansAt 6 (answersIn packed firstCalls firstMemory) ≢ rescansAt 6 (answersIn packed secondCalls secondMemory))
+pub rescans-differ : (rescansAt 0 (answersIn (planes 3) firstCalls firstMemory) ≢ rescansAt 0 (answersIn (planes 3) secondCalls secondMemory))
+    × (rescansAt 6 (answersIn (planes 3) firstCalls firstMemory) ≢ rescansAt 6 (answersIn (planes 3) secondCalls secondMemory))
 rescans-differ =
     let a = ap rescansOf (computed .first-answers) in
     let b = computed .second-rescans in
@@ -202,7 +203,7 @@ second-same : {t u t′ u′ : Turn} {a b c d : Answer} → SameAnswers (t ∷ u
 second-same (next _ (next x done)) = ap (λ (a : Answer). a .value) (answer-but-rescans x)
 
 -- a load tells them apart
-pub first-third-distinct : Indistinct packed loadingCalls loadingCalls firstMemory thirdMemory → ⊥
+pub first-third-distinct : Indistinct (planes 3) loadingCalls loadingCalls firstMemory thirdMemory → ⊥
 first-third-distinct same =
     let e = second-same (rw (computed .first-loads, computed .third-loads) at (same .same-answers)) in
     omega arith
@@ -211,5 +212,5 @@ first-third-distinct same =
 pub first-third-disagree : Agree sampleBase (wordsOf sampleRoots) firstHeap thirdHeap → ⊥
 first-third-disagree agree =
     first-third-distinct
-    (noninterference packed packed-faithful sampleBase sampleRoots [] [] firstMemory thirdMemory _ _ (record { table = refl }) agree (alike-long _ _ refl refl)
+    (noninterference (planes 3) (planes-faithful 3) sampleBase sampleRoots [] [] firstMemory thirdMemory _ _ (record { table = refl }) agree (alike-long _ _ refl refl)
     (accepted _ _ firstMemory _ _ (computed .first-loads) refl) (accepted _ _ thirdMemory _ _ (computed .third-loads) refl))

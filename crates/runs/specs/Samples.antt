@@ -1,4 +1,4 @@
--- Three heaps of 12 blocks at base 0x20000000, whose tables are the same, in the packed form. A number is a block, an arrow a word that holds an address:
+-- Three heaps of 12 blocks at base 0x20000000, whose tables are the same, two planes of two bytes each. A number is a block, an arrow a word that holds an address:
 --
 --     0     1  2     3     4      5  6     7     8     9 10 11
 --    [a]   [b  b]   [c]   free   [d  d]   [e]   [f]   [g  g  g]      roots: d, c
@@ -20,9 +20,9 @@ use Rattle.runs.specs.Noninterference.{turn}
 abbrev pub sampleBase : ℕ
 sampleBase = 0x2000_0000
 
--- HEAD HEAD TAIL HEAD, FREE HEAD TAIL HEAD, HEAD HEAD TAIL TAIL
+-- HEAD HEAD TAIL HEAD FREE HEAD TAIL HEAD, HEAD HEAD TAIL TAIL: the low bits of the first eight blocks and of the last four, then the high bits
 abbrev pub sampleTable : List ℕ
-sampleTable = 101 ∷ 100 ∷ 165 ∷ []
+sampleTable = 171 ∷ 3 ∷ 68 ∷ 12 ∷ []
 
 abbrev pub sampleRoots : List ℕ
 sampleRoots = bytesOf (addressOf sampleBase 5) ++ bytesOf (addressOf sampleBase 3)

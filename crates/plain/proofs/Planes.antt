@@ -1,0 +1,74 @@
+-- The theorems used from a table with every spare bit set, and in another form than two planes, the packed one.
+-- The init is accepted all the same, and what the calls after it answer is what they answer on the planes of the samples.
+-- Assumes nothing.
+use mathlib.Core.Path.{_≡_, refl, _∙_}
+use mathlib.Core.Bool.{false}
+use mathlib.Core.List.{[], _++_}
+use lib.IntN.{pos}
+use lib.ListN.{replicate}
+use Rattle.rules.specs.Tests.{count, tabulate}
+use Rattle.rules.specs.Bits.{bitOf, bitAt}
+use Rattle.rules.specs.Entries.{entryOf, entriesOf}
+use Rattle.rules.specs.Tables.{used}
+use Rattle.rules.specs.Pointers.{addressOf, goodBase}
+use Rattle.rules.specs.Forms.{packed}
+use Rattle.rules.specs.Planes.{planeBytes, entryIn, entriesIn, spare, spareFree, planes}
+use Rattle.rules.specs.Outcomes.{unlessRefused}
+use Rattle.rules.specs.Refusals.{firstOf, goodShape}
+use Rattle.rules.specs.Calls.{init}
+use Rattle.rules.specs.Runs.{Init, step}
+use Rattle.rules.specs.Memory.{Memory, memory, AcceptedIn, orRefused, perform, afterIn, answersIn}
+use Rattle.rules.proofs.Memory.{packed-faithful}
+use Rattle.rules.proofs.Planes.{same-length, planes-faithful}
+use Rattle.plain.specs.Refines.{counted}
+use Rattle.plain.specs.Examples.{runBase, filling, ending, run, garbage, run-accepted, runAnswers}
+use Rattle.plain.proofs.Consequences.{forms-alike, summed, used-answered}
+use Rattle.plain.proofs.Samples.{garbage-answers}
+
+-- ---- spare bits
+
+-- twelve blocks, with a pool and a table full of ones
+abbrev pub unclean : Memory
+unclean = memory (replicate 192 255) (replicate 4 255)
+
+-- the init is accepted, although the table is not clean
+pub unclean-accepted : AcceptedIn (perform (planes 3) (Init runBase) [] unclean) × (spareFree 3 (unclean .table) ≡ false)
+unfolding perform orRefused step init unlessRefused firstOf goodShape goodBase addressOf count tabulate bitOf bitAt planeBytes entryIn entriesIn spare spareFree used
+unclean-accepted = (refl, refl)
+
+-- the run is answered as on the clean table
+pub unclean-answers : answersIn (planes 3) run unclean ≡ runAnswers
+unclean-answers =
+    forms-alike (planes 3) (planes 3) (planes-faithful 3) (planes-faithful 3) runBase unclean garbage (filling ++ ending) (unclean-accepted .0) (run-accepted .0)
+    (same-length 3 (unclean .table) (garbage .table))
+    ∙ garbage-answers
+
+-- and uses as many blocks
+pub unclean-used : used (entriesIn 3 (afterIn (planes 3) run unclean .table)) ≡ 10
+unfolding summed counted filling ending runAnswers
+unclean-used =
+    let s = rw unclean-answers at (used-answered (planes 3) (planes-faithful 3) runBase unclean (filling ++ ending) (pos 99) (unclean-accepted .0)) in
+    cc
+
+-- ---- another form
+
+-- as many blocks in a packed table
+abbrev pub packedOnes : Memory
+packedOnes = memory (replicate 192 255) (replicate 3 255)
+
+packed-accepted : AcceptedIn (perform packed (Init runBase) [] packedOnes)
+unfolding perform orRefused step init unlessRefused firstOf goodShape goodBase addressOf entryOf entriesOf
+packed-accepted = refl
+
+-- the run is answered as on the planes
+pub packed-answers : answersIn packed run packedOnes ≡ runAnswers
+unfolding tabulate entriesIn entriesOf
+packed-answers =
+    forms-alike packed (planes 3) packed-faithful (planes-faithful 3) runBase packedOnes garbage (filling ++ ending) packed-accepted (run-accepted .0) refl ∙ garbage-answers
+
+-- and uses as many blocks
+pub packed-used : used (entriesOf (afterIn packed run packedOnes .table)) ≡ 10
+unfolding summed counted filling ending runAnswers
+packed-used =
+    let s = rw packed-answers at (used-answered packed packed-faithful runBase packedOnes (filling ++ ending) (pos 99) packed-accepted) in
+    cc
