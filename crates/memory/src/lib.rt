@@ -1,4 +1,4 @@
-// Numbers by kind, words in bytes, and parts of the pool. Only this crate knows the byte order, and only its functions make a number of
+// Numbers by kind, words and bits in bytes, and parts of the pool. Only this crate knows the byte order, and only its functions make a number of
 // a kind or pass between the kinds: the fields are private.
 ghost use mathlib.Core.Path.{_≡_};
 ghost use mathlib.Core.Logic.{_⊎_};
@@ -12,6 +12,7 @@ ghost use Rattle.rules.specs.Tables.{aligned};
 ghost use Rattle.rules.specs.Pointers.{addressOf, goodBase, targetOf};
 ghost use Rattle.rules.specs.Calls.{blocksFor};
 ghost use Rattle.memory.specs.Places.{found};
+ghost use Rattle.memory.specs.Bits.{BitsFrom, WithBits};
 
 // A block's number in the pool, from 0.
 pub struct Block(usize);
@@ -282,6 +283,45 @@ pub fn set_word(bytes: &mut [u8], i: usize, w: u32)
     bytes[at + 1] = (w / 256 % 256) as u8;
     bytes[at + 2] = (w / 65536 % 256) as u8;
     bytes[at + 3] = (w / 16777216 % 256) as u8;
+}
+
+// The bits of the eight bytes from `at` on, those of the first the lowest.
+pub fn bits(bytes: &[u8], at: usize) -> u64
+    requires { ⌜ at + 8 ≤ length (now bytes) ⌝ }
+    ensures { λ r. ⌜ BitsFrom (now (bytes .entry)) at 8 r ⌝ }
+{
+    let low = from_le_bytes(bytes[at], bytes[at + 1], bytes[at + 2], bytes[at + 3]);
+    let high = from_le_bytes(bytes[at + 4], bytes[at + 5], bytes[at + 6], bytes[at + 7]);
+    low as u64 + 4294967296 * (high as u64)
+}
+
+// The same of the bytes from `from` to before `to`, which are at most eight. The other bits are 0.
+pub fn last_bits(bytes: &[u8], from: usize, to: usize) -> u64
+    requires { ⌜ (from ≤ to) × ((to ≤ from + 8) × (to ≤ length (now bytes))) ⌝ }
+    ensures { λ r. ⌜ BitsFrom (now (bytes .entry)) from (to - from) r ⌝ }
+{
+    let mut bits: u64 = 0;
+    let mut at = to;
+    while from < at {
+        at -= 1;
+        bits = (bits << 8) | (bytes[at] as u64);
+    }
+    bits
+}
+
+// The bits of the eight bytes from `at` on become those of w.
+pub fn set_bits(bytes: &mut [u8], at: usize, w: u64)
+    requires { ⌜ at + 8 ≤ length (now bytes) ⌝ }
+    ensures { λ _. ⌜ WithBits (now (bytes .entry)) at w (now (bytes .exit)) ⌝ }
+{
+    bytes[at] = (w % 256) as u8;
+    bytes[at + 1] = ((w >> 8) % 256) as u8;
+    bytes[at + 2] = ((w >> 16) % 256) as u8;
+    bytes[at + 3] = ((w >> 24) % 256) as u8;
+    bytes[at + 4] = ((w >> 32) % 256) as u8;
+    bytes[at + 5] = ((w >> 40) % 256) as u8;
+    bytes[at + 6] = ((w >> 48) % 256) as u8;
+    bytes[at + 7] = (w >> 56) as u8;
 }
 
 // Every byte of the part becomes zero.
