@@ -1,5 +1,2 @@
-pub mod Carries
-pub mod Counts
+pub mod Holding
 pub mod Masks
-pub mod Places
-pub mod Tails

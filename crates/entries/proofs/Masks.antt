@@ -1,43 +1,26 @@
--- What the shifts and masks of a table byte come to. Writing is one test over every byte, entry and value, which antt computes.
+-- The masks of a byte: one bit, the bits from a place on, the bits before one. Each is a test over all places, which antt computes.
 -- Assumes nothing.
-use mathlib.Core.Path.{_≡_, refl, _∙_}
-use mathlib.Core.Bool.{Bool, true, false, not}
+use mathlib.Core.Path.{_≡_}
 use Prim.Native.Nat.{ℕ, _-_, _*_, _/_, _%_, _^_, _<_}
-use lib.Dec.{T, eqb, eqb→eq}
-use lib.Bits.{bitAnd, bitOr, and-mask}
-use Rattle.rules.specs.Entries.{entryOf}
+use lib.Dec.{T, eqb, leb, ltb, eqb→eq}
+use Rattle.rules.specs.Tests.{pick}
+use Rattle.rules.specs.Bits.{bitOf}
 use Rattle.rules.proofs.Below.{allBelow, below}
-use Rattle.rules.proofs.Entries.{four, byteWith}
 
--- whether two tests say the same
-unfoldable pub same : Bool → Bool → Bool
-same true b = b
-same false b = not b
+-- an equation that holds at all places s and j of a byte, by computing
+places : (f g : ℕ → ℕ → ℕ) → T (allBelow 8 (λ (s : ℕ). allBelow 8 (λ (j : ℕ). eqb (f s j) (g s j)))) → (s j : ℕ) → s < 8 → j < 8 → f s j ≡ g s j
+places f g all s j hs hj =
+    eqb→eq (f s j) (g s j)
+    (below 8 (λ (j : ℕ). eqb (f s j) (g s j)) (below 8 (λ (s : ℕ). allBelow 8 (λ (j : ℕ). eqb (f s j) (g s j))) all s hs) j hj)
 
-pub same-eq : (a b : Bool) → T (same a b) → a ≡ b
-unfolding same
-same-eq true true t = refl
-same-eq true false t = absurd t
-same-eq false true t = absurd t
-same-eq false false t = refl
+pub one-bit : (s j : ℕ) → s < 8 → j < 8 → bitOf (1 * 2 ^ s % 256) j ≡ pick (eqb j s) 1 0
+unfolding bitOf
+one-bit = places (λ (s j : ℕ). bitOf (1 * 2 ^ s % 256) j) (λ (s j : ℕ). pick (eqb j s) 1 0) tt
 
-pub read-mask : (b j : ℕ) → j < 4 → bitAnd (b / 2 ^ (2 * j)) 3 ≡ entryOf b j
-unfolding entryOf
-read-mask b j h = and-mask (b / 2 ^ (2 * j)) 2 ∙ four (λ (j : ℕ). b / 2 ^ (2 * j) % 4 ≡ b / 4 ^ j % 4) refl refl refl refl j h
+pub upper-bits : (s j : ℕ) → s < 8 → j < 8 → bitOf (255 * 2 ^ s % 256) j ≡ pick (leb s j) 1 0
+unfolding bitOf
+upper-bits = places (λ (s j : ℕ). bitOf (255 * 2 ^ s % 256) j) (λ (s j : ℕ). pick (leb s j) 1 0) tt
 
--- the byte that the code writes
-abbrev masked : ℕ → ℕ → ℕ → ℕ
-masked b j e = bitOr (bitAnd b (255 - 3 * 2 ^ (2 * j) % 256)) (e * 2 ^ (2 * j) % 256)
-
-right : ℕ → ℕ → ℕ → Bool
-right b j e = eqb (masked b j e) (byteWith b j e)
-
-all-right : T (allBelow 256 (λ (b : ℕ). allBelow 4 (λ (j : ℕ). allBelow 4 (right b j))))
-unfolding right byteWith
-all-right = tt
-
-pub write-mask : (b j e : ℕ) → b < 256 → j < 4 → e < 4 → masked b j e ≡ byteWith b j e
-unfolding right
-write-mask b j e hb hj he =
-    eqb→eq (masked b j e) (byteWith b j e)
-    (below 4 (right b j) (below 4 (λ (j : ℕ). allBelow 4 (right b j)) (below 256 (λ (b : ℕ). allBelow 4 (λ (j : ℕ). allBelow 4 (right b j))) all-right b hb) j hj) e he)
+pub lower-bits : (s j : ℕ) → s < 8 → j < 8 → bitOf (255 / 2 ^ s) j ≡ pick (ltb j (8 - s)) 1 0
+unfolding bitOf
+lower-bits = places (λ (s j : ℕ). bitOf (255 / 2 ^ s) j) (λ (s j : ℕ). pick (ltb j (8 - s)) 1 0) tt

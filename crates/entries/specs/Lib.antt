@@ -1,3 +1,1 @@
-pub mod Carry
-pub mod Places
-pub mod Tails
+pub mod Groups

@@ -1,15 +1,18 @@
-// The allocation table: two bits for each block, four blocks to a byte. Only this crate and `freeruns` know how entries lie
-// in bytes.
+// The allocation table: two bit planes for 4t blocks, the low bits of all entries and then their high bits, eight blocks to a byte.
+// Only this crate and `whole` know how entries lie in bytes.
 ghost use mathlib.Core.Path.{_≡_};
-ghost use Prim.Native.Nat.{_+_, _*_, _≤_, _<_};
+ghost use mathlib.Core.List.{List};
+ghost use Prim.Native.Nat.{ℕ, _+_, _*_, _≤_, _<_};
+ghost use lib.Dec.{eqb, leb, ltb};
 ghost use lib.ListN.{length, set, replicate};
 ghost use lib.Seq.{sets};
-ghost use Rattle.rules.specs.Entries.{entriesOf};
-ghost use Rattle.rules.specs.Tables.{entryAt, wellFormed};
+ghost use Rattle.rules.specs.Tests.{pick};
+ghost use Rattle.rules.specs.Bits.{bitOf};
+ghost use Rattle.rules.specs.Entries.{HEAD as head, MARK as mark};
+ghost use Rattle.rules.specs.Tables.{entryAt, isHead, isTail};
+ghost use Rattle.rules.specs.Planes.{planeBytes, entriesIn, Sized, IsTable, Holds};
+ghost use Rattle.entries.specs.Groups.{Span, FreeByte, InGroup};
 use memory::Block;
-
-pub mod back;
-pub mod whole;
 
 pub const FREE: u8 = 0;
 
@@ -20,76 +23,176 @@ pub const TAIL: u8 = 2;
 pub const MARK: u8 = 3;
 
 // How many blocks the table rules.
-pub fn blocks(table: &[u8]) -> usize
-    requires { ⌜ length (now table) ≤ 1024 ⌝ }
-    ensures { λ r. ⌜ r ≡ length (entriesOf (now (table .entry))) ⌝ }
+pub fn blocks(t: usize) -> usize
+    requires { ⌜ t ≤ 1024 ⌝ }
+    ensures { λ r. ⌜ ((table : List ℕ) → r ≡ length (entriesIn t table)) ⌝ }
 {
-    4 * table.len()
+    4 * t
+}
+
+// How many bytes each plane has. The second starts behind the first.
+pub fn plane_bytes(t: usize) -> usize
+    requires { ⌜ t ≤ 1024 ⌝ }
+    ensures { λ r. ⌜ r ≡ planeBytes t ⌝ }
+{
+    (t + 1) / 2
+}
+
+// Whether the table has the length of two planes for 4t blocks.
+pub fn fits(t: usize, table: &[u8]) -> bool
+    requires { ⌜ t ≤ 1024 ⌝ }
+    ensures { λ r. ⌜ r ≡ eqb (length (now (table .entry))) (2 * planeBytes t) ⌝ }
+{
+    table.len() == 2 * plane_bytes(t)
+}
+
+// Bit j of a byte.
+fn bit(b: u8, j: usize) -> u8
+    requires { ⌜ j < 8 ⌝ }
+    ensures { λ r. ⌜ r ≡ bitOf b j ⌝ }
+{
+    (b >> j) & 1
 }
 
 // The entry of block k.
-pub fn entry(table: &[u8], k: Block) -> u8
-    requires { ⌜ k .0 < length (entriesOf (now table)) ⌝ }
-    ensures { λ r. ⌜ r ≡ entryAt (entriesOf (now (table .entry))) (k .0) ⌝ }
+pub fn entry(t: usize, table: &[u8], k: Block) -> u8
+    requires { ⌜ IsTable t (now table) × (k .0 < length (entriesIn t (now table))) ⌝ }
+    ensures { λ r. ⌜ r ≡ entryAt (entriesIn t (now (table .entry))) (k .0) ⌝ }
 {
     let i = k.index();
-    (table[i / 4] >> (2 * (i % 4))) & 3
+    let high = plane_bytes(t) + i / 8;
+    bit(table[i / 8], i % 8) + 2 * bit(table[high], i % 8)
 }
 
-// e becomes entry j of byte i.
-fn put(table: &mut [u8], i: usize, j: usize, e: u8)
-    requires { ⌜ (i < length (now table)) × ((j < 4) × (e < 4)) ⌝ }
-    ensures { λ _. ⌜ entriesOf (now (table .exit)) ≡ set (entriesOf (now (table .entry))) (4 * i + j) e ⌝ }
-{
-    let s = 2 * j;
-    table[i] = (table[i] & !(3 << s)) | (e << s);
-}
-
-// e becomes the entry of block k.
-pub fn set_entry(table: &mut [u8], k: Block, e: u8)
-    requires { ⌜ (k .0 < length (entriesOf (now table))) × (e < 4) ⌝ }
-    ensures { λ _. ⌜ entriesOf (now (table .exit)) ≡ set (entriesOf (now (table .entry))) (k .0) e ⌝ }
+// Whether block k is HEAD: its low bit is set and its high bit is not.
+pub fn is_head(t: usize, table: &[u8], k: Block) -> bool
+    requires { ⌜ IsTable t (now table) × (k .0 < length (entriesIn t (now table))) ⌝ }
+    ensures { λ r. ⌜ r ≡ isHead (entryAt (entriesIn t (now (table .entry))) (k .0)) ⌝ }
 {
     let i = k.index();
-    put(table, i / 4, i % 4, e);
+    if bit(table[i / 8], i % 8) == 0 {
+        return false;
+    }
+    let high = plane_bytes(t) + i / 8;
+    bit(table[high], i % 8) == 0
 }
 
-// e becomes the entry of each of the count blocks from `from` on. A block's number need not fit a usize; its byte's does.
-pub fn set_run(table: &mut [u8], from: Block, count: usize, e: u8)
-    requires { ⌜ (from .0 + count ≤ length (entriesOf (now table))) × (e < 4) ⌝ }
-    ensures { λ _. ⌜ entriesOf (now (table .exit)) ≡ sets (entriesOf (now (table .entry))) (from .0) (replicate count e) ⌝ }
+// Whether block k is TAIL: its high bit is set and its low bit is not.
+pub fn is_tail(t: usize, table: &[u8], k: Block) -> bool
+    requires { ⌜ IsTable t (now table) × (k .0 < length (entriesIn t (now table))) ⌝ }
+    ensures { λ r. ⌜ r ≡ isTail (entryAt (entriesIn t (now (table .entry))) (k .0)) ⌝ }
+{
+    let i = k.index();
+    if bit(table[i / 8], i % 8) != 0 {
+        return false;
+    }
+    let high = plane_bytes(t) + i / 8;
+    bit(table[high], i % 8) != 0
+}
+
+// Block k, a HEAD, becomes MARK: its high bit is set.
+pub fn set_mark(t: usize, table: &mut [u8], k: Block)
+    requires { ⌜ IsTable t (now table) × (entryAt (entriesIn t (now table)) (k .0) ≡ head) ⌝ }
+    ensures { λ _. ⌜ Holds t (set (entriesIn t (now (table .entry))) (k .0) mark) (now (table .exit)) ⌝ }
+{
+    let i = k.index();
+    let high = plane_bytes(t) + i / 8;
+    table[high] = table[high] | (1 << (i % 8));
+}
+
+// The bits of byte i of a plane that are of the blocks from `from` on.
+fn bits_from(i: usize, from: usize) -> u8
+    requires { ⌜ (i < 512) × (from < 8 * i + 8) ⌝ }
+    ensures { λ r. ⌜ ((j : ℕ) → j < 8 → bitOf r j ≡ pick (leb from (8 * i + j)) 1 0) ⌝ }
+{
+    let first = 8 * i;
+    if first < from {
+        return 255 << (from - first);
+    }
+    255
+}
+
+// The bits of byte i of a plane that are of the blocks before `to`.
+fn bits_to(i: usize, to: usize) -> u8
+    requires { ⌜ (i < 512) × (8 * i < to) ⌝ }
+    ensures { λ r. ⌜ ((j : ℕ) → j < 8 → bitOf r j ≡ pick (ltb (8 * i + j) to) 1 0) ⌝ }
+{
+    let end = 8 * i + 8;
+    if to < end {
+        return 255 >> (end - to);
+    }
+    255
+}
+
+// The bits of byte i of a plane that are of the blocks from `from` to before `to`.
+fn span(i: usize, from: usize, to: usize) -> u8
+    requires { ⌜ (i < 512) × ((from < 8 * i + 8) × (8 * i < to)) ⌝ }
+    ensures { λ r. ⌜ Span i from to r ⌝ }
+{
+    bits_from(i, from) & bits_to(i, to)
+}
+
+// The byte b with each bit that is set in `bits` as `to`.
+fn with_bits(b: u8, bits: u8, to: u8) -> u8
+    requires { ⌜ to < 2 ⌝ }
+    ensures { λ r. ⌜ ((j : ℕ) → bitOf r j ≡ pick (eqb (bitOf bits j) 1) to (bitOf b j)) ⌝ }
+{
+    (b & !bits) | (bits * to)
+}
+
+// e becomes the entry of each of the count blocks from `from` on, a byte of both planes at a time.
+pub fn set_run(t: usize, table: &mut [u8], from: Block, count: usize, e: u8)
+    requires { ⌜ IsTable t (now table) × ((from .0 + count ≤ length (entriesIn t (now table))) × (e < 4)) ⌝ }
+    ensures { λ _. ⌜ Holds t (sets (entriesIn t (now (table .entry))) (from .0) (replicate count e)) (now (table .exit)) ⌝ }
 {
     let first = from.index();
-    let mut i = 0;
-    while i < count {
-        let j = first % 4 + i % 4;
-        put(&mut *table, first / 4 + i / 4 + j / 4, j % 4, e);
+    let end = first + count;
+    let half = plane_bytes(t);
+    let mut i = first / 8;
+    while 8 * i < end {
+        let bits = span(i, first, end);
+        table[i] = with_bits(table[i], bits, e % 2);
+        table[half + i] = with_bits(table[half + i], bits, e / 2);
         i += 1;
     }
 }
 
-// Every block becomes FREE.
+// Every block becomes FREE, and every spare bit zero.
 pub fn clear(table: &mut [u8])
-    ensures { λ _. ⌜ entriesOf (now (table .exit)) ≡ replicate (length (entriesOf (now (table .entry)))) 0 ⌝ }
+    ensures { λ _. ⌜ ((t : ℕ) → Sized t (now (table .entry)) → Holds t (replicate (length (entriesIn t (now (table .entry)))) 0) (now (table .exit))) ⌝ }
 {
     memory::clear(table);
 }
 
-// Whether there is no MARK, block 0 is no TAIL, and no TAIL follows a FREE. Four entries at a time, with no early exit.
-pub fn well_formed(table: &[u8]) -> bool
-    ensures { λ r. ⌜ r ≡ wellFormed (entriesOf (now (table .entry))) ⌝ }
+// A bit for each block of byte i of the planes that is FREE. Past the end of the table each is.
+pub fn free_byte(t: usize, table: &[u8], i: usize) -> u8
+    requires { ⌜ IsTable t (now table) × (i < planeBytes t) ⌝ }
+    ensures { λ r. ⌜ FreeByte (entriesIn t (now (table .entry))) i r ⌝ }
 {
-    let mut bad: u8 = 0;
-    let mut before: u8 = 0;
-    let mut i = 0;
-    while i < table.len() {
-        let b = table[i];
-        let low = b & 0x55;
-        let high = (b >> 1) & 0x55;
-        let used = low | high;
-        bad = bad | (low & high) | (high & !((used << 2) | before));
-        before = used >> 6;
-        i += 1;
+    !(table[i] | table[plane_bytes(t) + i])
+}
+
+// The entries of 64 blocks: a bit of each in two numbers, that of the first block the lowest.
+pub struct Lanes {
+    pub low: u64,
+    pub high: u64,
+}
+
+// The entries from block 64 * i on. Past the end of the table they are FREE.
+pub fn group(t: usize, table: &[u8], i: usize) -> Lanes
+    requires { ⌜ IsTable t (now table) × (64 * i < length (entriesIn t (now table))) ⌝ }
+    ensures { λ r. ⌜ InGroup (entriesIn t (now (table .entry))) i (r .low) (r .high) ⌝ }
+{
+    let half = plane_bytes(t);
+    let at = 8 * i;
+    if at + 8 <= half {
+        return Lanes {
+            low: memory::bits(table, at),
+            high: memory::bits(table, half + at),
+        };
     }
-    bad == 0
+    Lanes {
+        low: memory::last_bits(table, at, half),
+        high: memory::last_bits(table, half + at, 2 * half),
+    }
 }

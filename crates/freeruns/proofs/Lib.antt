@@ -1,5 +1,3 @@
-pub mod Pieces
 pub mod Rows
+pub mod Frees
 pub mod Scans
-pub mod Starts
-pub mod Fronts

@@ -1,86 +1,50 @@
--- Reading the table 32 entries at a time: what is known of its runs at one place is known at the next, and at the end it is all.
+-- Reading the table 64 blocks at a time: what is known of its runs at one place is known at the next, and at the end it is all.
 -- Assumes nothing.
-use mathlib.Core.Path.{_≡_, sym, ap, _∙_}
+use mathlib.Core.Path.{_≡_, _∙_}
 use mathlib.Core.Logic.{_≢_, _⊎_, ⊎-elim}
-use mathlib.Core.Bool.{true, false}
 use mathlib.Core.List.{List}
-use Prim.Native.Nat.{ℕ, _+_, _-_, _^_, _≤_, _<_}
+use Prim.Native.Nat.{ℕ, suc, _+_, _-_, _*_, _^_, _≤_, _<_}
 use native.Mathlib.Decide.{decLt}
 use native.Mathlib.Omega.{arith}
-use lib.ListN.{length, getD, List·getD-eq-default}
-use borrow.Author.Tests.{eqb-true, eq-eqb, not-true, not-false}
-use Rattle.rules.specs.Entries.{FREE, HEAD, entryOf}
-use Rattle.rules.specs.Tables.{isFree, isUsed}
+use lib.ListN.{length, getD}
+use Rattle.rules.specs.Bits.{bitOf}
+use Rattle.rules.specs.Entries.{FREE, HEAD}
 use Rattle.rules.specs.Meaning.{Run, Longest}
-use Rattle.rules.proofs.Entries.{entryOf-zero}
-use Rattle.rules.proofs.Lists.{one}
+use Rattle.rules.proofs.Bits.{bitOf-lt, bitOf-zero, bitOf-not}
 use Rattle.rules.proofs.Tables.{run-shorter}
-use Rattle.freeruns.specs.Rows.{Holds, Picks, Zeros, Row, LongestRow}
+use Rattle.freeruns.specs.Rows.{FreeIn, Zeros, ZerosAbove, LongestRow}
 use Rattle.freeruns.specs.Scans.{Scanned}
-use Rattle.freeruns.proofs.Pieces.{getD-inside}
-use Rattle.freeruns.proofs.Rows.{first-lt, picks-set, picks-clear}
+use Rattle.freeruns.proofs.Rows.{ALL, first-lt}
+use Rattle.freeruns.proofs.Frees.{free-run, run-free, bit-free, free-bit, row-run, run-row}
 
--- ---- runs, read with HEADs past the end of the table
+-- ---- 64 blocks more
 
--- a FREE entry is one of the table's
-inside : (es : List ℕ) (k : ℕ) → getD es k HEAD ≡ FREE → k < length es
-inside es k free = go (decLt k (length es))
-  where
-    go : Dec (k < length es) → k < length es
-    go (yes l) = l
-    go (no l) = absurd (omega (arith, free, List·getD-eq-default es HEAD {n = k} (omega arith)))
+module _ (es : List ℕ) (i bits : ℕ) (small : bits < 2 ^ 64) (holds : FreeIn es i bits) where
+  abbrev p : ℕ
+  p = 64 * i
 
-free-run : (es : List ℕ) (n s : ℕ) → 0 < n → ((d : ℕ) → d < n → getD es (s + d) HEAD ≡ FREE) → Run es n s
-free-run es n s some free = record {
-  room = omega (arith, inside es (s + (n - 1)) (free (n - 1) (omega arith)));
-  free = λ d l. sym (getD-inside es (s + d) HEAD (inside es (s + d) (free d l))) ∙ free d l;
-}
+  -- the bits of those that are used
+  abbrev used : ℕ
+  used = ALL - bits
 
-run-free : (es : List ℕ) (n s k : ℕ) → Run es n s → s ≤ k → k < s + n → getD es k HEAD ≡ FREE
-run-free es n s k r h l =
-    let e : s + (k - s) ≡ k = omega arith in
-    getD-inside es k HEAD (omega (arith, r .room)) ∙ rw e at (r .free (k - s) (omega arith))
+  used-bit : (j : ℕ) → j < 64 → bitOf used j ≡ 1 - bitOf bits j
+  used-bit j l = bitOf-not 64 bits j small l
 
-apart : true ≡ false → ⊥
-apart e = omega (arith, ap one e)
-
--- ---- the 32 entries of b, from block p on
-
--- rows of FREE entries are runs
-module _ (es : List ℕ) (p b bits : ℕ) (holds : Holds es p b) (picks : Picks isFree b bits) where
-  row-run : (n j : ℕ) → 0 < n → Row bits n j → Run es n (p + j)
-  row-run n j h row = free-run es n (p + j) h (λ d l. at d (row d l))
-    where
-      at : (d : ℕ) → entryOf bits (j + d) ≡ 1 → getD es (p + j + d) HEAD ≡ FREE
-      at d set =
-          let e : p + (j + d) ≡ p + j + d = omega arith in
-          let s = picks-set isFree b bits (j + d) picks (λ z. omega (arith, z, set)) in
-          rw e at (sym (holds (j + d) (s .0)) ∙ eqb-true (entryOf b (j + d)) FREE (s .1))
-
-  run-row : (c s : ℕ) → p ≤ s → s + c ≤ p + 32 → Run es c s → Row bits c (s - p)
-  run-row c s h l r d m =
-      let j : ℕ = s - p + d in
-      let e : p + j ≡ s + d = omega arith in
-      let f : entryOf b j ≡ FREE = holds j (omega arith) ∙ rw e (run-free es c s (s + d) r (omega arith) (omega arith)) in
-      picks .inside j (omega arith) ∙ rw (eq-eqb (entryOf b j) FREE f)
-
-module _ (es : List ℕ) (p b used : ℕ) (holds : Holds es p b) (picks : Picks isUsed b used) where
-  free-at : (k : ℕ) → p ≤ k → k < p + 32 → entryOf used (k - p) ≡ 0 → getD es k HEAD ≡ FREE
+  free-at : (k : ℕ) → p ≤ k → k < p + 64 → bitOf used (k - p) ≡ 0 → getD es k HEAD ≡ FREE
   free-at k h l z =
       let e : p + (k - p) ≡ k = omega arith in
-      let f : isFree (entryOf b (k - p)) ≡ true = not-false (isFree (entryOf b (k - p))) (picks-clear isUsed b used (k - p) picks (omega arith) z) in
-      rw e at (sym (holds (k - p) (omega arith)) ∙ eqb-true (entryOf b (k - p)) FREE f)
+      rw e at (bit-free es i bits holds (k - p) (omega arith) (omega (arith, used-bit (k - p) (omega arith), z, bitOf-lt bits (k - p))))
 
-  used-at : (j : ℕ) → entryOf used j ≢ 0 → getD es (p + j) HEAD ≡ FREE → ⊥
-  used-at j some free =
-      let s = picks-set isUsed b used j picks some in
-      let t : isFree (entryOf b j) ≡ true = eq-eqb (entryOf b j) FREE (holds j (s .0) ∙ free) in
-      apart (sym t ∙ not-true (isFree (entryOf b j)) (s .1))
+  used-at : (j : ℕ) → j < 64 → bitOf used j ≡ 1 → getD es (p + j) HEAD ≡ FREE → ⊥
+  used-at j l set free = omega (arith, used-bit j l, set, free-bit es i bits holds j l free)
 
   module _ (longest ending : ℕ) (known : Scanned es p longest ending) where
+    next : p + 64 ≡ 64 * suc i
+    next = omega arith
+
     -- all are FREE: the run at the end goes on
-    pub all-free : used ≡ 0 → Scanned es (p + 32) longest (ending + 32)
-    all-free z = record {
+    pub all-free : used ≡ 0 → Scanned es (64 * suc i) longest (ending + 64)
+    all-free z = rw (← next) record {
       start = known .start;
       run = known .run;
       room = omega (arith, known .room);
@@ -88,32 +52,33 @@ module _ (es : List ℕ) (p b used : ℕ) (holds : Holds es p b) (picks : Picks 
       most = λ c s h r. known .most c s (omega arith) r;
     }
       where
-        go : (k : ℕ) → p + 32 ≤ k + (ending + 32) → k < p + 32 → Dec (k < p) → getD es k HEAD ≡ FREE
+        go : (k : ℕ) → p + 64 ≤ k + (ending + 64) → k < p + 64 → Dec (k < p) → getD es k HEAD ≡ FREE
         go k h l (yes m) = known .free k (omega arith) m
-        go k h l (no m) = free-at k (omega arith) l (rw z (entryOf-zero (k - p)))
+        go k h l (no m) = free-at k (omega arith) l (rw z (bitOf-zero (k - p)))
 
     -- some are not: the run at the end stops at the first of these, and a new one starts behind the last
-    module _ (some : used ≢ 0) (small : used < 2 ^ 64) (front back best : ℕ) (at-front : Zeros 32 (λ (j : ℕ). entryOf used j) front)
-        (at-back : Zeros 32 (λ (j : ℕ). entryOf used (31 - j)) back) where
-      front-lt : front < 32
-      front-lt = first-lt 32 used front small some at-front
+    module _ (some : used ≢ 0) (front back best : ℕ) (at-front : Zeros used front) (at-back : ZerosAbove used back) where
+      front-lt : front < 64
+      front-lt = first-lt used front (omega arith) some at-front
 
-      back-lt : back < 32
-      back-lt = go (decLt back 32)
+      back-lt : back < 64
+      back-lt = go (decLt back 64)
         where
-          go : Dec (back < 32) → back < 32
+          go : Dec (back < 64) → back < 64
           go (yes l) = l
-          go (no l) = absurd (at-front .next front-lt (let e : 31 - (31 - front) ≡ front = omega (arith, front-lt) in rw e at (at-back .before (31 - front) (omega arith))))
+          go (no l) =
+              let e : 63 - (63 - front) ≡ front = omega (arith, front-lt) in
+              absurd (omega (arith, at-front .next front-lt, rw e at (at-back .above (63 - front) (omega arith))))
 
-      -- no run reaches over an entry that is not FREE
-      stops : (j c s : ℕ) → entryOf used j ≢ 0 → Run es c s → s ≤ p + j → s + c ≤ p + j
-      stops j c s taken r h = go (decLt (p + j) (s + c))
+      -- no run reaches over a block that is used
+      stops : (j c s : ℕ) → j < 64 → bitOf used j ≡ 1 → Run es c s → s ≤ p + j → s + c ≤ p + j
+      stops j c s l taken r h = go (decLt (p + j) (s + c))
         where
           go : Dec (p + j < s + c) → s + c ≤ p + j
-          go (yes l) = absurd (used-at j taken (run-free es c s (p + j) r h l))
-          go (no l) = omega arith
+          go (yes m) = absurd (used-at j l taken (run-free es c s (p + j) r h m))
+          go (no m) = omega arith
 
-      -- the run that was at the end, with the FREE entries at the front
+      -- the run that was at the end, with the FREE blocks at the front
       closed : 0 < ending + front → Run es (ending + front) (p - ending)
       closed h = free-run es (ending + front) (p - ending) h (λ d l. go d l (decLt (p - ending + d) p))
         where
@@ -122,36 +87,35 @@ module _ (es : List ℕ) (p b used : ℕ) (holds : Holds es p b) (picks : Picks 
           go d l (no m) = free-at (p - ending + d) (omega arith) (omega (arith, known .room, front-lt)) (at-front .before (p - ending + d - p) (omega (arith, known .room)))
 
       -- what is the longest behind them: the longest before, the run that stopped at the front, and the rows
-      module _ (bits r : ℕ) (free : Picks isFree b bits) (row : LongestRow bits best r) (least : longest ≤ best) (stopped : ending + front ≤ best)
-          (one-of : (best ≡ longest) ⊎ (best ≡ ending + front)) where
+      module _ (r : ℕ) (row : LongestRow bits best r) (least : longest ≤ best) (stopped : ending + front ≤ best) (one-of : (best ≡ longest) ⊎ (best ≡ ending + front)) where
         found : longest < r → (s : ℕ) × Run es r s
-        found l = ⊎-elim same (λ f. (p + f .0, row-run es p b bits holds free r (f .0) (omega arith) (f .1))) (row .found)
+        found l = ⊎-elim same (λ f. (p + f .0, row-run es i bits small holds r (f .0) (omega arith) (f .1))) (row .found)
           where
             same : r ≡ best → (s : ℕ) × Run es r s
             same e = ⊎-elim (λ o. absurd (omega (arith, row .least))) (λ o. (p - ending, let q : r ≡ ending + front = e ∙ o in rw q (closed (omega arith)))) one-of
 
-        most : (c s : ℕ) → s + back < p + 32 → Run es c s → c ≤ r
+        most : (c s : ℕ) → s + back < p + 64 → Run es c s → c ≤ r
         most c s h run = go (decLt (s + ending) p) (decLt (p + front) s)
           where
             go : Dec (s + ending < p) → Dec (p + front < s) → c ≤ r
             go (yes l) _ = omega (arith, known .most c s l run, row .least)
-            go (no l) (no m) = omega (arith, stops front c s (at-front .next front-lt) run (omega arith), row .least)
+            go (no l) (no m) = omega (arith, stops front c s front-lt (at-front .next front-lt) run (omega arith), row .least)
             go (no l) (yes m) =
-                let reach = stops (31 - back) c s (at-back .next back-lt) run (omega (arith, back-lt)) in
-                row .most c (s - p) (omega (arith, back-lt)) (run-row es p b bits holds free c s (omega arith) (omega (arith, back-lt)) run)
+                let reach = stops (63 - back) c s (omega arith) (at-back .next back-lt) run (omega (arith, back-lt)) in
+                row .most c (s - p) (omega (arith, back-lt)) (run-row es i bits small holds c s (omega arith) (omega (arith, back-lt)) run)
 
-        pub some-used : Scanned es (p + 32) r back
-        some-used = go (decLt longest r)
+        pub some-used : Scanned es (64 * suc i) r back
+        some-used = rw (← next) (go (decLt longest r))
           where
-            ends : (k : ℕ) → p + 32 ≤ k + back → k < p + 32 → getD es k HEAD ≡ FREE
+            ends : (k : ℕ) → p + 64 ≤ k + back → k < p + 64 → getD es k HEAD ≡ FREE
             ends k h l =
-                let e : 31 - (31 - (k - p)) ≡ k - p = omega (arith, back-lt) in
-                free-at k (omega (arith, back-lt)) l (rw e at (at-back .before (31 - (k - p)) (omega (arith, back-lt))))
+                let e : 63 - (63 - (k - p)) ≡ k - p = omega (arith, back-lt) in
+                free-at k (omega (arith, back-lt)) l (rw e at (at-back .above (63 - (k - p)) (omega (arith, back-lt))))
 
-            with-run : (s : ℕ) → Run es r s → Scanned es (p + 32) r back
+            with-run : (s : ℕ) → Run es r s → Scanned es (p + 64) r back
             with-run s run = record { start = s; run = run; room = omega (arith, back-lt); free = ends; most = most }
 
-            go : Dec (longest < r) → Scanned es (p + 32) r back
+            go : Dec (longest < r) → Scanned es (p + 64) r back
             go (yes l) = let f = found l in with-run (f .0) (f .1)
             go (no l) = with-run (known .start) (run-shorter es longest r (known .start) (omega arith) (known .run))
 
@@ -166,17 +130,23 @@ scan-start es = record {
   most = λ c s h r. absurd (omega arith);
 }
 
--- past the end of the table there is no FREE entry, and so nothing is left
-pub scan-end : (es : List ℕ) (p longest ending : ℕ) → length es < p → Scanned es p longest ending → Longest es longest
-scan-end es p longest ending past known = record { start = known .start; run = known .run; most = λ c s r. go c s r (decLt (s + ending) p) }
+-- at the end of the table the run that is left is one of the runs, and there is no other
+pub scan-end : (es : List ℕ) (p longest ending r : ℕ) → length es ≤ p → Scanned es p longest ending → longest ≤ r → ending ≤ r → (r ≡ longest) ⊎ (r ≡ ending)
+    → Longest es r
+scan-end es p longest ending r past known more reach one-of = go (decLt longest r)
   where
-    none-ends : ending ≡ 0
-    none-ends = last (decLt 0 ending)
-      where
-        last : Dec (0 < ending) → ending ≡ 0
-        last (yes l) = absurd (omega (arith, inside es (p - 1) (known .free (p - 1) (omega (arith, known .room)) (omega arith))))
-        last (no l) = omega arith
+    most : (c s : ℕ) → Run es c s → Dec (s + ending < p) → c ≤ r
+    most c s run (yes l) = omega (arith, known .most c s l run)
+    most c s run (no l) = omega (arith, run .room)
 
-    go : (c s : ℕ) → Run es c s → Dec (s + ending < p) → c ≤ longest
-    go c s r (yes l) = known .most c s l r
-    go c s r (no l) = absurd (omega (arith, r .room, none-ends))
+    with-run : (s : ℕ) → Run es r s → Longest es r
+    with-run s run = record { start = s; run = run; most = λ c s r. most c s r (decLt (s + ending) p) }
+
+    last : longest < r → Run es r (p - ending)
+    last l =
+        let e : r ≡ ending = ⊎-elim (λ o. absurd (omega arith)) (λ o. o) one-of in
+        free-run es r (p - ending) (omega arith) (λ d m. known .free (p - ending + d) (omega (arith, known .room)) (omega (arith, known .room)))
+
+    go : Dec (longest < r) → Longest es r
+    go (yes l) = with-run (p - ending) (last l)
+    go (no l) = with-run (known .start) (run-shorter es longest r (known .start) (omega arith) (known .run))

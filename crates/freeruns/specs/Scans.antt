@@ -2,11 +2,11 @@
 -- Assumes nothing.
 use mathlib.Core.Path.{_≡_}
 use mathlib.Core.List.{List}
-use Prim.Native.Nat.{ℕ, _+_, _≤_, _<_}
+use Prim.Native.Nat.{ℕ, suc, _+_, _*_, _≤_, _<_}
 use lib.ListN.{getD}
 use Rattle.rules.specs.Entries.{FREE, HEAD}
 use Rattle.rules.specs.Meaning.{Run}
-use Rattle.freeruns.specs.Rows.{Holds}
+use Rattle.freeruns.specs.Rows.{FreeIn}
 
 pub record Scanned (es : List ℕ) (p longest ending : ℕ) : Type 0 where
   -- there is a run of `longest` blocks
@@ -18,7 +18,7 @@ pub record Scanned (es : List ℕ) (p longest ending : ℕ) : Type 0 where
   -- no run that starts before them is longer
   pub most : (b s : ℕ) → s + ending < p → Run es b s → b ≤ longest
 
--- in every table that has the 32 entries of b at block p: what is known there of the first two numbers is known behind them of the others
+-- in every table in which 64 blocks from block 64 * i on are FREE by these bits: what is known there of the first two numbers is known behind them of the others
 abbrev pub ReadOn : ℕ → ℕ → ℕ → ℕ → ℕ → Type 0
-ReadOn b longest ending longest′ ending′ =
-    (es : List ℕ) (p : ℕ) → Holds es p b → Scanned es p longest ending → Scanned es (p + 32) longest′ ending′
+ReadOn free longest ending longest′ ending′ =
+    (es : List ℕ) (i : ℕ) → FreeIn es i free → Scanned es (64 * i) longest ending → Scanned es (64 * suc i) longest′ ending′

@@ -1,8 +1,8 @@
--- `blocks`: four entries to a byte.
+-- `blocks`: four for each t.
 -- Assumes nothing.
 use mathlib.Core.Path.{sym}
 use borrow.Author.Needs.{needs}
-use Rattle.rules.proofs.Entries.{length-entriesOf}
+use Rattle.rules.proofs.Planes.{length-entriesIn}
 use Rattle.entries.proofs.blocks.Statement.{statement}
 use Rattle.entries.proofs.blocks.Tie as tie
 
@@ -10,7 +10,7 @@ mul-result : tie.Need-mul-result
 mul-result c = search needs
 
 returns : tie.Need-returns
-returns c = sym (length-entriesOf (c .args .table .now))
+returns c = λ table. sym (length-entriesIn (c .args .t) table)
 
 pub blocks-spec : {M : Type 1} → statement M
 blocks-spec = tie.close (tie.spec mul-result returns)

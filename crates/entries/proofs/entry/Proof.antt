@@ -1,38 +1,58 @@
--- `entry`: the shift and the mask take entry k mod 4 out of byte k / 4.
+-- `entry`: block k has bit k mod 8 of byte k / 8 of each plane.
 -- Assumes nothing.
-use mathlib.Core.Path.{sym, ap, _∙_}
-use Prim.Native.Nat.{_/_, _%_}
 use native.Mathlib.Omega.{arith}
-use lib.ListN.{getD}
 use borrow.Author.Needs.{needs}
-use Rattle.rules.specs.Entries.{entriesOf}
-use Rattle.rules.specs.Tables.{entryAt}
-use Rattle.rules.proofs.Entries.{length-entriesOf, getD-entriesOf}
-use Rattle.entries.proofs.Masks.{read-mask}
+use Rattle.entries.proofs.Holding.{block-byte, bit-small, both-read}
 use Rattle.entries.proofs.entry.Statement.{statement}
 use Rattle.entries.proofs.entry.Tie as tie
 
 index-requires : tie.Need-index-requires
 index-requires c κs = search needs
 
-shared-slice-read-result : tie.Need-shared-slice-read-result
-shared-slice-read-result c = omega (arith, length-entriesOf (c .before .before .before .args .table .now))
+plane-bytes-requires : tie.Need-plane-bytes-requires
+plane-bytes-requires c κs = search needs
+
+add-high : tie.Need-add-high
+add-high c = search needs
+
+shared-slice-read-bit : tie.Need-shared-slice-read-bit
+shared-slice-read-bit c =
+    let b = c .before .before .before .before in
+    omega (arith, c .before .before .index .ensures, b .pre .0 .sized .long, block-byte (b .args .t) (b .args .table .now) (b .args .k .0) (b .pre .1))
+
+bit-requires : tie.Need-bit-requires
+bit-requires c κs = search needs
+
+shared-slice-read-bit-2 : tie.Need-shared-slice-read-bit-2
+shared-slice-read-bit-2 c =
+    let b = c .before .before .before .before .before .before in
+    omega (arith, c .before .before .before .before .index .ensures, c .before .before .before .plane-bytes .ensures, b .pre .0 .sized .long, block-byte (b .args .t) (b .args .table .now) (b .args .k .0) (b .pre .1))
+
+bit-requires-2 : tie.Need-bit-requires-2
+bit-requires-2 c κs = search needs
 
 mul-result : tie.Need-mul-result
-mul-result c = search needs
+mul-result c = record { fits = omega (arith, bit-small _ _ _ (c .bit2 .ensures)) }
 
-cast-result : tie.Need-cast-result
-cast-result c = search needs
-
-shr-result : tie.Need-shr-result
-shr-result c = search needs
+add-result : tie.Need-add-result
+add-result c = record { fits = omega (arith, bit-small _ _ _ (c .before .before .bit .ensures), bit-small _ _ _ (c .bit2 .ensures)) }
 
 returns : tie.Need-returns
 returns c =
-    let t = c .before .before .before .args .table .now in
-    let i = c .before .index .result in
-    read-mask (getD t (i / 4) 0) (i % 4) (omega arith) ∙ sym (getD-entriesOf t i) ∙ ap (entryAt (entriesOf t)) (c .before .index .ensures)
+    let b = c .before .before .before .before .before .before .before in
+    both-read (b .args .t) (b .args .table .now) (b .args .k .0) _ _ _ _ (c .before .before .before .before .before .index .ensures) (c .before .before .before .before .plane-bytes .ensures) (b .pre .1) (c .before .before .bit .ensures) (c .bit2 .ensures)
 
 pub entry-spec : {M : Type 1} → statement M
 entry-spec =
-    tie.close (tie.spec index-requires shared-slice-read-result mul-result cast-result shr-result returns)
+    tie.close
+    (tie.spec
+    index-requires
+    plane-bytes-requires
+    add-high
+    shared-slice-read-bit
+    bit-requires
+    shared-slice-read-bit-2
+    bit-requires-2
+    mul-result
+    add-result
+    returns)

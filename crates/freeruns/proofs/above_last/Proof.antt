@@ -1,4 +1,4 @@
--- `above_last`: half the zeros that stand above the highest set bit.
+-- `above_last`: the zeros that stand above the highest set bit.
 -- Assumes nothing.
 use native.Mathlib.Omega.{arith}
 use Rattle.freeruns.proofs.Rows.{zeros-above}

@@ -1,13 +1,12 @@
--- `longest`: the table is read as far as its last whole 32 entries, then as far as past its end, where everything is known.
+-- `longest`: the table is read 64 blocks at a time as far as its end, where everything is known.
 -- Assumes nothing.
 use mathlib.Core.Path.{_≡_}
-use Prim.Native.Nat.{ℕ, _+_, _-_, _*_, _/_, _≤_}
+use Prim.Native.Nat.{suc, _+_, _-_, _*_, _≤_, _<_}
 use native.Mathlib.Omega.{arith}
-use lib.ListN.{length}
 use borrow.Author.Needs.{needs}
-use Rattle.rules.specs.Entries.{entriesOf}
+use Rattle.rules.specs.Planes.{entriesIn}
 use Rattle.rules.specs.Tables.{longest}
-use Rattle.rules.proofs.Entries.{length-entriesOf}
+use Rattle.rules.proofs.Planes.{few-entries}
 use Rattle.rules.proofs.Tables.{longest-says, longest-one}
 use Rattle.freeruns.specs.Scans.{Scanned}
 use Rattle.freeruns.proofs.Scans.{scan-start, scan-end}
@@ -15,51 +14,59 @@ use Rattle.freeruns.proofs.longest.Statement.{statement}
 use Rattle.freeruns.proofs.longest.Tie as tie
 
 abbrev Inv-loop : tie.InvT-loop
-Inv-loop table whole read₀ i₀ read i = (i ≤ length table / 8) × Scanned (entriesOf table) (32 * i) (read .longest) (read .ending)
+Inv-loop t table n read₀ i₀ read i = (i ≤ 64) × Scanned (entriesIn t table) (64 * i) (read .longest) (read .ending)
 
 abbrev μ-loop : tie.MeasureT-loop
-μ-loop table whole read₀ i₀ read i = length table / 8 - i
+μ-loop t table n read₀ i₀ read i = 64 - i
+
+blocks-requires : tie.Need-blocks-requires Inv-loop μ-loop
+blocks-requires c κs = search needs
 
 loop-holds : tie.Need-loop-holds Inv-loop μ-loop
-loop-holds c = (omega arith, scan-start (entriesOf (c .before .args .table .now)))
+loop-holds c = (omega arith, scan-start (entriesIn (c .before .before .args .t) (c .before .before .args .table .now)))
 
-entries-at-requires : tie.Need-entries-at-requires Inv-loop μ-loop
-entries-at-requires c κs = omega arith
+mul-loop : tie.Need-mul-loop Inv-loop μ-loop
+mul-loop c = search needs
+
+-- 64 more are left
+more : (c : tie.In-loop Inv-loop μ-loop) → c .before .loop .i < 64
+more c =
+    let s = c .before .before .before .before in
+    omega (arith, c .loop-test .taken, c .before .before .blocks2 .ensures (s .args .table .now), few-entries (s .args .t) (s .args .table .now) (s .pre))
+
+free-bits-requires : tie.Need-free-bits-requires Inv-loop μ-loop
+free-bits-requires c κs =
+    let s = c .before .before .before .before in
+    (s .pre, omega (arith, c .loop-test .taken, c .before .before .blocks2 .ensures (s .args .table .now)))
 
 read-on-requires : tie.Need-read-on-requires Inv-loop μ-loop
-read-on-requires c κs = omega (arith, c .before .before .loop .inv .1 .room, c .before .before .before .before .pre)
+read-on-requires c κs = omega (arith, c .before .before .loop .inv .1 .room, more (c .before))
 
 add-i : tie.Need-add-i Inv-loop μ-loop
 add-i c = search needs
 
 loop-less : tie.Need-loop-less Inv-loop μ-loop
-loop-less c = search needs
+loop-less c = omega (arith, more (c .before .before))
 
 loop-again : tie.Need-loop-again Inv-loop μ-loop
 loop-again c =
     let l = c .before .before .before .loop in
-    let es = entriesOf (c .before .before .before .before .before .args .table .now) in
-    let e : 32 * l .i + 32 ≡ 32 * (l .i + 1) = omega arith in
-    (omega arith, rw e at (c .read-on .ensures es (32 * l .i) (c .before .entries-at .ensures) (l .inv .1)))
+    let a = c .before .before .before .before .before .before .args in
+    let e : 64 * suc (l .i) ≡ 64 * (l .i + 1) = omega arith in
+    (omega (arith, more (c .before .before)), rw e at (c .read-on .ensures (entriesIn (a .t) (a .table .now)) (l .i) (c .before .free-bits .ensures) (l .inv .1)))
 
-mul-last-entries : tie.Need-mul-last-entries Inv-loop μ-loop
-mul-last-entries c = search needs
-
-last-entries-requires : tie.Need-last-entries-requires Inv-loop μ-loop
-last-entries-requires c κs = omega arith
-
-read-on-requires-2 : tie.Need-read-on-requires-2 Inv-loop μ-loop
-read-on-requires-2 c κs = omega (arith, c .before .before .loop .inv .1 .room, c .before .before .before .before .pre)
+greatest-requires : tie.Need-greatest-requires Inv-loop μ-loop
+greatest-requires c κs = search needs
 
 returns : tie.Need-returns Inv-loop μ-loop
 returns c =
-    let l = c .before .before .before .loop in
-    let t = c .before .before .before .before .before .args .table .now in
-    let p : ℕ = 4 * (8 * (length t / 8)) in
-    let e : 32 * l .i ≡ p = omega arith in
-    let r = c .read-on2 .result in
-    let past = scan-end (entriesOf t) (p + 32) (r .longest) (r .ending) (omega (arith, length-entriesOf t)) (c .read-on2 .ensures (entriesOf t) p (c .before .last-entries .ensures) (rw e at (l .inv .1))) in
-    longest-one (entriesOf t) (r .longest) (longest (entriesOf t)) past (longest-says (entriesOf t))
+    let l = c .before .before .loop in
+    let a = c .before .before .before .before .before .args in
+    let es = entriesIn (a .t) (a .table .now) in
+    let best = c .greatest in
+    let past = scan-end es (64 * l .i) (l .read .longest) (l .read .ending) (best .result) (omega (arith, c .before .loop-test .left, c .before .before .before .blocks2 .ensures (a .table .now))) (l .inv .1)
+    (best .ensures .0) (best .ensures .1 .0) (best .ensures .1 .1) in
+    longest-one es (best .result) (longest es) past (longest-says es)
 
 pub longest-spec : {M : Type 1} → statement M
 longest-spec =
@@ -67,13 +74,13 @@ longest-spec =
     (tie.spec
     Inv-loop
     μ-loop
+    blocks-requires
     loop-holds
-    entries-at-requires
+    mul-loop
+    free-bits-requires
     read-on-requires
     add-i
     loop-less
     loop-again
-    mul-last-entries
-    last-entries-requires
-    read-on-requires-2
+    greatest-requires
     returns)

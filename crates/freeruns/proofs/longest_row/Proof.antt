@@ -14,7 +14,7 @@ abbrev Inv-loop : tie.InvT-loop
 Inv-loop bits n best₀ best = (n ≤ best) × ((best ≡ n) ⊎ ((j : ℕ) × Row bits best j))
 
 abbrev μ-loop : tie.MeasureT-loop
-μ-loop bits n best₀ best = 32 - best
+μ-loop bits n best₀ best = 64 - best
 
 loop-holds : tie.Need-loop-holds Inv-loop μ-loop
 loop-holds c = (search needs, inl refl)
@@ -23,7 +23,7 @@ add-row-starts : tie.Need-add-row-starts Inv-loop μ-loop
 add-row-starts c = search needs
 
 row-starts-requires : tie.Need-row-starts-requires Inv-loop μ-loop
-row-starts-requires c κs = (c .before .before .pre, (omega arith, omega arith))
+row-starts-requires c κs = (omega arith, omega arith)
 
 returns : tie.Need-returns Inv-loop μ-loop
 returns c =
@@ -31,25 +31,26 @@ returns c =
     record {
       least = l .inv .0;
       found = l .inv .1;
-      most = λ count j few row. none-longer (c .before .before .before .before .args .bits) (l .best) (c .before .row-starts .result) (c .before .row-starts .ensures) (c .if1 .taken) count j row;
+      most = λ count j few row. none-longer (c .before .before .before .before .args .bits) (l .best) (c .before .row-starts .result) (omega arith) (c .before .row-starts .ensures) (c .if1 .taken) count j row;
     }
 
 first-requires : tie.Need-first-requires Inv-loop μ-loop
 first-requires c κs = search needs
 
--- the first start is one of the 32 entries
-start-lt : (c : tie.After-first Inv-loop μ-loop) → c .first .result < 32
-start-lt c = first-lt 32 (c .before .before .row-starts .result) (c .first .result) (omega arith) (c .before .if1 .left) (c .first .ensures)
+-- the first start is one of the 64 bits
+start-lt : (c : tie.After-first Inv-loop μ-loop) → c .first .result < 64
+start-lt c = first-lt (c .before .before .row-starts .result) (c .first .result) (omega arith) (c .before .if1 .left) (c .first .ensures)
 
 row-from-requires : tie.Need-row-from-requires Inv-loop μ-loop
-row-from-requires c κs = (c .before .before .before .before .before .pre, start-lt c)
+row-from-requires c κs = start-lt c
 
 -- the whole row there is longer than the best before
 longer : (c : tie.After-row-from Inv-loop μ-loop) → c .before .before .before .before .before .loop .best < c .row-from .result
 longer c =
     let starts = c .before .before .before .row-starts in
-    let some = c .before .first .ensures .next (start-lt (c .before)) in
-    whole-longer (c .before .before .before .before .before .before .args .bits) _ (c .before .first .result) (c .row-from .result) (starts .ensures .only (c .before .first .result) some) (c .row-from .ensures)
+    let set = c .before .first .ensures .next (start-lt (c .before)) in
+    whole-longer (c .before .before .before .before .before .before .args .bits) _ (c .before .first .result) (c .row-from .result)
+    (starts .ensures .only (c .before .first .result) (start-lt (c .before)) (λ z. omega (arith, z, set))) (c .row-from .ensures)
 
 loop-less : tie.Need-loop-less Inv-loop μ-loop
 loop-less c = omega (arith, longer c)

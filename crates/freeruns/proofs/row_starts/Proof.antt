@@ -1,36 +1,36 @@
--- `row_starts`: the bits are the starts of rows of `length`, and a shifted copy makes the rows longer by the shift.
+-- `row_starts`: the two numbers have the starts of rows of `length`, and a shifted copy of both makes the rows longer by the shift.
 -- Assumes nothing.
-use mathlib.Core.Path.{_≡_}
-use Prim.Native.Nat.{ℕ, _+_, _-_, _*_, _/_, _^_, _≤_, _<_}
+use Prim.Native.Nat.{_+_, _-_, _*_, _^_, _≤_, _<_}
 use native.Mathlib.Omega.{arith}
-use lib.Bits.{bitAnd}
 use borrow.Author.Needs.{needs}
-use Rattle.freeruns.specs.Rows.{RowStarts}
-use Rattle.freeruns.proofs.Rows.{row-one, row-join}
+use Rattle.freeruns.proofs.Rows.{Begins, row-one, begins-turn, starts-turn, starts-done}
 use Rattle.freeruns.proofs.row_starts.Statement.{statement}
 use Rattle.freeruns.proofs.row_starts.Tie as tie
 
 abbrev Inv-loop : tie.InvT-loop
-Inv-loop bits count starts₀ length₀ starts length = (0 < length) × ((length ≤ count) × RowStarts bits length starts)
+Inv-loop bits next count starts₀ after₀ length₀ starts after length =
+    (0 < length) × ((length ≤ count) × ((starts < 2 ^ 64) × Begins (bits + 2 ^ 64 * next) length (starts + 2 ^ 64 * after)))
 
 abbrev μ-loop : tie.MeasureT-loop
-μ-loop bits count starts₀ length₀ starts length = count - length
-
--- a shift by s makes rows of so many bits
-joined : (bits n s m x : ℕ) → s ≤ n → n + s ≡ m → RowStarts bits n x → RowStarts bits m (bitAnd x (x / 2 ^ (2 * s)))
-joined bits n s m x h e r = rw e at (row-join bits n s x h r)
+μ-loop bits next count starts₀ after₀ length₀ starts after length = count - length
 
 loop-holds : tie.Need-loop-holds Inv-loop μ-loop
-loop-holds c = (search needs, (search needs, row-one (c .args .bits) (c .pre .0)))
+loop-holds c = (search needs, (search needs, (omega arith, row-one (c .args .bits + 2 ^ 64 * c .args .next))))
 
 sub-loop : tie.Need-sub-loop Inv-loop μ-loop
 sub-loop c = search needs
 
-mul-starts : tie.Need-mul-starts Inv-loop μ-loop
-mul-starts c = search needs
-
 shr-starts : tie.Need-shr-starts Inv-loop μ-loop
 shr-starts c = search needs
+
+sub-starts : tie.Need-sub-starts Inv-loop μ-loop
+sub-starts c = search needs
+
+shl-starts : tie.Need-shl-starts Inv-loop μ-loop
+shl-starts c = search needs
+
+shr-after : tie.Need-shr-after Inv-loop μ-loop
+shr-after c = search needs
 
 mul-length : tie.Need-mul-length Inv-loop μ-loop
 mul-length c = search needs
@@ -41,22 +41,37 @@ loop-less c = search needs
 loop-again : tie.Need-loop-again Inv-loop μ-loop
 loop-again c =
     let l = c .before .loop in
-    (omega arith, (omega arith, joined (c .before .before .args .bits) (l .length) (l .length) (2 * l .length) (l .starts) (omega arith) (omega arith) (l .inv .1 .1)))
+    let a = c .before .before .args in (
+      omega arith,
+      (
+        omega arith,
+        begins-turn (a .bits + 2 ^ 64 * a .next) (l .length) (l .length) (2 * l .length) (l .starts) (l .after) (l .inv .1 .1 .0) (omega arith) (omega arith) (omega arith) (omega arith) (l .inv .1 .1 .1),
+      ),
+    )
 
-sub-result : tie.Need-sub-result Inv-loop μ-loop
-sub-result c = search needs
+sub-rest : tie.Need-sub-rest Inv-loop μ-loop
+sub-rest c = search needs
 
-mul-result : tie.Need-mul-result Inv-loop μ-loop
-mul-result c = search needs
+returns : tie.Need-returns Inv-loop μ-loop
+returns c =
+    let l = c .before .before .loop in
+    let a = c .before .before .before .args in
+    starts-done (a .bits) (a .next) (l .length) 0 (a .count) (l .starts) (l .after) (l .inv .1 .1 .0) (l .inv .1 .1 .1) (omega (arith, c .if1 .taken))
 
 shr-result : tie.Need-shr-result Inv-loop μ-loop
 shr-result c = search needs
 
-returns : tie.Need-returns Inv-loop μ-loop
-returns c =
-    let l = c .before .loop in
-    let a = c .before .before .args in
-    joined (a .bits) (l .length) (a .count - l .length) (a .count) (l .starts) (omega arith) (omega arith) (l .inv .1 .1)
+sub-result : tie.Need-sub-result Inv-loop μ-loop
+sub-result c = search needs
+
+shl-result : tie.Need-shl-result Inv-loop μ-loop
+shl-result c = search needs
+
+returns-2 : tie.Need-returns-2 Inv-loop μ-loop
+returns-2 c =
+    let l = c .before .before .loop in
+    let a = c .before .before .before .args in
+    starts-turn (a .bits) (a .next) (l .length) (a .count - l .length) (a .count) (l .starts) (l .after) (l .inv .1 .1 .0) (l .inv .1 .1 .1) (omega (arith, c .if1 .left)) (omega arith) (omega (arith, c .before .loop-test .left)) (omega arith)
 
 pub row-starts-spec : {M : Type 1} → statement M
 row-starts-spec =
@@ -66,12 +81,16 @@ row-starts-spec =
     μ-loop
     loop-holds
     sub-loop
-    mul-starts
     shr-starts
+    sub-starts
+    shl-starts
+    shr-after
     mul-length
     loop-less
     loop-again
-    sub-result
-    mul-result
+    sub-rest
+    returns
     shr-result
-    returns)
+    sub-result
+    shl-result
+    returns-2)

@@ -1,0 +1,43 @@
+-- Where a search for room need not look.
+-- Assumes nothing.
+use mathlib.Core.Path.{_≡_}
+use mathlib.Core.Logic.{_≢_}
+use mathlib.Core.Bool.{Bool, true, false}
+use mathlib.Core.List.{List}
+use Prim.Native.Nat.{ℕ, _+_, _*_, _^_, _≤_, _<_}
+use lib.ListN.{length, getD}
+use Rattle.rules.specs.Bits.{bitOf}
+use Rattle.rules.specs.Entries.{FREE, HEAD}
+use Rattle.rules.specs.Meaning.{Aligned, Fits, Run}
+use Rattle.entries.specs.Groups.{FreeByte}
+
+-- nowhere from block s on and before block e may b blocks start
+abbrev pub NoStart : List ℕ → ℕ → ℕ → ℕ → Type 0
+NoStart es b s e = (q : ℕ) → s ≤ q → q < e → Fits es b q → ⊥
+
+-- r has a bit for each of the eight blocks of byte i at which b blocks may start. It may have others
+abbrev pub MayStart : List ℕ → ℕ → ℕ → ℕ → Type 0
+MayStart es b i r = (j : ℕ) → j < 8 → bitOf r j ≡ 0 → Fits es b (8 * i + j) → ⊥
+
+-- the same of the bits alone: so it is at byte i of every table in which those blocks are FREE, and those of the next byte
+abbrev pub StartsIn : ℕ → ℕ → ℕ → ℕ → Type 0
+StartsIn a c b r = (es : List ℕ) (i : ℕ) → FreeByte es i a → FreeByte es (i + 1) c → MayStart es b i r
+
+-- r has a bit for each of 64 blocks at which a row of b bits of FREE blocks starts and b blocks are aligned; it may have others of FREE blocks at which they are aligned
+pub record Starts (free next b r : ℕ) : Type 0 where
+  pub all : (j : ℕ) → j < 64 → Aligned b j → ((d : ℕ) → d < b → j + d < 128 → bitOf (free + 2 ^ 64 * next) (j + d) ≡ 1) → bitOf r j ≡ 1
+  pub is-free : (j : ℕ) → j < 64 → bitOf r j ≡ 1 → bitOf free j ≡ 1
+  pub aligned : (j : ℕ) → j < 64 → bitOf r j ≡ 1 → Aligned b j
+
+-- the search from block s on may go on at block r: b blocks may start nowhere before it, and they are aligned there, unless it is the table's end
+pub record Next (es : List ℕ) (b s r : ℕ) : Type 0 where
+  pub inside : r ≤ length es
+  pub from : s ≤ r
+  pub none-before : NoStart es b s r
+  pub aligned : r < length es → Aligned b r
+
+-- the `free` blocks from k on are FREE blocks of the table. If they have ended, a used block or the table's end comes after them; else there is one at least
+pub record FreeFor (es : List ℕ) (k free : ℕ) (ended : Bool) : Type 0 where
+  pub run : Run es free k
+  pub next : ended ≡ true → getD es (k + free) HEAD ≢ FREE
+  pub more : ended ≡ false → 0 < free

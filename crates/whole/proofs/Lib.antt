@@ -1,0 +1,5 @@
+pub mod Lanes
+pub mod Places
+pub mod Sums
+pub mod Ones
+pub mod Steps

@@ -1,0 +1,138 @@
+// The whole table at once: a byte of both planes in a turn, which is eight blocks, or eight bytes, and no early exit. Beside `entries` only this crate
+// knows how entries lie in bytes.
+ghost use mathlib.Core.Path.{_≡_};
+ghost use Prim.Native.Nat.{ℕ, _+_, _*_, _≤_, _<_};
+ghost use lib.ListN.{length};
+ghost use Rattle.rules.specs.Tables.{used, objects, wellFormed};
+ghost use Rattle.rules.specs.Marking.{sweep as sweepOf};
+ghost use Rattle.rules.specs.Planes.{entriesIn, spareFree, Sized, IsTable, Holds};
+ghost use Rattle.whole.specs.Sweeps.{SweptBits, SweepsOn};
+
+// Whether no spare bit is set: of the last byte of each plane the upper half, if t is odd.
+pub fn spare_free(t: usize, table: &[u8]) -> bool
+    requires { ⌜ Sized t (now table) ⌝ }
+    ensures { λ r. ⌜ r ≡ spareFree t (now (table .entry)) ⌝ }
+{
+    if t % 2 == 0 {
+        return true;
+    }
+    let half = entries::plane_bytes(t);
+    (table[half - 1] | table[2 * half - 1]) < 16
+}
+
+// Whether there is no MARK, block 0 is no TAIL, and no TAIL follows a FREE.
+pub fn well_formed(t: usize, table: &[u8]) -> bool
+    requires { ⌜ IsTable t (now table) ⌝ }
+    ensures { λ r. ⌜ r ≡ wellFormed (entriesIn t (now (table .entry))) ⌝ }
+{
+    let half = entries::plane_bytes(t);
+    let mut bad: u8 = 0;
+    let mut before: u8 = 0;
+    let mut i = 0;
+    while i < half {
+        let low = table[i];
+        let high = table[half + i];
+        let used = low | high;
+        bad = bad | (low & high) | (high & !((used << 1) | before));
+        before = used >> 7;
+        i += 1;
+    }
+    bad == 0
+}
+
+// How many blocks are not FREE, and how many objects there are.
+pub struct Counts {
+    pub used: usize,
+    pub objects: usize,
+}
+
+// The ones of a byte of both planes are counted: a block that is not FREE has a bit in one of them, a HEAD in the first alone.
+pub fn count(t: usize, table: &[u8]) -> Counts
+    requires { ⌜ IsTable t (now table) ⌝ }
+    ensures { λ r. ⌜ (r .used ≡ used (entriesIn t (now (table .entry)))) × (r .objects ≡ objects (entriesIn t (now (table .entry)))) ⌝ }
+{
+    let half = entries::plane_bytes(t);
+    let mut used: u16 = 0;
+    let mut heads: u16 = 0;
+    let mut i = 0;
+    while i < half {
+        let low = table[i];
+        let high = table[half + i];
+        used += u8::count_ones(low | high) as u16;
+        heads += u8::count_ones(low & !high) as u16;
+        i += 1;
+    }
+    Counts {
+        used: used as usize,
+        objects: heads as usize,
+    }
+}
+
+// Swept entries, a bit of each in two numbers, and a bit for each block behind which TAILs are kept.
+struct Swept {
+    low: u64,
+    high: u64,
+    keeping: u64,
+}
+
+// 64 entries are swept. `keeping` is 1 if TAILs are kept at first. It runs through the blocks as the carry of a sum: a MARK makes it, a HEAD stops it, and any other
+// block hands it on.
+fn sweep_bits(low: u64, high: u64, keeping: u64) -> Swept
+    requires { ⌜ keeping < 2 ⌝ }
+    ensures { λ r. ⌜ SweptBits low high keeping (r .low) (r .high) (r .keeping) ⌝ }
+{
+    let marks = low & high;
+    let heads = low & !high;
+    let sum = std::num::wrapping_add_u64(std::num::wrapping_add_u64(!heads, marks), keeping);
+    Swept {
+        low: marks,
+        high: high & !low & !sum,
+        keeping: marks | !(heads | sum),
+    }
+}
+
+// The entries of eight bytes of both planes from byte `at` of each are swept. Returns whether TAILs are kept behind them.
+fn sweep_eight(table: &mut [u8], half: usize, at: usize, keeping: u64) -> u64
+    requires { ⌜ (keeping < 2) × ((at + 8 ≤ half) × (length (now table) ≡ 2 * half)) ⌝ }
+    ensures { λ r. ⌜ SweepsOn half at 8 keeping r (now (table .entry)) (now (table .exit)) ⌝ }
+{
+    let s = sweep_bits(
+        memory::bits(&*table, at),
+        memory::bits(&*table, half + at),
+        keeping,
+    );
+    memory::set_bits(&mut *table, at, s.low);
+    memory::set_bits(&mut *table, half + at, s.high);
+    s.keeping >> 63
+}
+
+// The same of byte `at` of both planes.
+fn sweep_one(table: &mut [u8], half: usize, at: usize, keeping: u64) -> u64
+    requires { ⌜ (keeping < 2) × ((at < half) × (length (now table) ≡ 2 * half)) ⌝ }
+    ensures { λ r. ⌜ SweepsOn half at 1 keeping r (now (table .entry)) (now (table .exit)) ⌝ }
+{
+    let s = sweep_bits(table[at] as u64, table[half + at] as u64, keeping);
+    table[at] = s.low as u8;
+    table[half + at] = s.high as u8;
+    (s.keeping >> 7) & 1
+}
+
+// A HEAD and its TAILs become FREE, a MARK becomes HEAD and keeps its TAILs.
+pub fn sweep(t: usize, table: &mut [u8])
+    requires { ⌜ IsTable t (now table) ⌝ }
+    ensures { λ _. ⌜ Holds t (sweepOf (entriesIn t (now (table .entry)))) (now (table .exit)) ⌝ }
+{
+    let half = entries::plane_bytes(t);
+    let groups = half / 8;
+    let mut keeping: u64 = 1;
+    let mut i = 0;
+    while i < groups {
+        keeping = sweep_eight(&mut *table, half, 8 * i, keeping);
+        i += 1;
+    }
+    let mut j = 8 * groups;
+    while j < half {
+        keeping = sweep_one(&mut *table, half, j, keeping);
+        j += 1;
+    }
+}
