@@ -1,12 +1,13 @@
 // The collection: it checks its arguments first, and then marks, sweeps and clears the mark stack.
 ghost use mathlib.Core.Path.{_≡_};
 ghost use Rattle.rules.specs.Words.{wordsOf};
-ghost use Rattle.rules.specs.Entries.{entriesOf};
-ghost use Rattle.rules.specs.Outcomes.{heapOf};
+ghost use Rattle.rules.specs.Planes.{planes, entriesIn, IsTable, heapAt};
 ghost use Rattle.rules.specs.Marking.{markAll};
-ghost use Rattle.rules.specs.Calls.{collecting, collect as collectOf};
+ghost use Rattle.rules.specs.Calls.{collecting};
+ghost use Rattle.rules.specs.Runs.{Collect};
+ghost use Rattle.rules.specs.Memory.{memory, perform};
 ghost use Rattle.marker.specs.Variables.{contextOf, Shape};
-ghost use Rattle.collector.specs.Answers.{outcomeOf};
+ghost use Rattle.collector.specs.Answers.{outcomeOf, resultOf};
 use memory::Address;
 
 // What a collection answers.
@@ -18,14 +19,21 @@ pub struct Collected {
 }
 
 // Marks, sweeps and clears the mark stack.
-fn run(base: Address, pool: &[u8], table: &mut [u8], roots: &[u8], stack: &mut [u8]) -> Collected
-    requires { ⌜ Shape (now pool) (now table) ⌝ }
-    ensures { λ r. ⌜ outcomeOf r (now (pool .entry)) (now (table .exit)) (now (stack .exit))
-        ≡ collecting (heapOf (now (pool .entry)) (now (table .entry))) (now (stack .entry))
-        (markAll (contextOf (base .0) (now (pool .entry)) (now (stack .entry))) (wordsOf (now (roots .entry))) (entriesOf (now (table .entry)))) ⌝ }
+fn run(
+    base: Address,
+    t: usize,
+    pool: &[u8],
+    table: &mut [u8],
+    roots: &[u8],
+    stack: &mut [u8],
+) -> Collected
+    requires { ⌜ Shape t (now pool) (now table) ⌝ }
+    ensures { λ r. ⌜ IsTable t (now (table .exit)) × (outcomeOf r (heapAt t (now (pool .entry)) (now (table .exit))) (now (stack .exit))
+        ≡ collecting (heapAt t (now (pool .entry)) (now (table .entry))) (now (stack .entry))
+        (markAll (contextOf (base .0) (now (pool .entry)) (now (stack .entry))) (wordsOf (now (roots .entry))) (entriesIn t (now (table .entry))))) ⌝ }
 {
-    let rescans = marker::mark(base, pool, &mut *table, &mut *stack, roots);
-    let swept = sweeper::sweep(&mut *table);
+    let rescans = marker::mark(base, t, pool, &mut *table, &mut *stack, roots);
+    let swept = sweeper::sweep(t, &mut *table);
     memory::clear(stack);
     let kept = swept.kept as u32;
     Collected {
@@ -40,15 +48,16 @@ fn run(base: Address, pool: &[u8], table: &mut [u8], roots: &[u8], stack: &mut [
 // entry of the mark stack is then zero. That the definition does so is shown in the crate keeping (keeps-exactly).
 pub fn collect(
     base: Address,
+    t: usize,
     pool: &[u8],
     table: &mut [u8],
     roots: &[u8],
     stack: &mut [u8],
 ) -> Collected
-    ensures { λ r. ⌜ outcomeOf r (now (pool .entry)) (now (table .exit)) (now (stack .exit))
-        ≡ collectOf (base .0) (heapOf (now (pool .entry)) (now (table .entry))) (now (roots .entry)) (now (stack .entry)) ⌝ }
+    ensures { λ r. ⌜ resultOf r (now (pool .entry)) (now (table .exit)) (now (stack .exit))
+        ≡ perform (planes t) (Collect (base .0) (now (roots .entry))) (now (stack .entry)) (memory (now (pool .entry)) (now (table .entry))) ⌝ }
 {
-    let r = checks::collection(base, pool, &*table, roots, &*stack);
+    let r = checks::collection(base, t, pool, &*table, roots, &*stack);
     if r != 0 {
         return Collected {
             refusal: r,
@@ -57,5 +66,5 @@ pub fn collect(
             change: 0,
         };
     }
-    run(base, pool, table, roots, stack)
+    run(base, t, pool, table, roots, stack)
 }

@@ -1,34 +1,34 @@
--- Each way a call can end, as the outcome that the rules give: refused by a test, out of room, or done.
+-- Each way a call can end, as the result that the rules give on lent memory: refused by a test, out of room, or done.
 -- Assumes nothing.
 use mathlib.Core.Path.{_≡_, refl, sym, ap, _∙_}
 use mathlib.Core.Bool.{Bool, true, false, not}
-use mathlib.Core.List.{List, [], _∷_}
+use mathlib.Core.List.{List, [], _∷_, _++_}
 use mathlib.Core.Option.{some, none}
-use Prim.Native.Nat.{ℕ, _+_, _-_, _*_, _^_, _≤_, _<_}
+use Prim.Native.Nat.{ℕ, suc, _+_, _-_, _*_, _≤_, _<_}
 use native.Mathlib.Omega.{arith}
-use borrow.Author.Tests.{leb-false, le-ltb}
+use lib.Dec.{eqb, ltb}
+use borrow.Author.Tests.{ltb-true, leb-false, le-ltb}
 use lib.IntN.{ℤ, pos, negℤ, subℕ}
 use lib.ListN.{length, replicate}
-use lib.Signed.{mag}
-use mir.Syntax.{w32}
-use mir.Val.{toZ, ofZ}
-use mir.ValLaws.{toZ-ofZ}
-use Rattle.rules.specs.Tests.{isNone}
+use Rattle.rules.specs.Tests.{both, either, isNone}
 use Rattle.rules.specs.Words.{wordAt, withWord}
-use Rattle.rules.specs.Entries.{entriesOf}
 use Rattle.rules.specs.Tables.{blockCount, firstFit, released, used, objects, longest}
-use Rattle.rules.specs.Meaning.{Shape}
-use Rattle.rules.specs.Outcomes.{heapOf, changeFrom}
-use Rattle.rules.specs.Refusals.{firstOf, goodShape, badShape, noBytes, outside, noHead, noWord, noRoom, heapTests, requestTests, objectTests, wordTests}
-use Rattle.rules.specs.Calls.{init, blocksFor, taken, placing, allocate, free, freed as freedHeap, survey, load, store}
+use Rattle.rules.specs.Meaning.{AllBytes, Shape, Named}
+use Rattle.rules.specs.Outcomes.{Heap, Answer, Outcome, changeFrom, onlyRefusal, placedAt, leaves, findings, reading}
+use Rattle.rules.specs.Refusals.{Test, test, firstOf, goodShape, badShape, noBytes, outside, noHead, noWord, noRoom, initTests, heapTests, nameTests, requestTests, objectTests, resizeTests, wordTests}
+use Rattle.rules.specs.Planes.{planesOf, planes, entriesIn, Sized, IsTable, Holds, heapAt}
+use Rattle.rules.specs.Calls.{init, blocksFor, taken, placing, allocate, allocateTests, free, freed as freedHeap, Way, stay, shrink, grow, move, noWay, isNoWay, wayOf, along, reallocate, reallocateTests, survey, load, store}
+use Rattle.rules.specs.Runs.{Call, Init, Allocate, Free, Reallocate, Survey, Load, Store, step}
+use Rattle.rules.specs.Memory.{Memory, memory, Sound, result, readsTable, stackFor, testsIn, perform}
+use Rattle.rules.proofs.Planes.{planes-faithful, is-table, table-sound}
 use Rattle.rules.proofs.Tables.{first-fits, extent-of}
-use Rattle.rules.proofs.Refusals.{first-yes, first-last, first-less, first-more, first-none, refuses, accepts, passed, asked, named-object, after-names}
+use Rattle.checks.proofs.FirstTests.{sized-by}
+use Rattle.rules.proofs.Refusals.{refusal-is, true-not-false, both-false, both-left, both-right, not-false, not-true, numbered, first-yes, first-last, first-more, first-none, first-rest, accepts, passed, asked, named-object, after-names}
 use Rattle.rules.proofs.Calls.{blocks-some, allocate-change, free-change}
-use Rattle.heap.specs.Answers.{status, placed, unplacedBy, freed, surveyed, loaded}
-
--- a signed number is what its 32 bits say
-pub signed : (z : ℤ) → mag z < 2 ^ 31 → toZ w32 (ofZ w32 z) ≡ z
-signed z h = toZ-ofZ w32 z (record { sfits = h })
+use Rattle.rules.proofs.Memory.{Ended, accepted, refused as refusedBy, step-ended, tests-own, sound-of, refused-first-in, left-in, acted-in}
+use Rattle.checks.specs.Refusal.{refusalBy}
+use Rattle.heap.specs.Answers.{status, placeOf, placed, placedIn, unplacedBy, freed, surveyed, loaded}
+use Rattle.heap.specs.declared.Placed.{Placed}
 
 -- a difference from nothing
 pub gained : (b : ℕ) → subℕ b 0 ≡ pos b
@@ -37,104 +37,241 @@ gained b = let e : b - 0 ≡ b = omega arith in rw (le-ltb b 0 (omega arith), e)
 positive : {r : ℕ} → (r ≡ 0 → ⊥) → 0 < r
 positive ne = omega arith
 
-module _ (base : ℕ) (pool table : List ℕ) where
+-- the last test does not hold, if none does
+last-none : (ts : List Test) (u : Test) → numbered ts ≡ true → 0 < u .number → firstOf (ts ++ u ∷ []) ≡ 0 → u .holds ≡ false
+last-none [] u n p e = first-none u [] p e .0
+last-none (t ∷ ts) u n p e =
+    last-none ts u (both-right (ltb 0 (t .number)) (numbered ts) n) p (first-rest t (ts ++ u ∷ []) (ltb-true 0 (t .number) (both-left (ltb 0 (t .number)) (numbered ts) n)) e)
+
+-- where there is a way to reallocate, it is no refusal
+along-accepts : (w : Way) (h : Heap) (k b c : ℕ) → isNoWay w ≡ false → along w h k b c .answer .refusal ≡ 0
+unfolding along placing
+along-accepts stay h k b c e = refl
+along-accepts shrink h k b c e = refl
+along-accepts grow h k b c e = refl
+along-accepts (move s) h k b c e = refl
+along-accepts noWay h k b c e = absurd (true-not-false refl e)
+
+-- the tests of an init of bad shape, or of a table whose length does not fit, give 1
+init-number : (good fits : Bool) → both good fits ≡ false → let n = firstOf (badShape good ∷ []) in
+    firstOf (test 1 (either (eqb n 1) (not fits)) ∷ test 2 (either (eqb n 2) false) ∷ test n (not (eqb n 0)) ∷ []) ≡ 1
+unfolding firstOf
+init-number false fits e = refl
+init-number true false e = refl
+init-number true true e = absurd (true-not-false refl e)
+
+module _ (t base : ℕ) (pool table : List ℕ) where
+  abbrev h : Heap
+  h = heapAt t pool table
+
+  abbrev m : Memory
+  m = memory pool table
+
+  -- ---- any call that takes no mark stack
+
+  -- its tests, which have the number n on the heap, refuse it
+  refused : (c : Call) {r n : ℕ} → step c [] h .answer .refusal ≡ n → r ≡ firstOf (testsIn (planes t) c m n) → (r ≡ 0 → ⊥)
+      → result (onlyRefusal r) m (stackFor c []) ≡ perform (planes t) c [] m
+  refused c {r = r} own e ne = left-in (planes t) c [] m r (ap (λ (n : ℕ). firstOf (testsIn (planes t) c m n)) own ∙ sym e) (positive ne)
+
+  -- the tests of the heap do, and not the form
+  refused-own : (c : Call) (r : ℕ) → Sound (planes t) m → step c [] h .answer .refusal ≡ r → 0 < r
+      → result (onlyRefusal r) m (stackFor c []) ≡ perform (planes t) c [] m
+  refused-own c r s own p = refused c own (sym (tests-own (planes t) c m r (s .fits) (rw (s .clean) (both-false (readsTable c))))) (λ z. omega arith)
+
+  -- it acts, and leaves a table
+  acts : (c : Call) (pool′ table′ : List ℕ) (a : Answer) → Sound (planes t) m → AllBytes table′ → IsTable t table′ → a .refusal ≡ 0
+      → leaves a (heapAt t pool′ table′) ≡ step c [] h → result a (memory pool′ table′) [] ≡ perform (planes t) c [] m
+  acts c pool′ table′ a s bytes i z e =
+      acted-in (planes t) (planes-faithful t) c [] m (memory pool′ table′) [] a (s .fits) (rw (s .clean) (both-false (readsTable c))) bytes (table-sound t pool′ table′ i) z e
+
+  -- what its check tells, once it gave 0
+  pub record Checked (ts : List Test) : Type 0 where
+    pub sound : Sound (planes t) m
+    pub passes : firstOf (heapTests base h ++ ts) ≡ 0
+    pub shape : Shape base h
+    pub is : IsTable t table
+
+  checked : (ts : List Test) {r : ℕ} → r ≡ firstOf (testsIn (planes t) (Survey 0) m (firstOf (heapTests base h ++ ts))) → r ≡ 0 → Checked ts
+  checked ts test z =
+      let s = sound-of (planes t) m (heapTests base h ++ ts) test z in
+      let shape = passed base h ts (s .1) .shape in
+      record { sound = s .0; passes = s .1; shape = shape; is = is-table t pool table (shape .few) (s .0) }
+
   -- ---- init
 
-  pub init-refused : {g : Bool} → g ≡ goodShape base (heapOf pool table) → not g ≡ true → status 1 pool table ≡ init base (heapOf pool table)
-  unfolding init
-  init-refused e t = sym (refuses 1 _ _ _ (first-yes _ _ (ap not (sym e) ∙ t)) (omega arith))
+  module _ {g : Bool} (test : g ≡ both (goodShape base h) (planes t .fits table)) where
+    pub init-refused : not g ≡ true → status 1 pool table ≡ perform (planes t) (Init base) [] m
+    unfolding step init
+    init-refused n =
+        refused (Init base) (refusal-is (firstOf (initTests base h)) h [] _ (λ _. refl))
+        (sym (init-number (goodShape base h) (planes t .fits table) (sym test ∙ not-true _ n))) (λ z. omega arith)
 
-  pub init-done : {g : Bool} (after : List ℕ) → g ≡ goodShape base (heapOf pool table) → not g ≡ false
-      → entriesOf after ≡ replicate (length (entriesOf table)) 0 → status 0 pool after ≡ init base (heapOf pool table)
-  unfolding init
-  init-done after e t done = rw done (sym (accepts _ _ _ (first-last (badShape (goodShape base (heapOf pool table))) (ap not (sym e) ∙ t))))
+    pub init-done : (after : List ℕ) → not g ≡ false → AllBytes after → ((t : ℕ) → Sized t table → Holds t (replicate (length (entriesIn t table)) 0) after)
+        → status 0 pool after ≡ perform (planes t) (Init base) [] m
+    unfolding step init
+    init-done after n bytes done =
+        let e = sym test ∙ not-false _ n in
+        let d = done t (sized-by base t pool table test (not-false _ n)) in
+        acted-in (planes t) (planes-faithful t) (Init base) [] m (memory pool after) [] (onlyRefusal 0) (both-right (goodShape base h) _ e) refl bytes (table-sound t pool after (d .is-table)) refl
+        (rw (d .entries) (sym (accepts _ _ _ (first-last (badShape (goodShape base h)) (ap not (both-left (goodShape base h) _ e))))))
 
   -- ---- allocate
 
-  module _ (bytes : ℕ) {r : ℕ} (test : r ≡ firstOf (requestTests base (heapOf pool table) bytes)) where
-    pub allocate-refused : (r ≡ 0 → ⊥) → placed (unplacedBy r) pool table ≡ allocate base (heapOf pool table) bytes
-    unfolding allocate
-    allocate-refused ne =
-        sym (refuses r _ _ _ (first-less (requestTests base (heapOf pool table) bytes) _ r (positive ne) (sym test)) (positive ne))
+  module _ (bytes : ℕ) {r : ℕ} (test : r ≡ refusalBy t pool table (λ (g : Heap). requestTests base g bytes)) where
+    abbrev room : Test
+    room = noRoom (isNone (firstFit (entriesIn t table) (blocksFor bytes)))
 
-    pub allocate-full : r ≡ 0 → firstFit (entriesOf table) (blocksFor bytes) ≡ none → placed (unplacedBy 9) pool table ≡ allocate base (heapOf pool table) bytes
-    unfolding allocate
-    allocate-full z e =
-        sym (refuses 9 _ _ _
-        (first-more (requestTests base (heapOf pool table) bytes) _ refl (sym test ∙ z) ∙ first-yes (noRoom _) [] (ap isNone e)) (omega arith))
+    allocate-number : allocate base h bytes .answer .refusal ≡ firstOf (allocateTests base h bytes)
+    unfolding allocate placing
+    allocate-number = refusal-is (firstOf (allocateTests base h bytes)) h [] _ (λ _. refl)
 
-    -- what an allocation that is not refused knows
-    pub allocate-knows : r ≡ 0 → (0 < bytes) × Shape base (heapOf pool table)
-    allocate-knows ok = (asked base (heapOf pool table) bytes [] (sym test ∙ ok), passed base (heapOf pool table) (noBytes bytes ∷ []) (sym test ∙ ok) .shape)
+    pub allocate-refused : (r ≡ 0 → ⊥) → placed (unplacedBy r) pool table ≡ perform (planes t) (Allocate base bytes) [] m
+    unfolding step
+    allocate-refused ne = refused (Allocate base bytes) allocate-number (refused-first-in (planes t) m (requestTests base h bytes) (room ∷ []) refl refl test ne) ne
 
-    pub allocate-done : (k : ℕ) (z : ℤ) (pool′ table′ : List ℕ) → r ≡ 0 → firstFit (entriesOf table) (blocksFor bytes) ≡ some k
-        → heapOf pool′ table′ ≡ taken (heapOf pool table) k (blocksFor bytes) → z ≡ pos (blocksFor bytes)
-        → placed (record { refusal = 0; block = record { 0 = k }; change = z }) pool′ table′ ≡ allocate base (heapOf pool table) bytes
-    unfolding allocate placing taken
-    allocate-done k z pool′ table′ ok found done change =
+    pub allocate-checked : r ≡ 0 → Checked (noBytes bytes ∷ [])
+    allocate-checked ok = checked (noBytes bytes ∷ []) test ok
+
+    pub allocate-asks : r ≡ 0 → 0 < bytes
+    allocate-asks ok = asked base h bytes [] (allocate-checked ok .passes)
+
+    pub allocate-full : r ≡ 0 → firstFit (entriesIn t table) (blocksFor bytes) ≡ none → placed (unplacedBy 9) pool table ≡ perform (planes t) (Allocate base bytes) [] m
+    unfolding step
+    allocate-full ok e =
+        let k = allocate-checked ok in
+        refused-own (Allocate base bytes) 9 (k .sound)
+        (allocate-number ∙ first-more (requestTests base h bytes) _ refl (k .passes) ∙ first-yes (noRoom _) [] (ap isNone e)) (omega arith)
+
+    pub allocate-done : (k : ℕ) (z : ℤ) (pool′ table′ : List ℕ) → r ≡ 0 → AllBytes table′ → firstFit (entriesIn t table) (blocksFor bytes) ≡ some k
+        → IsTable t table′ × (heapAt t pool′ table′ ≡ taken h k (blocksFor bytes)) → z ≡ pos (blocksFor bytes)
+        → placed (record { refusal = 0; block = record { 0 = k }; change = z }) pool′ table′ ≡ perform (planes t) (Allocate base bytes) [] m
+    unfolding step allocate placing taken
+    allocate-done k z pool′ table′ ok all found done change =
         let b = blocksFor bytes in
-        let more = asked base (heapOf pool table) bytes [] (sym test ∙ ok) in
-        let run = first-fits (entriesOf table) b k (blocks-some bytes more) found .run in
-        let change′ = change ∙ sym (allocate-change (entriesOf table) k b (blocks-some bytes more) run) in
-        rw (done, change′, found) (sym (accepts _ _ _
-        (first-more (requestTests base (heapOf pool table) bytes) (noRoom false ∷ []) refl (sym test ∙ ok) ∙ first-last (noRoom false) refl)))
+        let p = allocate-checked ok in
+        let more = blocks-some bytes (allocate-asks ok) in
+        let run = first-fits (entriesIn t table) b k more found .run in
+        let change′ = change ∙ sym (allocate-change (entriesIn t table) k b more run) in
+        acts (Allocate base bytes) pool′ table′ (placedAt k z) (p .sound) all (done .0) refl
+        (rw (done .1, change′, found) (sym (accepts _ _ _ (first-more (requestTests base h bytes) (noRoom false ∷ []) refl (p .passes) ∙ first-last (noRoom false) refl))))
 
   -- ---- free
 
-  module _ (k : ℕ) {r : ℕ} (test : r ≡ firstOf (objectTests base (heapOf pool table) k)) where
-    pub free-refused : (r ≡ 0 → ⊥) → freed (record { refusal = r; change = pos 0 }) pool table ≡ free base (heapOf pool table) k
-    unfolding free
-    free-refused ne = sym (refuses r _ _ _ (sym test) (positive ne))
+  module _ (k : ℕ) {r : ℕ} (test : r ≡ refusalBy t pool table (λ (g : Heap). objectTests base g k)) where
+    pub free-refused : (r ≡ 0 → ⊥) → freed (record { refusal = r; change = pos 0 }) pool table ≡ perform (planes t) (Free base k) [] m
+    unfolding step free placing
+    free-refused ne = refused (Free base k) (refusal-is (firstOf (objectTests base h k)) h [] _ (λ _. refl)) test ne
 
-    pub free-done : (z : ℤ) (table′ : List ℕ) {b : ℕ} → r ≡ 0 → b ≡ blockCount (entriesOf table) k → entriesOf table′ ≡ released (entriesOf table) k b
-        → z ≡ negℤ (pos b) → freed (record { refusal = 0; change = z }) pool table′ ≡ free base (heapOf pool table) k
-    unfolding free placing freedHeap
-    free-done z table′ ok count done change =
-        let head = named-object base (heapOf pool table) k [] (sym test ∙ ok) .head in
-        let done′ : entriesOf table′ ≡ released (entriesOf table) k (blockCount (entriesOf table) k) = rw count at done in
-        let change′ : z ≡ changeFrom (entriesOf table) (released (entriesOf table) k (blockCount (entriesOf table) k)) =
-        change ∙ ap (λ (n : ℕ). negℤ (pos n)) count ∙ sym (free-change (entriesOf table) k head) in
-        rw (done′, change′) (sym (accepts _ _ _ (sym test ∙ ok)))
+    pub free-checked : r ≡ 0 → Checked (nameTests h k)
+    free-checked ok = checked (nameTests h k) test ok
+
+    pub free-named : r ≡ 0 → Named h k
+    free-named ok = named-object base h k [] (free-checked ok .passes)
+
+    pub free-done : (z : ℤ) (table′ : List ℕ) → r ≡ 0 → AllBytes table′ → Holds t (released (entriesIn t table) k (blockCount (entriesIn t table) k)) table′
+        → z ≡ negℤ (pos (blockCount (entriesIn t table) k)) → freed (record { refusal = 0; change = z }) pool table′ ≡ perform (planes t) (Free base k) [] m
+    unfolding step free placing freedHeap
+    free-done z table′ ok all done change =
+        let p = free-checked ok in
+        let change′ : z ≡ changeFrom (entriesIn t table) (released (entriesIn t table) k (blockCount (entriesIn t table) k)) =
+        change ∙ sym (free-change (entriesIn t table) k (free-named ok .head)) in
+        acts (Free base k) pool table′ (placedAt 0 z) (p .sound) all (done .is-table) refl (rw (done .entries, change′) (sym (accepts _ _ _ (p .passes))))
+
+  -- ---- reallocate
+
+  module _ (k bytes : ℕ) {r : ℕ} (test : r ≡ refusalBy t pool table (λ (g : Heap). resizeTests base g k bytes)) where
+    abbrev way : Test
+    way = noRoom (isNoWay (wayOf h k bytes))
+
+    reallocate-number : reallocate base h k bytes .answer .refusal ≡ firstOf (reallocateTests base h k bytes)
+    unfolding reallocate
+    reallocate-number =
+        refusal-is (firstOf (reallocateTests base h k bytes)) h [] _
+        (λ z. along-accepts (wayOf h k bytes) h k _ _ (last-none (resizeTests base h k bytes) way refl (omega arith) z))
+
+    pub reallocate-refused : (r ≡ 0 → ⊥) → placed (unplacedBy r) pool table ≡ perform (planes t) (Reallocate base k bytes) [] m
+    unfolding step
+    reallocate-refused ne = refused (Reallocate base k bytes) reallocate-number (refused-first-in (planes t) m (resizeTests base h k bytes) (way ∷ []) refl refl test ne) ne
+
+    pub reallocate-checked : r ≡ 0 → Checked (noBytes bytes ∷ nameTests h k)
+    reallocate-checked ok = checked (noBytes bytes ∷ nameTests h k) test ok
+
+    -- no way, or done: the outcome is that of the rules. A heap that is left as it was is left in the same bytes
+    pub reallocate-done : (a : Placed) (pool′ table′ : List ℕ) → r ≡ 0 → AllBytes table → AllBytes table′ → IsTable t table′
+        → placedIn a (heapAt t pool′ table′) ≡ reallocate base h k bytes → placed a pool′ table′ ≡ perform (planes t) (Reallocate base k bytes) [] m
+    unfolding step
+    reallocate-done a pool′ table′ ok all all′ i e = go (step-ended (Reallocate base k bytes) [] h)
+      where
+        s : Sound (planes t) m
+        s = reallocate-checked ok .sound
+
+        kept : entriesIn t table′ ≡ entriesIn t table → table′ ≡ table
+        kept q =
+            let s′ = table-sound t pool′ table′ i in
+            sym (planes-faithful t .write-read table′ all′ (s′ .fits) (s′ .clean)) ∙ ap (planesOf t) q ∙ planes-faithful t .write-read table all (s .fits) (s .clean)
+
+        go : Ended h [] (reallocate base h k bytes) → placed a pool′ table′ ≡ perform (planes t) (Reallocate base k bytes) [] m
+        go (accepted z) = acts (Reallocate base k bytes) pool′ table′ (placeOf a) s all′ i (ap (λ (o : Outcome). o .answer .refusal) e ∙ z) e
+        go (refusedBy n q) =
+            let left = e ∙ q in
+            let answer : placeOf a ≡ onlyRefusal (suc n) = ap (λ (o : Outcome). o .answer) left in
+            let bytes-same : pool′ ≡ pool = ap (λ (o : Outcome). o .heap .pool) left in
+            rw (answer, bytes-same, kept (ap (λ (o : Outcome). o .heap .entries) left))
+            (refused-own (Reallocate base k bytes) (suc n) s (ap (λ (o : Outcome). o .answer .refusal) q) (omega arith))
 
   -- ---- survey
 
-  module _ {r : ℕ} (test : r ≡ firstOf (heapTests base (heapOf pool table))) where
-    pub survey-refused : (r ≡ 0 → ⊥) → surveyed (record { refusal = r; used = 0; objects = 0; longest = 0 }) pool table ≡ survey base (heapOf pool table)
-    unfolding survey
-    survey-refused ne = sym (refuses r _ _ _ (sym test) (positive ne))
+  module _ {r : ℕ} (test : r ≡ refusalBy t pool table (λ (g : Heap). heapTests base g)) where
+    pub survey-refused : (r ≡ 0 → ⊥) → surveyed (record { refusal = r; used = 0; objects = 0; longest = 0 }) pool table ≡ perform (planes t) (Survey base) [] m
+    unfolding step survey
+    survey-refused ne = refused (Survey base) (refusal-is (firstOf (heapTests base h)) h [] _ (λ _. refl)) test ne
 
-    pub survey-done : (u n l : ℕ) → r ≡ 0 → u ≡ used (entriesOf table) → n ≡ objects (entriesOf table) → l ≡ longest (entriesOf table)
-        → surveyed (record { refusal = 0; used = u; objects = n; longest = l }) pool table ≡ survey base (heapOf pool table)
-    unfolding survey
-    survey-done u n l ok eu en el = rw (eu, en, el) (sym (accepts _ _ _ (sym test ∙ ok)))
+    pub survey-checked : r ≡ 0 → Checked []
+    survey-checked ok = checked [] test ok
+
+    pub survey-done : (u n l : ℕ) → r ≡ 0 → AllBytes table → u ≡ used (entriesIn t table) → n ≡ objects (entriesIn t table) → l ≡ longest (entriesIn t table)
+        → surveyed (record { refusal = 0; used = u; objects = n; longest = l }) pool table ≡ perform (planes t) (Survey base) [] m
+    unfolding step survey
+    survey-done u n l ok all eu en el =
+        let p = survey-checked ok in
+        acts (Survey base) pool table (findings 0 u n l) (p .sound) all (p .is) refl (rw (eu, en, el) (sym (accepts _ _ _ (p .passes))))
 
   -- ---- load and store
 
-  module _ (k i : ℕ) {r : ℕ} (test : r ≡ firstOf (wordTests base (heapOf pool table) k i)) where
-    pub load-refused : (r ≡ 0 → ⊥) → loaded (record { refusal = r; value = 0 }) pool table ≡ load base (heapOf pool table) k i
-    unfolding load
-    load-refused ne = sym (refuses r _ _ _ (sym test) (positive ne))
+  module _ (k i : ℕ) {r : ℕ} (test : r ≡ refusalBy t pool table (λ (g : Heap). wordTests base g k i)) where
+    word-checked : r ≡ 0 → Checked (outside h k ∷ noHead h k ∷ noWord h k i ∷ [])
+    word-checked ok = checked (outside h k ∷ noHead h k ∷ noWord h k i ∷ []) test ok
+
+    pub load-refused : (r ≡ 0 → ⊥) → loaded (record { refusal = r; value = 0 }) pool table ≡ perform (planes t) (Load base k i) [] m
+    unfolding step load
+    load-refused ne = refused (Load base k i) (refusal-is (firstOf (wordTests base h k i)) h [] _ (λ _. refl)) test ne
 
     -- with the object's first word at f
-    pub load-done : (w : ℕ) {f : ℕ} → r ≡ 0 → f ≡ 4 * k → w ≡ wordAt pool (f + i) → loaded (record { refusal = 0; value = w }) pool table ≡ load base (heapOf pool table) k i
-    unfolding load
-    load-done w ok first e = rw (e, first) (sym (accepts _ _ _ (sym test ∙ ok)))
+    pub load-done : (w : ℕ) {f : ℕ} → r ≡ 0 → AllBytes table → f ≡ 4 * k → w ≡ wordAt pool (f + i)
+        → loaded (record { refusal = 0; value = w }) pool table ≡ perform (planes t) (Load base k i) [] m
+    unfolding step load
+    load-done w ok all first e =
+        let p = word-checked ok in
+        acts (Load base k i) pool table (reading 0 w) (p .sound) all (p .is) refl (rw (e, first) (sym (accepts _ _ _ (p .passes))))
 
-    pub store-refused : (w : ℕ) → (r ≡ 0 → ⊥) → status r pool table ≡ store base (heapOf pool table) k i w
-    unfolding store
-    store-refused w ne = sym (refuses r _ _ _ (sym test) (positive ne))
+    pub store-refused : (w : ℕ) → (r ≡ 0 → ⊥) → status r pool table ≡ perform (planes t) (Store base k i w) [] m
+    unfolding step store
+    store-refused w ne = refused (Store base k i w) (refusal-is (firstOf (wordTests base h k i)) h [] _ (λ _. refl)) test ne
 
-    pub store-done : (w : ℕ) (pool′ : List ℕ) {f : ℕ} → r ≡ 0 → f ≡ 4 * k → pool′ ≡ withWord pool (f + i) w → status 0 pool′ table ≡ store base (heapOf pool table) k i w
-    unfolding store
-    store-done w pool′ ok first e = rw (e, first) (sym (accepts _ _ _ (sym test ∙ ok)))
+    pub store-done : (w : ℕ) (pool′ : List ℕ) {f : ℕ} → r ≡ 0 → AllBytes table → f ≡ 4 * k → pool′ ≡ withWord pool (f + i) w
+        → status 0 pool′ table ≡ perform (planes t) (Store base k i w) [] m
+    unfolding step store
+    store-done w pool′ ok all first e =
+        let p = word-checked ok in
+        acts (Store base k i w) pool′ table (onlyRefusal 0) (p .sound) all (p .is) refl (rw (e, first) (sym (accepts _ _ _ (p .passes))))
 
     -- the word lies in the pool
     pub word-inside : r ≡ 0 → (k < 4096) × (4 * (4 * k + i) + 4 ≤ length pool) × (length pool ≤ 65536)
     word-inside ok =
-        let e = sym test ∙ ok in
-        let shape = passed base (heapOf pool table) (outside (heapOf pool table) k ∷ noHead (heapOf pool table) k ∷ noWord (heapOf pool table) k i ∷ []) e .shape in
-        let name = named-object base (heapOf pool table) k (noWord (heapOf pool table) k i ∷ []) e in
-        let room = extent-of (entriesOf table) k (name .inside) .room in
-        let within = leb-false (4 * blockCount (entriesOf table) k) i (first-none (noWord (heapOf pool table) k i) [] (omega arith)
-        (after-names base (heapOf pool table) k (noWord (heapOf pool table) k i ∷ []) e) .0) in
+        let p = word-checked ok in
+        let shape = p .shape in
+        let name = named-object base h k (noWord h k i ∷ []) (p .passes) in
+        let room = extent-of (entriesIn t table) k (name .inside) .room in
+        let within = leb-false (4 * blockCount (entriesIn t table) k) i (first-none (noWord h k i) [] (omega arith) (after-names base h k (noWord h k i ∷ []) (p .passes)) .0) in
         (omega arith, omega arith, omega arith)

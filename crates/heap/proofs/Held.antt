@@ -2,29 +2,33 @@
 -- Assumes nothing.
 use mathlib.Core.Path.{_≡_, ap, _∙_}
 use mathlib.Core.List.{List}
-use Prim.Native.Nat.{ℕ, _+_, _≤_}
-use native.Mathlib.Omega.{arith}
+use Prim.Native.Nat.{ℕ, _+_, _^_, _≤_, _<_}
 use lib.IntN.{ℤ, subℕ}
 use lib.ListN.{length}
+use lib.Signed.{mag}
 use mir.Syntax.{w32}
 use mir.Val.{toZ, ofZ}
 use mir.ValLaws.{toZ-ofZ}
-use Rattle.rules.specs.Entries.{entriesOf}
+use Rattle.rules.specs.Planes.{entriesIn}
 use Rattle.rules.specs.Meaning.{Extent}
-use Rattle.rules.proofs.Entries.{length-entriesOf}
+use Rattle.rules.proofs.Planes.{few-entries}
 use Rattle.rules.proofs.Tables.{extent-of}
 use Rattle.memory.proofs.Signed.{sub-fits}
 use Rattle.heap.specs.Held.{Held}
 
-module _ {pool table : List ℕ} {k b : ℕ} (held : Held pool table k b) where
-  extent : Extent (entriesOf table) k b
-  extent = rw (held .count) (extent-of (entriesOf table) k (held .inside))
+module _ {t : ℕ} {pool table : List ℕ} {k b : ℕ} (held : Held t pool table k b) where
+  extent : Extent (entriesIn t table) k b
+  extent = rw (held .count) (extent-of (entriesIn t table) k (held .inside))
 
-  pub held-few : length (entriesOf table) ≤ 4096
-  held-few = omega (arith, held .few, length-entriesOf table)
+  pub held-few : length (entriesIn t table) ≤ 4096
+  held-few = few-entries t table (held .is-table)
 
-  pub held-room : k + b ≤ length (entriesOf table)
+  pub held-room : k + b ≤ length (entriesIn t table)
   held-room = extent .room
+
+-- a signed number is what its 32 bits say
+pub signed : (z : ℤ) → mag z < 2 ^ 31 → toZ w32 (ofZ w32 z) ≡ z
+signed z h = toZ-ofZ w32 z (record { sfits = h })
 
 -- a difference of small numbers, as the answer holds it in 32 bits
 pub change-is : (after before : ℕ) (d : ℤ) → after ≤ 4096 → before ≤ 4096 → d ≡ subℕ after before → toZ w32 (ofZ w32 d) ≡ subℕ after before

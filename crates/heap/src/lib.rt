@@ -1,16 +1,19 @@
 // The calls on a heap: init, allocate, free, reallocate, survey, load and store. Each checks its arguments first and then acts:
 // a refused call has written nothing.
 ghost use mathlib.Core.Path.{_≡_};
+ghost use mathlib.Core.List.{[]};
 ghost use Prim.Native.Nat.{_+_, _-_, _*_, _≤_, _<_};
 ghost use lib.IntN.{pos, negℤ};
 ghost use lib.ListN.{length};
-ghost use Rattle.rules.specs.Entries.{entriesOf};
 ghost use Rattle.rules.specs.Tables.{blockCount, firstFit, released};
 ghost use Rattle.rules.specs.Meaning.{GrowsInPlace};
-ghost use Rattle.rules.specs.Outcomes.{heapOf, clearedBlocks};
-ghost use Rattle.rules.specs.Calls.{init as initOf, allocate as allocateOf, free as freeOf, reallocate as reallocateOf, survey as surveyOf, load as loadOf, store as storeOf, taken, placing, shrunk, grown, movesTo, along};
+ghost use Rattle.rules.specs.Outcomes.{clearedBlocks};
+ghost use Rattle.rules.specs.Planes.{planes, entriesIn, IsTable, Holds, heapAt};
+ghost use Rattle.rules.specs.Calls.{taken, placing, shrunk, grown, movesTo, along};
+ghost use Rattle.rules.specs.Runs.{Init, Allocate, Free, Reallocate, Survey, Load, Store};
+ghost use Rattle.rules.specs.Memory.{memory, perform};
 ghost use Rattle.heap.specs.Held.{Held};
-ghost use Rattle.heap.specs.Answers.{status, placed, unplacedBy, freed, surveyed, loaded};
+ghost use Rattle.heap.specs.Answers.{status, placed, placedIn, unplacedBy, freed, surveyed, loaded};
 use memory::Address;
 use memory::Block;
 use memory::Bytes;
@@ -43,11 +46,11 @@ pub struct Loaded {
     pub value: u32,
 }
 
-// Every block becomes FREE. The pool is not touched.
-pub fn init(base: Address, pool: &[u8], table: &mut [u8]) -> u32
-    ensures { λ r. ⌜ status r (now (pool .entry)) (now (table .exit)) ≡ initOf (base .0) (heapOf (now (pool .entry)) (now (table .entry))) ⌝ }
+// Every block becomes FREE, and every spare bit zero. The pool is not touched.
+pub fn init(base: Address, t: usize, pool: &[u8], table: &mut [u8]) -> u32
+    ensures { λ r. ⌜ status r (now (pool .entry)) (now (table .exit)) ≡ perform (planes t) (Init (base .0)) [] (memory (now (pool .entry)) (now (table .entry))) ⌝ }
 {
-    if !checks::good_shape(base, pool, &*table) {
+    if !checks::good_shape(base, t, pool, &*table) {
         return 1;
     }
     entries::clear(table);
@@ -55,10 +58,10 @@ pub fn init(base: Address, pool: &[u8], table: &mut [u8]) -> u32
 }
 
 // An object of so many bytes, all zero, at the lowest start where its blocks fit.
-pub fn allocate(base: Address, pool: &mut [u8], table: &mut [u8], bytes: Bytes) -> Placed
-    ensures { λ r. ⌜ placed r (now (pool .exit)) (now (table .exit)) ≡ allocateOf (base .0) (heapOf (now (pool .entry)) (now (table .entry))) (bytes .0) ⌝ }
+pub fn allocate(base: Address, t: usize, pool: &mut [u8], table: &mut [u8], bytes: Bytes) -> Placed
+    ensures { λ r. ⌜ placed r (now (pool .exit)) (now (table .exit)) ≡ perform (planes t) (Allocate (base .0) (bytes .0)) [] (memory (now (pool .entry)) (now (table .entry))) ⌝ }
 {
-    let r = checks::request(base, &*pool, &*table, bytes);
+    let r = checks::request(base, t, &*pool, &*table, bytes);
     if r != 0 {
         return unplaced(r);
     }
@@ -66,9 +69,9 @@ pub fn allocate(base: Address, pool: &mut [u8], table: &mut [u8], bytes: Bytes) 
         return unplaced(9);
     }
     let count = bytes.blocks();
-    match table::first_fit(&*table, count) {
+    match table::first_fit(t, &*table, count) {
         Found::At(k) => {
-            take(&mut *pool, &mut *table, k, count);
+            take(t, &mut *pool, &mut *table, k, count);
             Placed {
                 refusal: 0,
                 block: k,
@@ -91,12 +94,12 @@ fn unplaced(refusal: u32) -> Placed
 }
 
 // A new object of count blocks at k, all its bytes zero.
-fn take(pool: &mut [u8], table: &mut [u8], k: Block, count: usize)
-    requires { ⌜ (length (now table) ≤ 1024) × (0 < count) ⌝ }
-    requires { ⌜ (k .0 + count ≤ length (entriesOf (now table))) × (16 * length (entriesOf (now table)) ≤ length (now pool)) ⌝ }
-    ensures { λ _. ⌜ heapOf (now (pool .exit)) (now (table .exit)) ≡ taken (heapOf (now (pool .entry)) (now (table .entry))) (k .0) count ⌝ }
+fn take(t: usize, pool: &mut [u8], table: &mut [u8], k: Block, count: usize)
+    requires { ⌜ IsTable t (now table) × (0 < count) ⌝ }
+    requires { ⌜ (k .0 + count ≤ length (entriesIn t (now table))) × (16 * length (entriesIn t (now table)) ≤ length (now pool)) ⌝ }
+    ensures { λ _. ⌜ IsTable t (now (table .exit)) × (heapAt t (now (pool .exit)) (now (table .exit)) ≡ taken (heapAt t (now (pool .entry)) (now (table .entry))) (k .0) count) ⌝ }
 {
-    table::place(table, k, count);
+    table::place(t, table, k, count);
     clear_blocks(pool, k, count);
 }
 
@@ -109,10 +112,10 @@ fn clear_blocks(pool: &mut [u8], k: Block, count: usize)
 }
 
 // The object's blocks become FREE. Its bytes stay.
-pub fn free(base: Address, pool: &[u8], table: &mut [u8], k: Block) -> Freed
-    ensures { λ r. ⌜ freed r (now (pool .entry)) (now (table .exit)) ≡ freeOf (base .0) (heapOf (now (pool .entry)) (now (table .entry))) (k .0) ⌝ }
+pub fn free(base: Address, t: usize, pool: &[u8], table: &mut [u8], k: Block) -> Freed
+    ensures { λ r. ⌜ freed r (now (pool .entry)) (now (table .exit)) ≡ perform (planes t) (Free (base .0) (k .0)) [] (memory (now (pool .entry)) (now (table .entry))) ⌝ }
 {
-    let r = checks::object(base, pool, &*table, k);
+    let r = checks::object(base, t, pool, &*table, k);
     if r != 0 {
         return Freed {
             refusal: r,
@@ -121,56 +124,57 @@ pub fn free(base: Address, pool: &[u8], table: &mut [u8], k: Block) -> Freed
     }
     Freed {
         refusal: 0,
-        change: free_object(table, k),
+        change: free_object(t, table, k),
     }
 }
 
 // The blocks of the object at k become FREE. Returns the change in used blocks.
-fn free_object(table: &mut [u8], k: Block) -> i32
-    requires { ⌜ (length (now table) ≤ 1024) × (k .0 < length (entriesOf (now table))) ⌝ }
-    ensures { λ r. ⌜ (entriesOf (now (table .exit)) ≡ released (entriesOf (now (table .entry))) (k .0) (blockCount (entriesOf (now (table .entry))) (k .0)))
-        × (r ≡ negℤ (pos (blockCount (entriesOf (now (table .entry))) (k .0)))) ⌝ }
+fn free_object(t: usize, table: &mut [u8], k: Block) -> i32
+    requires { ⌜ IsTable t (now table) × (k .0 < length (entriesIn t (now table))) ⌝ }
+    ensures { λ r. ⌜ Holds t (released (entriesIn t (now (table .entry))) (k .0) (blockCount (entriesIn t (now (table .entry))) (k .0))) (now (table .exit))
+        × (r ≡ negℤ (pos (blockCount (entriesIn t (now (table .entry))) (k .0)))) ⌝ }
 {
-    let count = table::block_count(&*table, k);
-    table::release(table, k, count);
+    let count = table::block_count(t, &*table, k);
+    table::release(t, table, k, count);
     memory::negated(count)
 }
 
 // The object at k gets so many bytes: it stays, gives blocks back, grows in place, or moves.
 pub fn reallocate(
     base: Address,
+    t: usize,
     pool: &mut [u8],
     table: &mut [u8],
     k: Block,
     bytes: Bytes,
 ) -> Placed
-    ensures { λ r. ⌜ placed r (now (pool .exit)) (now (table .exit)) ≡ reallocateOf (base .0) (heapOf (now (pool .entry)) (now (table .entry))) (k .0) (bytes .0) ⌝ }
+    ensures { λ r. ⌜ placed r (now (pool .exit)) (now (table .exit)) ≡ perform (planes t) (Reallocate (base .0) (k .0) (bytes .0)) [] (memory (now (pool .entry)) (now (table .entry))) ⌝ }
 {
-    let r = checks::resize(base, &*pool, &*table, k, bytes);
+    let r = checks::resize(base, t, &*pool, &*table, k, bytes);
     if r != 0 {
         return unplaced(r);
     }
     if !bytes.fits_in(&*pool) {
         return unplaced(9);
     }
-    let old = table::block_count(&*table, k);
+    let old = table::block_count(t, &*table, k);
     let new = bytes.blocks();
     if new <= old {
-        return shrink(&*pool, &mut *table, k, old, new);
+        return shrink(t, &*pool, &mut *table, k, old, new);
     }
-    if table::grows_in_place(&*table, k, old, new) {
-        return grow(&mut *pool, &mut *table, k, old, new);
+    if table::grows_in_place(t, &*table, k, old, new) {
+        return grow(t, &mut *pool, &mut *table, k, old, new);
     }
-    relocate(&mut *pool, &mut *table, k, old, new)
+    relocate(t, &mut *pool, &mut *table, k, old, new)
 }
 
 // The object's last blocks become FREE. Their bytes stay.
-fn shrink(pool: &[u8], table: &mut [u8], k: Block, old: usize, new: usize) -> Placed
-    requires { ⌜ Held (now pool) (now table) (k .0) old ⌝ }
+fn shrink(t: usize, pool: &[u8], table: &mut [u8], k: Block, old: usize, new: usize) -> Placed
+    requires { ⌜ Held t (now pool) (now table) (k .0) old ⌝ }
     requires { ⌜ (0 < new) × (new ≤ old) ⌝ }
-    ensures { λ r. ⌜ placed r (now (pool .entry)) (now (table .exit)) ≡ (let h = heapOf (now (pool .entry)) (now (table .entry)) in placing h (k .0) (shrunk h (k .0) old new)) ⌝ }
+    ensures { λ r. ⌜ IsTable t (now (table .exit)) × (placedIn r (heapAt t (now (pool .entry)) (now (table .exit))) ≡ (let h = heapAt t (now (pool .entry)) (now (table .entry)) in placing h (k .0) (shrunk h (k .0) old new))) ⌝ }
 {
-    table::release(table, k.plus(new), old - new);
+    table::release(t, table, k.plus(new), old - new);
     Placed {
         refusal: 0,
         block: k,
@@ -179,13 +183,13 @@ fn shrink(pool: &[u8], table: &mut [u8], k: Block, old: usize, new: usize) -> Pl
 }
 
 // The blocks directly after the object join it, all their bytes zero.
-fn grow(pool: &mut [u8], table: &mut [u8], k: Block, old: usize, new: usize) -> Placed
-    requires { ⌜ Held (now pool) (now table) (k .0) old ⌝ }
-    requires { ⌜ (old < new) × GrowsInPlace (entriesOf (now table)) (k .0) old new ⌝ }
-    ensures { λ r. ⌜ placed r (now (pool .exit)) (now (table .exit)) ≡ (let h = heapOf (now (pool .entry)) (now (table .entry)) in placing h (k .0) (grown h (k .0) old new)) ⌝ }
+fn grow(t: usize, pool: &mut [u8], table: &mut [u8], k: Block, old: usize, new: usize) -> Placed
+    requires { ⌜ Held t (now pool) (now table) (k .0) old ⌝ }
+    requires { ⌜ (old < new) × GrowsInPlace (entriesIn t (now table)) (k .0) old new ⌝ }
+    ensures { λ r. ⌜ IsTable t (now (table .exit)) × (placedIn r (heapAt t (now (pool .exit)) (now (table .exit))) ≡ (let h = heapAt t (now (pool .entry)) (now (table .entry)) in placing h (k .0) (grown h (k .0) old new))) ⌝ }
 {
     let end = k.plus(old);
-    table::extend(table, end, new - old);
+    table::extend(t, table, end, new - old);
     clear_blocks(pool, end, new - old);
     Placed {
         refusal: 0,
@@ -195,17 +199,17 @@ fn grow(pool: &mut [u8], table: &mut [u8], k: Block, old: usize, new: usize) -> 
 }
 
 // The object moves to the lowest start where its new blocks fit, sought while its old blocks are still held.
-fn relocate(pool: &mut [u8], table: &mut [u8], k: Block, old: usize, new: usize) -> Placed
-    requires { ⌜ Held (now pool) (now table) (k .0) old ⌝ }
+fn relocate(t: usize, pool: &mut [u8], table: &mut [u8], k: Block, old: usize, new: usize) -> Placed
+    requires { ⌜ Held t (now pool) (now table) (k .0) old ⌝ }
     requires { ⌜ (old < new) × (new ≤ 4096) ⌝ }
-    ensures { λ r. ⌜ placed r (now (pool .exit)) (now (table .exit)) ≡ (let h = heapOf (now (pool .entry)) (now (table .entry)) in along (movesTo (firstFit (h .entries) new)) h (k .0) old new) ⌝ }
+    ensures { λ r. ⌜ IsTable t (now (table .exit)) × (placedIn r (heapAt t (now (pool .exit)) (now (table .exit))) ≡ (let h = heapAt t (now (pool .entry)) (now (table .entry)) in along (movesTo (firstFit (h .entries) new)) h (k .0) old new)) ⌝ }
 {
-    match table::first_fit(&*table, new) {
+    match table::first_fit(t, &*table, new) {
         Found::At(s) => {
-            table::place(&mut *table, s, new);
+            table::place(t, &mut *table, s, new);
             memory::copy(&mut *pool, k.offset(), s.offset(), Bytes::of_blocks(old));
             clear_blocks(&mut *pool, s.plus(old), new - old);
-            table::release(&mut *table, k, old);
+            table::release(t, &mut *table, k, old);
             Placed {
                 refusal: 0,
                 block: s,
@@ -217,10 +221,10 @@ fn relocate(pool: &mut [u8], table: &mut [u8], k: Block, old: usize, new: usize)
 }
 
 // Used blocks, objects, and the longest run of FREE blocks.
-pub fn survey(base: Address, pool: &[u8], table: &[u8]) -> Surveyed
-    ensures { λ r. ⌜ surveyed r (now (pool .entry)) (now (table .entry)) ≡ surveyOf (base .0) (heapOf (now (pool .entry)) (now (table .entry))) ⌝ }
+pub fn survey(base: Address, t: usize, pool: &[u8], table: &[u8]) -> Surveyed
+    ensures { λ r. ⌜ surveyed r (now (pool .entry)) (now (table .entry)) ≡ perform (planes t) (Survey (base .0)) [] (memory (now (pool .entry)) (now (table .entry))) ⌝ }
 {
-    let r = checks::heap(base, pool, table);
+    let r = checks::heap(base, t, pool, table);
     if r != 0 {
         return Surveyed {
             refusal: r,
@@ -229,20 +233,20 @@ pub fn survey(base: Address, pool: &[u8], table: &[u8]) -> Surveyed
             longest: 0,
         };
     }
-    let counts = entries::whole::count(table);
+    let counts = whole::count(t, table);
     Surveyed {
         refusal: 0,
         used: counts.used as u32,
         objects: counts.objects as u32,
-        longest: freeruns::longest(table) as u32,
+        longest: freeruns::longest(t, table) as u32,
     }
 }
 
 // Word i of the object with head k.
-pub fn load(base: Address, pool: &[u8], table: &[u8], k: Block, i: usize) -> Loaded
-    ensures { λ r. ⌜ loaded r (now (pool .entry)) (now (table .entry)) ≡ loadOf (base .0) (heapOf (now (pool .entry)) (now (table .entry))) (k .0) i ⌝ }
+pub fn load(base: Address, t: usize, pool: &[u8], table: &[u8], k: Block, i: usize) -> Loaded
+    ensures { λ r. ⌜ loaded r (now (pool .entry)) (now (table .entry)) ≡ perform (planes t) (Load (base .0) (k .0) i) [] (memory (now (pool .entry)) (now (table .entry))) ⌝ }
 {
-    let r = checks::word(base, pool, table, k, i);
+    let r = checks::word(base, t, pool, table, k, i);
     if r != 0 {
         return Loaded {
             refusal: r,
@@ -256,10 +260,18 @@ pub fn load(base: Address, pool: &[u8], table: &[u8], k: Block, i: usize) -> Loa
 }
 
 // w becomes word i of the object with head k.
-pub fn store(base: Address, pool: &mut [u8], table: &[u8], k: Block, i: usize, w: u32) -> u32
-    ensures { λ r. ⌜ status r (now (pool .exit)) (now (table .entry)) ≡ storeOf (base .0) (heapOf (now (pool .entry)) (now (table .entry))) (k .0) i w ⌝ }
+pub fn store(
+    base: Address,
+    t: usize,
+    pool: &mut [u8],
+    table: &[u8],
+    k: Block,
+    i: usize,
+    w: u32,
+) -> u32
+    ensures { λ r. ⌜ status r (now (pool .exit)) (now (table .entry)) ≡ perform (planes t) (Store (base .0) (k .0) i w) [] (memory (now (pool .entry)) (now (table .entry))) ⌝ }
 {
-    let r = checks::word(base, &*pool, table, k, i);
+    let r = checks::word(base, t, &*pool, table, k, i);
     if r != 0 {
         return r;
     }

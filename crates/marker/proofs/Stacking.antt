@@ -10,8 +10,9 @@ use native.Mathlib.Omega.{arith}
 use lib.ListN.{length, set}
 use borrow.Author.Tests.{lt-ltb, le-ltb}
 use Rattle.rules.specs.Words.{wordAt, withWord}
-use Rattle.rules.specs.Entries.{HEAD, MARK, entriesOf}
+use Rattle.rules.specs.Entries.{HEAD, MARK}
 use Rattle.rules.specs.Tables.{entryAt, startOf}
+use Rattle.rules.specs.Planes.{entriesIn, Holds}
 use Rattle.rules.specs.Marking.{State, marked, pushed}
 use Rattle.rules.proofs.Words.{length-withWord, wordAt-withWord, wordAt-other}
 use Rattle.rules.proofs.Marks.{start-marked}
@@ -45,31 +46,33 @@ knows-marked es es′ k m h e q = q ∙ sym (rw e (start-marked es k (m .last .0
 pub knows-either : (es : List ℕ) (m r : Marking) (start k : ℕ) → Knows es m → start ≡ startOf es k → Remembers m start k r → Knows es r
 knows-either es m r start k q e w = ⊎-elim (λ a. rw (a .0, a .1) q) (λ a. rw (a .0, a .1) e) (w .scan)
 
-pub state-remembers : (table stack : List ℕ) (m r : Marking) (start k : ℕ) → Remembers m start k r → stateOf table stack r ≡ stateOf table stack m
-state-remembers table stack m r start k w = rw (w .depth, w .overflow)
+pub state-remembers : (t : ℕ) (table stack : List ℕ) (m r : Marking) (start k : ℕ) → Remembers m start k r → stateOf t table stack r ≡ stateOf t table stack m
+state-remembers t table stack m r start k w = rw (w .depth, w .overflow)
 
-pub came-to : {x y : State} {table stack : List ℕ} {m : Marking} → Came x table stack m → x ≡ y → Came y table stack m
-came-to c e = record { same = c .same ∙ e; deep = c .deep; knows = c .knows }
+pub came-to : {t : ℕ} {x y : State} {table stack : List ℕ} {m : Marking} → Came t x table stack m → x ≡ y → Came t y table stack m
+came-to c e = record { is-table = c .is-table; same = c .same ∙ e; deep = c .deep; knows = c .knows }
 
 -- the two ends of a push
-module _ (base : ℕ) (pool table stack : List ℕ) (m : Marking) (k : ℕ) (deep : m .depth ≤ length stack / 4) (knows : Knows (entriesOf table) m)
-    (head : entryAt (entriesOf table) k ≡ HEAD) {table′ : List ℕ} (set-to : entriesOf table′ ≡ set (entriesOf table) k MARK) where
+module _ (base t : ℕ) (pool table stack : List ℕ) (m : Marking) (k : ℕ) (deep : m .depth ≤ length stack / 4) (knows : Knows (entriesIn t table) m)
+    (head : entryAt (entriesIn t table) k ≡ HEAD) {table′ : List ℕ} (holds : Holds t (set (entriesIn t table) k MARK) table′) where
   pub came-pushes : {stack′ : List ℕ} → k < 2 ^ 32 → m .depth < length stack / 4 → stack′ ≡ withWord stack (m .depth) k
-      → Came (pushed (contextOf base pool stack) k (marked k (stateOf table stack m))) table′ stack′ (record { depth = m .depth + 1; overflow = m .overflow; first = m .first; last = m .last })
+      → Came t (pushed (contextOf base pool stack) k (marked k (stateOf t table stack m))) table′ stack′ (record { depth = m .depth + 1; overflow = m .overflow; first = m .first; last = m .last })
   unfolding pushed
   came-pushes b r f =
       record {
-        same = rw (stacked-length stack (m .depth), lt-ltb (m .depth) (length stack / 4) r, set-to, f, stacked-push stack k (m .depth) (omega arith) b);
+        is-table = holds .is-table;
+        same = rw (stacked-length stack (m .depth), lt-ltb (m .depth) (length stack / 4) r, holds .entries, f, stacked-push stack k (m .depth) (omega arith) b);
         deep = rw (f, length-withWord stack (m .depth) k) (omega arith);
-        knows = knows-marked (entriesOf table) (entriesOf table′) k m head set-to knows;
+        knows = knows-marked (entriesIn t table) (entriesIn t table′) k m head (holds .entries) knows;
       }
 
   pub came-loses : length stack / 4 ≤ m .depth
-      → Came (pushed (contextOf base pool stack) k (marked k (stateOf table stack m))) table′ stack (record { depth = m .depth; overflow = true; first = m .first; last = m .last })
+      → Came t (pushed (contextOf base pool stack) k (marked k (stateOf t table stack m))) table′ stack (record { depth = m .depth; overflow = true; first = m .first; last = m .last })
   unfolding pushed
   came-loses r =
       record {
-        same = rw (stacked-length stack (m .depth), le-ltb (m .depth) (length stack / 4) r, set-to);
+        is-table = holds .is-table;
+        same = rw (stacked-length stack (m .depth), le-ltb (m .depth) (length stack / 4) r, holds .entries);
         deep = deep;
-        knows = knows-marked (entriesOf table) (entriesOf table′) k m head set-to knows;
+        knows = knows-marked (entriesIn t table) (entriesIn t table′) k m head (holds .entries) knows;
       }

@@ -9,10 +9,11 @@ use native.Mathlib.Numerals.{add-one}
 use lib.ListN.{length, getD, drop}
 use Rattle.rules.specs.Words.{wordAt, wordsOf}
 use Rattle.rules.specs.Tables.{entryAt, blockCount, startOf}
-use Rattle.rules.specs.Entries.{entriesOf, MARK}
+use Rattle.rules.specs.Entries.{MARK}
+use Rattle.rules.specs.Planes.{entriesIn, IsTable}
 use Rattle.rules.specs.Marking.{Context, State, state, markedIn, visit, walkWords, walk, drain, trace, markRoot, markRoots, passBlock, passFrom, pass, rescan, markAll}
 use Rattle.rules.proofs.Words.{length-wordsOf, getD-wordsOf}
-use Rattle.rules.proofs.Entries.{length-entriesOf}
+use Rattle.rules.proofs.Planes.{same-length}
 use Rattle.rules.proofs.Marking.{words-turn, words-end, roots-turn, pass-walks, pass-turn, pass-end, toDrain, pop-less, walk-measure, drain-pop, drain-nil, toRescan, pass-measure, rescan-more, rescan-done, markAll-from, Sane, sane-pop, sane-walk}
 use Rattle.marker.specs.declared.Marking.{Marking}
 use Rattle.marker.specs.Variables.{stacked, contextOf, stateOf, idle, Shape, Came, CanTrace}
@@ -33,51 +34,52 @@ module _ (base : ℕ) (pool stack₀ : List ℕ) where
   unfolding walk
   walk-end k n first i s s₀ h f e r = words-end (contextOf base pool stack₀) first i s h r ∙ rw (f, e)
 
-pub shape-same : (pool table table′ : List ℕ) → Shape pool table → length table′ ≡ length table → Shape pool table′
-shape-same pool table table′ s e = record { small = omega (arith, s .small); whole = rw (length-entriesOf table′, e) (rw (length-entriesOf table) at (s .whole)) }
+-- any other table of 4t blocks has the same shape
+pub shape-same : (t : ℕ) (pool table table′ : List ℕ) → Shape t pool table → IsTable t table′ → Shape t pool table′
+shape-same t pool table table′ s i = record { is-table = i; whole = rw (same-length t table′ table) (s .whole) }
 
 -- at the start of a trace the stack is empty, and block 0 is its own start
-pub can-start : (pool table stack : List ℕ) (m : Marking) → Shape pool table → m .depth ≡ 0 → m .first .0 ≡ 0 → m .last .0 ≡ 0 → CanTrace pool table stack m
+pub can-start : (t : ℕ) (pool table stack : List ℕ) (m : Marking) → Shape t pool table → m .depth ≡ 0 → m .first .0 ≡ 0 → m .last .0 ≡ 0 → CanTrace t pool table stack m
 unfolding startOf
-can-start pool table stack m shape e f l =
+can-start t pool table stack m shape e f l =
     record { shape = shape; deep = omega arith; knows = rw (f, l) refl; below = λ k i. absurd (List·Memᴰ·not-nil (rw e at i)) }
 
 -- the block taken from the stack, with what is then left to trace
-pub record Popped (base : ℕ) (pool stack₀ table stack : List ℕ) (m : Marking) (k : ℕ) (table′ stack′ : List ℕ) (m′ : Marking) (w : ℕ) : Type 0 where
-  pub can : CanTrace pool table′ stack′ m′
-  pub inside : w < length (entriesOf table′)
-  pub less : toDrain (stateOf table′ stack′ m′) < toDrain (stateOf table stack m)
-  pub same : trace (contextOf base pool stack₀) w (stateOf table′ stack′ m′) ≡ trace (contextOf base pool stack₀) k (stateOf table stack m)
+pub record Popped (base t : ℕ) (pool stack₀ table stack : List ℕ) (m : Marking) (k : ℕ) (table′ stack′ : List ℕ) (m′ : Marking) (w : ℕ) : Type 0 where
+  pub can : CanTrace t pool table′ stack′ m′
+  pub inside : w < length (entriesIn t table′)
+  pub less : toDrain (stateOf t table′ stack′ m′) < toDrain (stateOf t table stack m)
+  pub same : trace (contextOf base pool stack₀) w (stateOf t table′ stack′ m′) ≡ trace (contextOf base pool stack₀) k (stateOf t table stack m)
 
 -- the walk of an object leaves a state from which the last pushed one is traced
-module _ (base : ℕ) (pool stack₀ table stack : List ℕ) (m : Marking) (can : CanTrace pool table stack m) (long : length stack ≡ length stack₀)
-    (k : ℕ) (table′ stack′ : List ℕ) (m′ : Marking) (t : length table′ ≡ length table) (came : Came (walk (contextOf base pool stack) k (stateOf table stack m)) table′ stack′ m′) where
+module _ (base t : ℕ) (pool stack₀ table stack : List ℕ) (m : Marking) (can : CanTrace t pool table stack m) (long : length stack ≡ length stack₀)
+    (k : ℕ) (table′ stack′ : List ℕ) (m′ : Marking) (came : Came t (walk (contextOf base pool stack) k (stateOf t table stack m)) table′ stack′ m′) where
   abbrev c : Context
   c = contextOf base pool stack₀
 
-  walked : stateOf table′ stack′ m′ ≡ walk c k (stateOf table stack m)
+  walked : stateOf t table′ stack′ m′ ≡ walk c k (stateOf t table stack m)
   walked = rw (context-same base pool stack₀ stack long) at (came .same)
 
-  sane : Sane c (length (entriesOf table)) (stateOf table′ stack′ m′)
-  sane = rw walked (sane-walk k (stateOf table stack m) (record { long = refl; below = can .below; fits = rw (stacked-length stack (m .depth), ← long) (can .deep) }))
+  sane : Sane c (length (entriesIn t table)) (stateOf t table′ stack′ m′)
+  sane = rw walked (sane-walk k (stateOf t table stack m) (record { long = refl; below = can .below; fits = rw (stacked-length stack (m .depth), ← long) (can .deep) }))
 
-  pub trace-end : m′ .depth ≡ 0 → idle table′ (m′ .overflow) ≡ trace c k (stateOf table stack m)
+  pub trace-end : m′ .depth ≡ 0 → idle t table′ (m′ .overflow) ≡ trace c k (stateOf t table stack m)
   unfolding trace
-  trace-end e = sym (drain-nil c (entriesOf table′) (m′ .overflow)) ∙ (rw e at (ap (drain c) walked))
+  trace-end e = sym (drain-nil c (entriesIn t table′) (m′ .overflow)) ∙ (rw e at (ap (drain c) walked))
 
   pub popped : (w : ℕ) → 0 < m′ .depth → w ≡ wordAt stack′ (m′ .depth - 1)
-      → Popped base pool stack₀ table stack m k table′ stack′ (record { depth = m′ .depth - 1; overflow = m′ .overflow; first = m′ .first; last = m′ .last }) w
+      → Popped base t pool stack₀ table stack m k table′ stack′ (record { depth = m′ .depth - 1; overflow = m′ .overflow; first = m′ .first; last = m′ .last }) w
   unfolding trace
   popped w h e =
       let st : List ℕ = stacked stack′ (m′ .depth - 1) in
-      let full : stateOf table′ stack′ m′ ≡ state (entriesOf table′) (w ∷ st) (m′ .overflow) = rw (e, stacked-pop stack′ (m′ .depth) h) in
-      let g : Sane c (length (entriesOf table)) (state (entriesOf table′) (w ∷ st) (m′ .overflow)) = rw full at sane in
-      let l : length (entriesOf table′) ≡ length (entriesOf table) = g .long in
+      let full : stateOf t table′ stack′ m′ ≡ state (entriesIn t table′) (w ∷ st) (m′ .overflow) = rw (e, stacked-pop stack′ (m′ .depth) h) in
+      let g : Sane c (length (entriesIn t table)) (state (entriesIn t table′) (w ∷ st) (m′ .overflow)) = rw full at sane in
+      let l : length (entriesIn t table′) ≡ length (entriesIn t table) = g .long in
       record {
-        can = record { shape = shape-same pool table table′ (can .shape) t; deep = omega (arith, came .deep); knows = came .knows; below = rw l (sane-pop g .below) };
+        can = record { shape = shape-same t pool table table′ (can .shape) (came .is-table); deep = omega (arith, came .deep); knows = came .knows; below = rw l (sane-pop g .below) };
         inside = rw l (g .below w (List·Memᴰ·head refl));
-        less = omega (arith, walk-measure c k (stateOf table stack m), ap toDrain (sym full ∙ walked), pop-less (entriesOf table′) w st (m′ .overflow));
-        same = sym (drain-pop c (entriesOf table′) w st (m′ .overflow)) ∙ ap (drain c) (sym full ∙ walked);
+        less = omega (arith, walk-measure c k (stateOf t table stack m), ap toDrain (sym full ∙ walked), pop-less (entriesIn t table′) w st (m′ .overflow));
+        same = sym (drain-pop c (entriesIn t table′) w st (m′ .overflow)) ∙ ap (drain c) (sym full ∙ walked);
       }
 
 -- a block that is MARK, traced
@@ -97,31 +99,32 @@ module _ (base : ℕ) (pool stack₀ : List ℕ) where
       → passFrom (contextOf base pool stack₀) k (n - k) s ≡ z → passFrom (contextOf base pool stack₀) (k + 1) (n - (k + 1)) s′ ≡ z
   pass-next k n stack s h e q r = pass-turn (contextOf base pool stack₀) k n s h (context-same base pool stack₀ stack e) q r
 
-  pub pass-last : (k n : ℕ) (table₀ : List ℕ) (s : State) → n ≤ k → n ≡ length (entriesOf table₀)
-      → passFrom (contextOf base pool stack₀) k (n - k) s ≡ passFrom (contextOf base pool stack₀) 0 n (idle table₀ false) → s ≡ pass (contextOf base pool stack₀) (idle table₀ true)
+module _ (base t : ℕ) (pool stack₀ : List ℕ) where
+  pub pass-last : (k n : ℕ) (table₀ : List ℕ) (s : State) → n ≤ k → n ≡ length (entriesIn t table₀)
+      → passFrom (contextOf base pool stack₀) k (n - k) s ≡ passFrom (contextOf base pool stack₀) 0 n (idle t table₀ false) → s ≡ pass (contextOf base pool stack₀) (idle t table₀ true)
   unfolding pass
   pass-last k n table₀ s h e r = pass-end (contextOf base pool stack₀) k n s h r ∙ rw e
 
   -- what a rescan leaves
   pub record Rescanned (table table′ : List ℕ) (overflow overflow′ : Bool) : Type 0 where
-    pub less : toRescan (idle table′ overflow′) < toRescan (idle table overflow)
-    pub same : (r : ℕ) → rescan (contextOf base pool stack₀) (idle table′ overflow′) (r + 1) ≡ rescan (contextOf base pool stack₀) (idle table overflow) r
+    pub less : toRescan (idle t table′ overflow′) < toRescan (idle t table overflow)
+    pub same : (r : ℕ) → rescan (contextOf base pool stack₀) (idle t table′ overflow′) (r + 1) ≡ rescan (contextOf base pool stack₀) (idle t table overflow) r
 
   pub rescanned : (stack table table′ : List ℕ) (overflow overflow′ : Bool) → overflow ≡ true → length stack ≡ length stack₀
-      → idle table′ overflow′ ≡ pass (contextOf base pool stack) (idle table true) → Rescanned table table′ overflow overflow′
+      → idle t table′ overflow′ ≡ pass (contextOf base pool stack) (idle t table true) → Rescanned table table′ overflow overflow′
   rescanned stack table table′ overflow overflow′ h e q =
       let c : Context = contextOf base pool stack₀ in
-      let p : idle table′ overflow′ ≡ pass c (idle table true) = rw (context-same base pool stack₀ stack e) at q in
+      let p : idle t table′ overflow′ ≡ pass c (idle t table true) = rw (context-same base pool stack₀ stack e) at q in
       record {
-        less = rw (p, h) (pass-measure c (idle table true) refl);
-        same = λ r. rw (p, h, add-one) (sym (rescan-more c (idle table true) r refl));
+        less = rw (p, h) (pass-measure c (idle t table true) refl);
+        same = λ r. rw (p, h, add-one) (sym (rescan-more c (idle t table true) r refl));
       }
 
-pub mark-end : (base : ℕ) (pool stack stack₀ roots table table₁ table₂ : List ℕ) (overflow₁ overflow : Bool) (r : ℕ) → length stack ≡ length stack₀ → overflow ≡ false
-    → idle table₁ overflow₁ ≡ markRoots (contextOf base pool stack₀) (wordsOf roots) (idle table false)
-    → rescan (contextOf base pool stack) (idle table₂ overflow) r ≡ rescan (contextOf base pool stack) (idle table₁ overflow₁) 0
-    → markedIn (idle table₂ false) r ≡ markAll (contextOf base pool stack₀) (wordsOf roots) (entriesOf table)
-mark-end base pool stack stack₀ roots table table₁ table₂ overflow₁ overflow r e h q i =
+pub mark-end : (base t : ℕ) (pool stack stack₀ roots table table₁ table₂ : List ℕ) (overflow₁ overflow : Bool) (r : ℕ) → length stack ≡ length stack₀ → overflow ≡ false
+    → idle t table₁ overflow₁ ≡ markRoots (contextOf base pool stack₀) (wordsOf roots) (idle t table false)
+    → rescan (contextOf base pool stack) (idle t table₂ overflow) r ≡ rescan (contextOf base pool stack) (idle t table₁ overflow₁) 0
+    → markedIn (idle t table₂ false) r ≡ markAll (contextOf base pool stack₀) (wordsOf roots) (entriesIn t table)
+mark-end base t pool stack stack₀ roots table table₁ table₂ overflow₁ overflow r e h q i =
     let c : Context = contextOf base pool stack₀ in
-    let j : rescan c (idle table₂ false) r ≡ rescan c (idle table₁ overflow₁) 0 = rw (context-same base pool stack₀ stack e, h) at i in
-    sym (rescan-done c (idle table₂ false) r refl) ∙ j ∙ sym (markAll-from c (wordsOf roots) (entriesOf table) q refl)
+    let j : rescan c (idle t table₂ false) r ≡ rescan c (idle t table₁ overflow₁) 0 = rw (context-same base pool stack₀ stack e, h) at i in
+    sym (rescan-done c (idle t table₂ false) r refl) ∙ j ∙ sym (markAll-from c (wordsOf roots) (entriesIn t table) q refl)

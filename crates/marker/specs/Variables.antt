@@ -7,9 +7,9 @@ use mathlib.Core.List.{List, [], _∷_, List·Memᴰ}
 use Prim.Native.Nat.{ℕ, zero, suc, _*_, _/_, _≤_, _<_}
 use lib.ListN.{length}
 use Rattle.rules.specs.Words.{wordAt}
-use Rattle.rules.specs.Entries.{entriesOf}
 use Rattle.rules.specs.Tables.{startOf}
 use Rattle.rules.specs.Marking.{Context, State, state}
+use Rattle.rules.specs.Planes.{entriesIn, IsTable}
 use Rattle.marker.specs.declared.Marking.{Marking}
 
 -- the first d words of the lent stack, the last first
@@ -22,17 +22,17 @@ abbrev pub contextOf : ℕ → List ℕ → List ℕ → Context
 contextOf base pool stack = record { base = base; pool = pool; room = length stack / 4 }
 
 -- what the lent stack holds from its depth on is not part of the state
-abbrev pub stateOf : List ℕ → List ℕ → Marking → State
-stateOf table stack m = state (entriesOf table) (stacked stack (m .depth)) (m .overflow)
+abbrev pub stateOf : ℕ → List ℕ → List ℕ → Marking → State
+stateOf t table stack m = state (entriesIn t table) (stacked stack (m .depth)) (m .overflow)
 
 -- the state between walks: the mark stack is empty
-abbrev pub idle : List ℕ → Bool → State
-idle table overflow = state (entriesOf table) [] overflow
+abbrev pub idle : ℕ → List ℕ → Bool → State
+idle t table overflow = state (entriesIn t table) [] overflow
 
--- a pool of 16 bytes for each of at most 4,096 blocks
-pub record Shape (pool table : List ℕ) : Type 0 where
-  pub small : length table ≤ 1024
-  pub whole : length pool ≡ 16 * length (entriesOf table)
+-- a pool of 16 bytes for each block of the table
+pub record Shape (t : ℕ) (pool table : List ℕ) : Type 0 where
+  pub is-table : IsTable t table
+  pub whole : length pool ≡ 16 * length (entriesIn t table)
 
 -- what is remembered of a back scan holds: the object of block `last` starts at block `first`
 abbrev pub Knows : List ℕ → Marking → Type 0
@@ -45,14 +45,15 @@ pub record Remembers (m : Marking) (start k : ℕ) (r : Marking) : Type 0 where
   pub scan : ((r .first .0 ≡ m .first .0) × (r .last .0 ≡ m .last .0)) ⊎ ((r .first .0 ≡ start) × (r .last .0 ≡ k))
 
 -- the variables stand for the state `to`, the depth is within the stack, and what is remembered holds
-pub record Came (to : State) (table stack : List ℕ) (m : Marking) : Type 0 where
-  pub same : stateOf table stack m ≡ to
+pub record Came (t : ℕ) (to : State) (table stack : List ℕ) (m : Marking) : Type 0 where
+  pub is-table : IsTable t table
+  pub same : stateOf t table stack m ≡ to
   pub deep : m .depth ≤ length stack / 4
-  pub knows : Knows (entriesOf table) m
+  pub knows : Knows (entriesIn t table) m
 
 -- what tracing asks: the words of the stack that are in use are blocks of the table
-pub record CanTrace (pool table stack : List ℕ) (m : Marking) : Type 0 where
-  pub shape : Shape pool table
+pub record CanTrace (t : ℕ) (pool table stack : List ℕ) (m : Marking) : Type 0 where
+  pub shape : Shape t pool table
   pub deep : m .depth ≤ length stack / 4
-  pub knows : Knows (entriesOf table) m
-  pub below : (k : ℕ) → List·Memᴰ k (stacked stack (m .depth)) → k < length (entriesOf table)
+  pub knows : Knows (entriesIn t table) m
+  pub below : (k : ℕ) → List·Memᴰ k (stacked stack (m .depth)) → k < length (entriesIn t table)

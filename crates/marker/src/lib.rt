@@ -6,7 +6,8 @@ ghost use mathlib.Core.Option.{some};
 ghost use Prim.Native.Nat.{ℕ, _/_, _≤_, _<_};
 ghost use lib.ListN.{length};
 ghost use Rattle.rules.specs.Words.{wordsOf};
-ghost use Rattle.rules.specs.Entries.{HEAD, entriesOf};
+ghost use Rattle.rules.specs.Entries.{HEAD};
+ghost use Rattle.rules.specs.Planes.{entriesIn, IsTable};
 ghost use Rattle.rules.specs.Tables.{entryAt, startOf};
 ghost use Rattle.rules.specs.Pointers.{headAt};
 ghost use Rattle.rules.specs.Marking.{markedIn, markAll, marked, pushed, visitTo, visit as visitOf, walk as walkOf, trace as traceOf, markRoot, markRoots, passBlock, pass};
@@ -25,13 +26,13 @@ pub struct Marking {
 }
 
 // Block k, a HEAD, becomes MARK and is pushed, or the overflow is set.
-fn push(table: &mut [u8], stack: &mut [u8], m: Marking, k: Block) -> Marking
-    requires { ⌜ (length (now table) ≤ 1024) × ((m .depth ≤ length (now stack) / 4) × Knows (entriesOf (now table)) m) ⌝ }
-    requires { ⌜ entryAt (entriesOf (now table)) (k .0) ≡ HEAD ⌝ }
-    ensures { λ r. ⌜ ((base : ℕ) (pool : List ℕ) → Came (pushed (contextOf base pool (now (stack .entry))) (k .0) (marked (k .0) (stateOf (now (table .entry)) (now (stack .entry)) m)))
+fn push(t: usize, table: &mut [u8], stack: &mut [u8], m: Marking, k: Block) -> Marking
+    requires { ⌜ IsTable t (now table) × ((m .depth ≤ length (now stack) / 4) × Knows (entriesIn t (now table)) m) ⌝ }
+    requires { ⌜ entryAt (entriesIn t (now table)) (k .0) ≡ HEAD ⌝ }
+    ensures { λ r. ⌜ ((base : ℕ) (pool : List ℕ) → Came t (pushed (contextOf base pool (now (stack .entry))) (k .0) (marked (k .0) (stateOf t (now (table .entry)) (now (stack .entry)) m)))
         (now (table .exit)) (now (stack .exit)) r) ⌝ }
 {
-    entries::set_entry(&mut *table, k, entries::MARK);
+    entries::set_mark(t, &mut *table, k);
     let d = m.depth;
     let first = m.first;
     let last = m.last;
@@ -54,16 +55,16 @@ fn push(table: &mut [u8], stack: &mut [u8], m: Marking, k: Block) -> Marking
 }
 
 // Where the object of block k starts: as remembered, or by the table.
-fn start_of(table: &[u8], m: Marking, k: Block) -> Block
-    requires { ⌜ (length (now table) ≤ 1024) × ((k .0 < length (entriesOf (now table))) × Knows (entriesOf (now table)) m) ⌝ }
-    ensures { λ r. ⌜ r .0 ≡ startOf (entriesOf (now (table .entry))) (k .0) ⌝ }
+fn start_of(t: usize, table: &[u8], m: Marking, k: Block) -> Block
+    requires { ⌜ IsTable t (now table) × ((k .0 < length (entriesIn t (now table))) × Knows (entriesIn t (now table)) m) ⌝ }
+    ensures { λ r. ⌜ r .0 ≡ startOf (entriesIn t (now (table .entry))) (k .0) ⌝ }
 {
     if k.is_at_or_after(m.first) {
         if m.last.is_at_or_after(k) {
             return m.first;
         }
     }
-    entries::back::start(table, k)
+    backscan::start(t, table, k)
 }
 
 // The scan from block k back to the start of its object is remembered, if it is longer than the one before.
@@ -86,37 +87,36 @@ fn remember(m: Marking, start: Block, k: Block) -> Marking
 }
 
 // Block k, a TAIL, is the target of a word of a walked object: the object's head, if it is HEAD, becomes MARK and is pushed.
-fn visit_tail(table: &mut [u8], stack: &mut [u8], m: Marking, k: Block) -> Marking
-    requires { ⌜ (length (now table) ≤ 1024) × ((m .depth ≤ length (now stack) / 4) × Knows (entriesOf (now table)) m) ⌝ }
-    requires { ⌜ k .0 < length (entriesOf (now table)) ⌝ }
-    ensures { λ r. ⌜ ((base : ℕ) (pool : List ℕ) → Came
-        (visitTo (contextOf base pool (now (stack .entry))) (stateOf (now (table .entry)) (now (stack .entry)) m) (headAt (entriesOf (now (table .entry))) (some (k .0))))
+fn visit_tail(t: usize, table: &mut [u8], stack: &mut [u8], m: Marking, k: Block) -> Marking
+    requires { ⌜ IsTable t (now table) × ((m .depth ≤ length (now stack) / 4) × Knows (entriesIn t (now table)) m) ⌝ }
+    requires { ⌜ k .0 < length (entriesIn t (now table)) ⌝ }
+    ensures { λ r. ⌜ ((base : ℕ) (pool : List ℕ) → Came t
+        (visitTo (contextOf base pool (now (stack .entry))) (stateOf t (now (table .entry)) (now (stack .entry)) m) (headAt (entriesIn t (now (table .entry))) (some (k .0))))
         (now (table .exit)) (now (stack .exit)) r) ⌝ }
 {
-    let head = start_of(&*table, m, k);
+    let head = start_of(t, &*table, m, k);
     let seen = remember(m, head, k);
-    if entries::entry(&*table, head) != entries::HEAD {
+    if !entries::is_head(t, &*table, head) {
         return seen;
     }
-    push(&mut *table, &mut *stack, seen, head)
+    push(t, &mut *table, &mut *stack, seen, head)
 }
 
 // A word of a walked object: if it leads to a HEAD, that becomes MARK and is pushed, or the overflow is set.
-fn visit(base: Address, table: &mut [u8], stack: &mut [u8], m: Marking, w: u32) -> Marking
-    requires { ⌜ (length (now table) ≤ 1024) × ((m .depth ≤ length (now stack) / 4) × Knows (entriesOf (now table)) m) ⌝ }
-    ensures { λ r. ⌜ ((pool : List ℕ) → Came (visitOf (contextOf (base .0) pool (now (stack .entry))) w (stateOf (now (table .entry)) (now (stack .entry)) m))
+fn visit(base: Address, t: usize, table: &mut [u8], stack: &mut [u8], m: Marking, w: u32) -> Marking
+    requires { ⌜ IsTable t (now table) × ((m .depth ≤ length (now stack) / 4) × Knows (entriesIn t (now table)) m) ⌝ }
+    ensures { λ r. ⌜ ((pool : List ℕ) → Came t (visitOf (contextOf (base .0) pool (now (stack .entry))) w (stateOf t (now (table .entry)) (now (stack .entry)) m))
         (now (table .exit)) (now (stack .exit)) r) ⌝ }
 {
-    let target = base.target(entries::blocks(&*table), w);
+    let target = base.target(entries::blocks(t), w);
     let Found::At(k) = target else {
         return m;
     };
-    let e = entries::entry(&*table, k);
-    if e == entries::HEAD {
-        return push(&mut *table, &mut *stack, m, k);
+    if entries::is_head(t, &*table, k) {
+        return push(t, &mut *table, &mut *stack, m, k);
     }
-    if e == entries::TAIL {
-        return visit_tail(&mut *table, &mut *stack, m, k);
+    if entries::is_tail(t, &*table, k) {
+        return visit_tail(t, &mut *table, &mut *stack, m, k);
     }
     m
 }
@@ -124,24 +124,26 @@ fn visit(base: Address, table: &mut [u8], stack: &mut [u8], m: Marking, w: u32) 
 // All the words of the object with head k, from the last to the first.
 fn walk(
     base: Address,
+    t: usize,
     pool: &[u8],
     table: &mut [u8],
     stack: &mut [u8],
     m: Marking,
     k: Block,
 ) -> Marking
-    requires { ⌜ Shape (now pool) (now table) ⌝ }
-    requires { ⌜ (m .depth ≤ length (now stack) / 4) × ((k .0 < length (entriesOf (now table))) × Knows (entriesOf (now table)) m) ⌝ }
-    ensures { λ r. ⌜ Came (walkOf (contextOf (base .0) (now (pool .entry)) (now (stack .entry))) (k .0) (stateOf (now (table .entry)) (now (stack .entry)) m))
+    requires { ⌜ Shape t (now pool) (now table) ⌝ }
+    requires { ⌜ (m .depth ≤ length (now stack) / 4) × ((k .0 < length (entriesIn t (now table))) × Knows (entriesIn t (now table)) m) ⌝ }
+    ensures { λ r. ⌜ Came t (walkOf (contextOf (base .0) (now (pool .entry)) (now (stack .entry))) (k .0) (stateOf t (now (table .entry)) (now (stack .entry)) m))
         (now (table .exit)) (now (stack .exit)) r ⌝ }
 {
     let first = k.first_word();
-    let mut i = 4 * table::block_count(&*table, k);
+    let mut i = 4 * table::block_count(t, &*table, k);
     let mut walked = m;
     while 0 < i {
         i -= 1;
         walked = visit(
             base,
+            t,
             &mut *table,
             &mut *stack,
             walked,
@@ -154,16 +156,17 @@ fn walk(
 // The object with head k is walked, and then the last pushed one, until the stack is empty. Returns the overflow.
 fn trace(
     base: Address,
+    t: usize,
     pool: &[u8],
     table: &mut [u8],
     stack: &mut [u8],
     overflow: bool,
     k: Block,
 ) -> bool
-    requires { ⌜ Shape (now pool) (now table) ⌝ }
-    requires { ⌜ k .0 < length (entriesOf (now table)) ⌝ }
-    ensures { λ r. ⌜ idle (now (table .exit)) r
-        ≡ traceOf (contextOf (base .0) (now (pool .entry)) (now (stack .entry))) (k .0) (idle (now (table .entry)) overflow) ⌝ }
+    requires { ⌜ Shape t (now pool) (now table) ⌝ }
+    requires { ⌜ k .0 < length (entriesIn t (now table)) ⌝ }
+    ensures { λ r. ⌜ IsTable t (now (table .exit)) × (idle t (now (table .exit)) r
+        ≡ traceOf (contextOf (base .0) (now (pool .entry)) (now (stack .entry))) (k .0) (idle t (now (table .entry)) overflow)) ⌝ }
 {
     let mut left = Marking {
         depth: 0,
@@ -173,7 +176,7 @@ fn trace(
     };
     let mut next = k;
     loop {
-        let walked = walk(base, pool, &mut *table, &mut *stack, left, next);
+        let walked = walk(base, t, pool, &mut *table, &mut *stack, left, next);
         if walked.depth == 0 {
             return walked.overflow;
         }
@@ -193,39 +196,48 @@ fn trace(
 // A root: if it leads to a HEAD, that becomes MARK and is traced. Returns the overflow.
 fn mark_root(
     base: Address,
+    t: usize,
     pool: &[u8],
     table: &mut [u8],
     stack: &mut [u8],
     overflow: bool,
     w: u32,
 ) -> bool
-    requires { ⌜ Shape (now pool) (now table) ⌝ }
-    ensures { λ r. ⌜ idle (now (table .exit)) r
-        ≡ markRoot (contextOf (base .0) (now (pool .entry)) (now (stack .entry))) w (idle (now (table .entry)) overflow) ⌝ }
+    requires { ⌜ Shape t (now pool) (now table) ⌝ }
+    ensures { λ r. ⌜ IsTable t (now (table .exit)) × (idle t (now (table .exit)) r
+        ≡ markRoot (contextOf (base .0) (now (pool .entry)) (now (stack .entry))) w (idle t (now (table .entry)) overflow)) ⌝ }
 {
-    let target = base.target(entries::blocks(&*table), w);
+    let target = base.target(entries::blocks(t), w);
     let Found::At(k) = target else {
         return overflow;
     };
-    let head = entries::back::start(&*table, k);
-    if entries::entry(&*table, head) != entries::HEAD {
+    let head = backscan::start(t, &*table, k);
+    if !entries::is_head(t, &*table, head) {
         return overflow;
     }
-    entries::set_entry(&mut *table, head, entries::MARK);
-    trace(base, pool, &mut *table, &mut *stack, overflow, head)
+    entries::set_mark(t, &mut *table, head);
+    trace(base, t, pool, &mut *table, &mut *stack, overflow, head)
 }
 
 // The roots in list order. Returns the overflow.
-fn mark_roots(base: Address, pool: &[u8], table: &mut [u8], stack: &mut [u8], roots: &[u8]) -> bool
-    requires { ⌜ Shape (now pool) (now table) ⌝ }
-    ensures { λ r. ⌜ idle (now (table .exit)) r
-        ≡ markRoots (contextOf (base .0) (now (pool .entry)) (now (stack .entry))) (wordsOf (now (roots .entry))) (idle (now (table .entry)) false) ⌝ }
+fn mark_roots(
+    base: Address,
+    t: usize,
+    pool: &[u8],
+    table: &mut [u8],
+    stack: &mut [u8],
+    roots: &[u8],
+) -> bool
+    requires { ⌜ Shape t (now pool) (now table) ⌝ }
+    ensures { λ r. ⌜ IsTable t (now (table .exit)) × (idle t (now (table .exit)) r
+        ≡ markRoots (contextOf (base .0) (now (pool .entry)) (now (stack .entry))) (wordsOf (now (roots .entry))) (idle t (now (table .entry)) false)) ⌝ }
 {
     let mut overflow = false;
     let mut i = 0;
     while i < roots.len() / 4 {
         overflow = mark_root(
             base,
+            t,
             pool,
             &mut *table,
             &mut *stack,
@@ -240,49 +252,57 @@ fn mark_roots(base: Address, pool: &[u8], table: &mut [u8], stack: &mut [u8], ro
 // Block k of a rescan: it is traced if it is MARK. Returns the overflow.
 fn rescan_block(
     base: Address,
+    t: usize,
     pool: &[u8],
     table: &mut [u8],
     stack: &mut [u8],
     overflow: bool,
     k: Block,
 ) -> bool
-    requires { ⌜ Shape (now pool) (now table) ⌝ }
-    requires { ⌜ k .0 < length (entriesOf (now table)) ⌝ }
-    ensures { λ r. ⌜ idle (now (table .exit)) r
-        ≡ passBlock (contextOf (base .0) (now (pool .entry)) (now (stack .entry))) (k .0) (idle (now (table .entry)) overflow) ⌝ }
+    requires { ⌜ Shape t (now pool) (now table) ⌝ }
+    requires { ⌜ k .0 < length (entriesIn t (now table)) ⌝ }
+    ensures { λ r. ⌜ IsTable t (now (table .exit)) × (idle t (now (table .exit)) r
+        ≡ passBlock (contextOf (base .0) (now (pool .entry)) (now (stack .entry))) (k .0) (idle t (now (table .entry)) overflow)) ⌝ }
 {
-    if entries::entry(&*table, k) != entries::MARK {
+    if entries::entry(t, &*table, k) != entries::MARK {
         return overflow;
     }
-    trace(base, pool, &mut *table, &mut *stack, overflow, k)
+    trace(base, t, pool, &mut *table, &mut *stack, overflow, k)
 }
 
 // One rescan: the overflow is cleared, and then all blocks are gone through in rising order. Returns the new overflow.
-fn rescan(base: Address, pool: &[u8], table: &mut [u8], stack: &mut [u8]) -> bool
-    requires { ⌜ Shape (now pool) (now table) ⌝ }
-    ensures { λ r. ⌜ idle (now (table .exit)) r
-        ≡ pass (contextOf (base .0) (now (pool .entry)) (now (stack .entry))) (idle (now (table .entry)) true) ⌝ }
+fn rescan(base: Address, t: usize, pool: &[u8], table: &mut [u8], stack: &mut [u8]) -> bool
+    requires { ⌜ Shape t (now pool) (now table) ⌝ }
+    ensures { λ r. ⌜ IsTable t (now (table .exit)) × (idle t (now (table .exit)) r
+        ≡ pass (contextOf (base .0) (now (pool .entry)) (now (stack .entry))) (idle t (now (table .entry)) true)) ⌝ }
 {
-    let n = entries::blocks(&*table);
+    let n = entries::blocks(t);
     let mut overflow = false;
     let mut k = Block::first();
     while k.is_below(n) {
-        overflow = rescan_block(base, pool, &mut *table, &mut *stack, overflow, k);
+        overflow = rescan_block(base, t, pool, &mut *table, &mut *stack, overflow, k);
         k = k.plus(1);
     }
     overflow
 }
 
 // Marks from the roots, and rescans while there is an overflow. Returns the number of rescans.
-pub fn mark(base: Address, pool: &[u8], table: &mut [u8], stack: &mut [u8], roots: &[u8]) -> u32
-    requires { ⌜ Shape (now pool) (now table) ⌝ }
-    ensures { λ r. ⌜ markedIn (idle (now (table .exit)) false) r
-        ≡ markAll (contextOf (base .0) (now (pool .entry)) (now (stack .entry))) (wordsOf (now (roots .entry))) (entriesOf (now (table .entry))) ⌝ }
+pub fn mark(
+    base: Address,
+    t: usize,
+    pool: &[u8],
+    table: &mut [u8],
+    stack: &mut [u8],
+    roots: &[u8],
+) -> u32
+    requires { ⌜ Shape t (now pool) (now table) ⌝ }
+    ensures { λ r. ⌜ IsTable t (now (table .exit)) × (markedIn (idle t (now (table .exit)) false) r
+        ≡ markAll (contextOf (base .0) (now (pool .entry)) (now (stack .entry))) (wordsOf (now (roots .entry))) (entriesIn t (now (table .entry)))) ⌝ }
 {
-    let mut overflow = mark_roots(base, pool, &mut *table, &mut *stack, roots);
+    let mut overflow = mark_roots(base, t, pool, &mut *table, &mut *stack, roots);
     let mut rescans = 0;
     while overflow {
-        overflow = rescan(base, pool, &mut *table, &mut *stack);
+        overflow = rescan(base, t, pool, &mut *table, &mut *stack);
         rescans += 1;
     }
     rescans

@@ -17,12 +17,12 @@ same-length-2 c = search needs
 returns : tie.Need-returns
 returns c =
     let a = c .before .before .before .before .before .before .before .before .args in
-    collect-refused (a .base .0) (a .pool .now) (a .table .now) (a .roots .now) (a .stack .now) (c .before .collection .result) (c .before .collection .ensures) (c .if1 .taken)
+    collect-refused (a .t) (a .base .0) (a .pool .now) (a .table .now) (a .roots .now) (a .stack .now) (c .before .collection .result) (c .before .collection .ensures) (c .if1 .taken)
 
 run-requires : tie.Need-run-requires
 run-requires c κs =
     let a = c .before .before .before .before .before .before .before .before .before .before .args in
-    collect-shape (a .base .0) (a .pool .now) (a .table .now) (a .roots .now) (a .stack .now) (c .before .before .before .collection .result) (c .before .before .before .collection .ensures) (c .before .before .if1 .left)
+    collect-shape (a .t) (a .base .0) (a .pool .now) (a .table .now) (a .roots .now) (a .stack .now) (c .before .before .before .collection .result) (c .before .before .before .collection .ensures) (c .before .before .if1 .left)
 
 same-length-3 : tie.Need-same-length-3
 same-length-3 c = search needs
@@ -33,8 +33,8 @@ same-length-4 c = search needs
 returns-2 : tie.Need-returns-2
 returns-2 c =
     let a = c .before .before .before .before .before .before .before .before .before .before .before .before .before .before .before .args in
-    collect-accepted (a .base .0) (a .pool .now) (a .table .now) (a .roots .now) (a .stack .now) (c .before .before .before .before .before .before .before .before .collection .result) (c .before .before .before .before .before .before .before .before .collection .ensures)
-    (c .before .before .before .before .run .result) (c .before .before .before .before .run .last .1 .1 .0) (c .before .before .before .before .run .last .1 .1 .1 .1 .0) (c .before .before .before .before .before .before .before .if1 .left) (c .before .before .before .before .run .ensures)
+    collect-accepted (a .t) (a .base .0) (a .pool .now) (a .table .now) (a .roots .now) (a .stack .now) (c .before .before .before .before .before .before .before .before .collection .result) (c .before .before .before .before .before .before .before .before .collection .ensures)
+    (c .before .before .before .before .before .before .before .if1 .left) _ _ _ (λ i. c .before .before .slice-known3 .given i .fits) (c .before .before .before .before .run .ensures)
 
 pub collect-spec : {M : Type 1} → statement M
 collect-spec =

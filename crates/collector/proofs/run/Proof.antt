@@ -5,10 +5,10 @@ use native.Mathlib.Omega.{arith}
 use borrow.Author.Needs.{needs}
 use mir.Syntax.{w32}
 use mir.ValLaws.{toZ-ofZ}
-use lib.ListN.{length, replicate}
-use Prim.Native.Nat.{_≤_, ℕ}
-use Rattle.rules.specs.Entries.{entriesOf}
-use Rattle.rules.proofs.Entries.{length-entriesOf}
+use lib.ListN.{replicate}
+use Prim.Native.Nat.{ℕ}
+use Rattle.rules.specs.Planes.{entriesIn}
+use Rattle.rules.proofs.Planes.{few-entries}
 use Rattle.rules.proofs.Tables.{used-le, objects-le}
 use Rattle.marker.specs.Variables.{contextOf}
 use Rattle.collector.proofs.Collecting.{ran}
@@ -24,20 +24,18 @@ sweep-requires c κs = search needs
 clear-requires : tie.Need-clear-requires
 clear-requires c κs = search needs
 
--- the marked table has at most 1,024 bytes
-few : (c : tie.After-struct-known) → length (c .before .before .before .before .before .before .before .before .before .before .before .before .before .mark .last .1 .1 .0) ≤ 1024
-few c = omega (arith, c .before .before .before .before .before .before .before .before .before .before .before .before .before .mark .kept .1 .1 .0, c .before .before .before .before .before .before .before .before .before .before .before .before .before .before .before .before .before .before .before .before .pre .small)
-
 cast-kept : tie.Need-cast-kept
 cast-kept c =
+    let t = c .before .before .before .before .before .before .before .before .before .before .before .before .before .before .before .before .before .before .before .before .args .t in
     let s = c .before .before .before .before .before .before .before .sweep in
-    record { fits = omega (arith, few c, s .ensures .kept, objects-le (entriesOf (s .last .0)), length-entriesOf (s .last .0), s .kept .0) }
+    record { fits = omega (arith, few-entries t (s .last .1 .0) (s .ensures .0), s .ensures .1 .kept, objects-le (entriesIn t (s .last .1 .0))) }
 
 negated-requires : tie.Need-negated-requires
 negated-requires c κs =
+    let t = c .before .before .before .before .before .before .before .before .before .before .before .before .before .before .before .before .before .before .before .before .args .t in
     let s = c .before .before .before .before .before .before .before .sweep in
-    let t = c .before .before .before .before .before .before .before .before .before .before .before .before .before .mark .last .1 .1 .0 in
-    omega (arith, few c, s .ensures .freed, used-le (entriesOf t), length-entriesOf t)
+    let m = c .before .before .before .before .before .before .before .before .before .before .before .before .before .mark in
+    omega (arith, few-entries t (m .last .1 .1 .1 .0) (m .ensures .0), s .ensures .1 .freed, used-le (entriesIn t (m .last .1 .1 .1 .0)))
 
 same-length : tie.Need-same-length
 same-length c = search needs
@@ -50,10 +48,12 @@ returns c =
     let a = c .before .before .before .before .before .before .before .before .before .before .before .before .before .before .before .before .before .before .before .before .before .args in
     let m = c .before .before .before .before .before .before .before .before .before .before .before .before .before .before .mark in
     let s = c .before .before .before .before .before .before .before .before .sweep in
-    let n = c .negated in
-    ran (contextOf (a .base .0) (a .pool .now) (a .stack .now)) (a .pool .now) (a .table .now) (m .last .1 .1 .0) (s .last .0) (a .stack .now) (c .before .before .before .before .clear .last .0)
-    (a .roots .now) (m .result) (s .result) _ (m .ensures) (s .ensures)
-    (c .before .before .before .before .clear .ensures ∙ ap (λ (k : ℕ). replicate k 0) (m .kept .1 .1 .1 .0)) (toZ-ofZ w32 (n .result) (record { sfits = n .ok }) ∙ n .ensures)
+    let n = c .negated in (
+      s .ensures .0,
+      ran (a .t) (contextOf (a .base .0) (a .pool .now) (a .stack .now)) (a .pool .now) (a .table .now) (m .last .1 .1 .1 .0) (s .last .1 .0) (a .stack .now) (c .before .before .before .before .clear .last .0)
+          (a .roots .now) (m .result) (s .result) _ (m .ensures .1) (s .ensures .1)
+          (c .before .before .before .before .clear .ensures ∙ ap (λ (k : ℕ). replicate k 0) (m .kept .1 .1 .1 .1 .0)) (toZ-ofZ w32 (n .result) (record { sfits = n .ok }) ∙ n .ensures),
+    )
 
 pub run-spec : {M : Type 1} → statement M
 run-spec =

@@ -8,10 +8,10 @@ use lib.IntN.{ℤ, subℕ}
 use mir.Syntax.{w32}
 use mir.Val.{toZ, ofZ}
 use borrow.Author.Needs.{needs}
-use Rattle.rules.specs.Entries.{entriesOf}
 use Rattle.rules.specs.Tables.{extended}
 use Rattle.rules.specs.Meaning.{GrowsInPlace}
-use Rattle.rules.specs.Outcomes.{heapOf, placedAt, leaves, clearedBlocks}
+use Rattle.rules.specs.Outcomes.{placedAt, leaves, clearedBlocks}
+use Rattle.rules.specs.Planes.{entriesIn, IsTable, Holds, heapAt}
 use Rattle.rules.specs.Calls.{placing, grown}
 use Rattle.rules.proofs.Calls.{grow-change}
 use Rattle.heap.specs.Held.{Held}
@@ -19,15 +19,15 @@ use Rattle.heap.proofs.Held.{held-few, held-room, change-is}
 use Rattle.heap.proofs.grow.Statement.{statement}
 use Rattle.heap.proofs.grow.Tie as tie
 
-grows : (pool table pool' table' : List ℕ) (k old new end : ℕ) (d : ℤ) → Held pool table k old → (old < new) × GrowsInPlace (entriesOf table) k old new
-    → end ≡ k + old → pool' ≡ clearedBlocks pool end (new - old) → entriesOf table' ≡ extended (entriesOf table) end (new - old) → d ≡ subℕ new old
-    → leaves (placedAt k (toZ w32 (ofZ w32 d))) (heapOf pool' table') ≡ placing (heapOf pool table) k (grown (heapOf pool table) k old new)
+grows : (t : ℕ) (pool table pool' table' : List ℕ) (k old new end : ℕ) (d : ℤ) → Held t pool table k old → (old < new) × GrowsInPlace (entriesIn t table) k old new
+    → end ≡ k + old → pool' ≡ clearedBlocks pool end (new - old) → Holds t (extended (entriesIn t table) end (new - old)) table' → d ≡ subℕ new old
+    → IsTable t table' × (leaves (placedAt k (toZ w32 (ofZ w32 d))) (heapAt t pool' table') ≡ placing (heapAt t pool table) k (grown (heapAt t pool table) k old new))
 unfolding placing grown
-grows pool table pool' table' k old new end d held (more, g) e p q r =
+grows t pool table pool' table' k old new end d held (more, g) e p q r =
     let few = held-few held in
     let run = g .run in
     let room = run .room in
-    rw (change-is new old d (omega arith) (omega arith) r, p, q, e, grow-change (entriesOf table) k old new (omega arith) run)
+    (q .is-table, rw (change-is new old d (omega arith) (omega arith) r, p, q .entries, e, grow-change (entriesIn t table) k old new (omega arith) run))
 
 plus-requires : tie.Need-plus-requires
 plus-requires c κs =
@@ -40,7 +40,7 @@ sub-extend c = search needs
 extend-requires : tie.Need-extend-requires
 extend-requires c κs =
     let s = c .before .before .before .before in
-    omega (arith, s .pre .1 .1 .run .room)
+    (s .pre .0 .is-table, omega (arith, s .pre .1 .1 .run .room))
 
 sub-clear-blocks : tie.Need-sub-clear-blocks
 sub-clear-blocks c = search needs
@@ -70,7 +70,7 @@ returns c =
     let clear = c .before .before .before in
     let extend = clear .before .before .before .before in
     let s = extend .before .before .before .before .before in
-    grows _ _ _ _ _ _ _ _ _ (s .pre .0) (s .pre .1) (extend .before .before .plus .ensures) (clear .clear-blocks .ensures) (extend .extend .ensures) (c .difference .ensures)
+    grows _ _ _ _ _ _ _ _ _ _ (s .pre .0) (s .pre .1) (extend .before .before .plus .ensures) (clear .clear-blocks .ensures) (extend .extend .ensures) (c .difference .ensures)
 
 pub grow-spec : {M : Type 1} → statement M
 grow-spec =

@@ -9,20 +9,20 @@ word-requires : tie.Need-word-requires
 word-requires c κs = search needs
 
 returns : tie.Need-returns
-returns c = load-refused _ _ _ _ _ (c .before .word .ensures) (c .if1 .taken)
+returns c = load-refused _ _ _ _ _ _ (c .before .word .ensures) (c .if1 .taken)
 
 first-word-requires : tie.Need-first-word-requires
-first-word-requires c κs = omega (arith, word-inside _ _ _ _ _ (c .before .word .ensures) (c .if1 .left) .0)
+first-word-requires c κs = omega (arith, word-inside _ _ _ _ _ _ (c .before .word .ensures) (c .if1 .left) .0)
 
 add-word : tie.Need-add-word
-add-word c = let w = word-inside _ _ _ _ _ (c .before .before .word .ensures) (c .before .if1 .left) in omega arith
+add-word c = let w = word-inside _ _ _ _ _ _ (c .before .before .word .ensures) (c .before .if1 .left) in omega arith
 
 word-requires-2 : tie.Need-word-requires-2
-word-requires-2 c κs = let w = word-inside _ _ _ _ _ (c .before .before .word .ensures) (c .before .if1 .left) in omega arith
+word-requires-2 c κs = let w = word-inside _ _ _ _ _ _ (c .before .before .word .ensures) (c .before .if1 .left) in omega arith
 
 returns-2 : tie.Need-returns-2
 returns-2 c =
-    load-done _ _ _ _ _ (c .before .before .before .word .ensures) _ (c .before .before .if1 .left)
+    load-done _ _ _ _ _ _ (c .before .before .before .word .ensures) _ (c .before .before .if1 .left) (λ i. c .before .before .before .before .shared-slice-known2 .given i .fits)
     (c .before .first-word .ensures) (c .word2 .ensures)
 
 pub load-spec : {M : Type 1} → statement M

@@ -3,67 +3,81 @@
 -- Assumes nothing.
 use mathlib.Core.Path.{_≡_, refl, sym, _∙_}
 use mathlib.Core.Bool.{Bool, true, false}
-use mathlib.Core.List.{List, []}
+use mathlib.Core.List.{List, [], _∷_}
 use Prim.Native.Nat.{ℕ, _+_, _≤_, _<_}
 use native.Mathlib.Omega.{arith}
 use lib.ListN.{length}
 use borrow.Author.Needs.{needs}
 use borrow.Author.Tests.{leb-true, leb-false, not-true, not-false}
-use Rattle.rules.specs.Entries.{entriesOf}
 use Rattle.rules.specs.Tables.{blockCount, growsInPlace}
-use Rattle.rules.specs.Outcomes.{heapOf, onlyRefusal, leaves}
-use Rattle.rules.specs.Refusals.{firstOf, resizeTests}
+use Rattle.rules.specs.Outcomes.{Outcome, onlyRefusal, leaves}
+use Rattle.rules.specs.Planes.{planes, entriesIn, IsTable, heapAt}
+use Rattle.rules.specs.Refusals.{noBytes, nameTests}
 use Rattle.rules.specs.Calls.{blocksFor, reallocate}
-use Rattle.rules.specs.Meaning.{GrowsInPlace}
+use Rattle.rules.specs.Meaning.{AllBytes, GrowsInPlace}
+use Rattle.rules.specs.Runs.{Reallocate}
+use Rattle.rules.specs.Memory.{memory, perform}
 use Rattle.rules.proofs.Tables.{grows-of, grows-says}
-use Rattle.rules.proofs.Refusals.{true-not-false, passed, named-resize, few-bytes}
-use Rattle.rules.proofs.Calls.{blocks-some, blocks-least, request-no-way, reallocate-refused, reallocate-stuck, reallocate-shrinks, reallocate-grows, reallocate-moves}
+use Rattle.rules.proofs.Refusals.{true-not-false, named-resize}
+use Rattle.rules.proofs.Calls.{blocks-some, blocks-least, request-no-way, reallocate-stuck, reallocate-shrinks, reallocate-grows, reallocate-moves}
 use Rattle.heap.specs.Held.{Held}
+use Rattle.heap.specs.Answers.{placed, placedIn}
+use Rattle.heap.specs.declared.Placed.{Placed}
 use Rattle.heap.proofs.Held.{held-few, held-room}
+use Rattle.heap.proofs.Ends.{Checked, reallocate-refused, reallocate-checked, reallocate-done}
 use Rattle.heap.proofs.reallocate.Statement.{statement}
 use Rattle.heap.proofs.reallocate.Tie as tie
 
 -- none of the tests holds
-module _ (base : ℕ) (pool table : List ℕ) (k bytes : ℕ) (e : firstOf (resizeTests base (heapOf pool table) k bytes) ≡ 0) where
-  object : (b : ℕ) → b ≡ blockCount (entriesOf table) k → Held pool table k b
+module _ (t base : ℕ) (pool table : List ℕ) (k bytes : ℕ) (e : Checked t base pool table (noBytes bytes ∷ nameTests (heapAt t pool table) k)) where
+  object : (b : ℕ) → b ≡ blockCount (entriesIn t table) k → Held t pool table k b
   object b count =
-      let p = passed base (heapOf pool table) _ e in
-      let n = named-resize base (heapOf pool table) k bytes [] e .1 in
-      record { few = few-bytes base pool table (p .shape); long = p .shape .pool; inside = n .inside; head = n .head; count = count }
+      let n = named-resize base (heapAt t pool table) k bytes [] (e .passes) .1 in
+      record { is-table = e .is; long = e .shape .pool; inside = n .inside; head = n .head; count = count }
 
-  too-long : length pool < bytes → leaves (onlyRefusal 9) (heapOf pool table) ≡ reallocate base (heapOf pool table) k bytes
+  too-long : length pool < bytes → leaves (onlyRefusal 9) (heapAt t pool table) ≡ reallocate base (heapAt t pool table) k bytes
   too-long l =
       let o = object _ refl in
-      reallocate-stuck base (heapOf pool table) k bytes e (request-no-way (entriesOf table) pool k bytes (o .long) l (o .head))
+      reallocate-stuck base (heapAt t pool table) k bytes (e .passes) (request-no-way (entriesIn t table) pool k bytes (o .long) l (o .head))
 
   -- the blocks that hold the bytes
   module _ (c : ℕ) (new : c ≡ blocksFor bytes) where
     wanted : 0 < c
-    wanted = rw new (blocks-some bytes (named-resize base (heapOf pool table) k bytes [] e .0))
+    wanted = rw new (blocks-some bytes (named-resize base (heapAt t pool table) k bytes [] (e .passes) .0))
 
     within : bytes ≤ length pool → c ≤ 4096
     within l =
         let o = object _ refl in
-        omega (arith, new, blocks-least bytes (length (entriesOf table)) (omega (arith, o .long)), held-few o)
+        omega (arith, new, blocks-least bytes (length (entriesIn t table)) (omega (arith, o .long)), held-few o)
 
 -- the answer whether the object may grow where it is
-module _ (table : List ℕ) (k b c : ℕ) {r : Bool} (e : r ≡ growsInPlace (entriesOf table) k b c) where
-  may-grow : k + b ≤ length (entriesOf table) → r ≡ true → GrowsInPlace (entriesOf table) k b c
-  may-grow inside t = grows-says (entriesOf table) k b c inside (sym e ∙ t)
+module _ (es : List ℕ) (k b c : ℕ) {r : Bool} (e : r ≡ growsInPlace es k b c) where
+  may-grow : k + b ≤ length es → r ≡ true → GrowsInPlace es k b c
+  may-grow inside y = grows-says es k b c inside (sym e ∙ y)
 
-  may-not : r ≡ false → GrowsInPlace (entriesOf table) k b c → ⊥
-  may-not f g = true-not-false (grows-of (entriesOf table) k b c g) (sym e ∙ f)
+  may-not : r ≡ false → GrowsInPlace es k b c → ⊥
+  may-not f g = true-not-false (grows-of es k b c g) (sym e ∙ f)
 
--- where the check has passed, the object is held
-accepted : (c : tie.After-block-count-arg) → let a = c .before .before .before .before .before .before .before .before .before .before .args in firstOf (resizeTests (a .base .0) (heapOf (a .pool .now) (a .table .now)) (a .k .0) (a .bytes .0)) ≡ 0
-accepted c = sym (c .before .before .before .before .before .resize .ensures) ∙ c .before .before .before .before .if1 .left
+-- where the check has passed
+accepted : (c : tie.Else1) → let a = c .before .before .before .before .before .before .args in Checked (a .t) (a .base .0) (a .pool .now) (a .table .now) (noBytes (a .bytes .0) ∷ nameTests (heapAt (a .t) (a .pool .now) (a .table .now)) (a .k .0))
+accepted c = let a = c .before .before .before .before .before .before .args in reallocate-checked (a .t) (a .base .0) (a .pool .now) (a .table .now) (a .k .0) (a .bytes .0) (c .before .resize .ensures) (c .if1 .left)
+
+-- an outcome of the rules is the result in bytes
+done : (c : tie.Else1) → let a = c .before .before .before .before .before .before .args in let h = heapAt (a .t) (a .pool .now) (a .table .now) in
+    (p : Placed) (pool′ table′ : List ℕ) (o : Outcome) → AllBytes table′ → IsTable (a .t) table′ × (placedIn p (heapAt (a .t) pool′ table′) ≡ o) → o ≡ reallocate (a .base .0) h (a .k .0) (a .bytes .0)
+    → placed p pool′ table′ ≡ perform (planes (a .t)) (Reallocate (a .base .0) (a .k .0) (a .bytes .0)) [] (memory (a .pool .now) (a .table .now))
+done c p pool′ table′ o bytes left e =
+    let a = c .before .before .before .before .before .before .args in
+    reallocate-done (a .t) (a .base .0) (a .pool .now) (a .table .now) (a .k .0) (a .bytes .0) (c .before .resize .ensures) p pool′ table′ (c .if1 .left)
+    (λ i. c .before .before .before .before .slice-known2 .given i .fits) bytes (left .0) (left .1 ∙ e)
 
 -- and the bytes fit in the pool
 room : (c : tie.Else2) → let a = c .before .before .before .before .before .before .before .before .before .args in a .bytes .0 ≤ length (a .pool .now)
 room c = leb-true _ _ (sym (c .before .fits-in .ensures) ∙ not-false _ (c .if2 .left))
 
-held : (c : tie.After-block-count) → let a = c .before .before .before .before .before .before .before .before .before .before .before .args in Held (a .pool .now) (a .table .now) (a .k .0) (c .block-count .result)
-held c = let a = c .before .before .before .before .before .before .before .before .before .before .before .args in object (a .base .0) _ _ _ (a .bytes .0) (accepted (c .before)) _ (c .block-count .ensures .0)
+-- the object is held
+held : (c : tie.After-block-count) → let a = c .before .before .before .before .before .before .before .before .before .before .before .args in Held (a .t) (a .pool .now) (a .table .now) (a .k .0) (c .block-count .result)
+held c = let a = c .before .before .before .before .before .before .before .before .before .before .before .args in object (a .t) (a .base .0) _ _ _ (a .bytes .0) (accepted (c .before .before .before .before .before)) _ (c .block-count .ensures .0)
 
 resize-requires : tie.Need-resize-requires
 resize-requires c κs = tt
@@ -78,7 +92,7 @@ same-length-2 : tie.Need-same-length-2
 same-length-2 c = search needs
 
 returns : tie.Need-returns
-returns c = rw (c .unplaced .ensures) (reallocate-refused _ _ _ _ (c .before .before .resize .ensures) (c .before .if1 .taken))
+returns c = rw (c .unplaced .ensures) (reallocate-refused _ _ _ _ _ _ (c .before .before .resize .ensures) (c .before .if1 .taken))
 
 fits-in-requires : tie.Need-fits-in-requires
 fits-in-requires c κs = tt
@@ -93,13 +107,18 @@ same-length-4 : tie.Need-same-length-4
 same-length-4 c = search needs
 
 returns-2 : tie.Need-returns-2
-returns-2 c = rw (c .unplaced2 .ensures) (too-long _ _ _ _ _ (sym (c .before .before .before .before .before .resize .ensures) ∙ c .before .before .before .before .if1 .left) (leb-false _ _ (sym (c .before .before .fits-in .ensures) ∙ not-true _ (c .before .if2 .taken))))
+returns-2 c =
+    let m = c .before .before .before .before in
+    let a = m .before .before .before .before .before .before .args in
+    rw (c .unplaced2 .ensures)
+    (done m _ _ _ _ (λ i. m .before .before .before .before .slice-known2 .given i .fits) (accepted m .is, refl)
+    (too-long (a .t) (a .base .0) _ _ _ (a .bytes .0) (accepted m) (leb-false _ _ (sym (c .before .before .fits-in .ensures) ∙ not-true _ (c .before .if2 .taken)))))
 
 block-count-requires : tie.Need-block-count-requires
 block-count-requires c κs =
     let a = c .before .before .before .before .before .before .before .before .before .before .args in
-    let o = object (a .base .0) _ _ _ (a .bytes .0) (accepted c) _ refl in
-    (o .few, o .inside)
+    let m = accepted (c .before .before .before .before) in
+    (m .is, object (a .t) (a .base .0) _ _ _ (a .bytes .0) m _ refl .inside)
 
 blocks-requires : tie.Need-blocks-requires
 blocks-requires c κs = omega (arith, held c .long, held-few (held c), room (c .before .before))
@@ -107,7 +126,7 @@ blocks-requires c κs = omega (arith, held c .long, held-few (held c), room (c .
 shrink-requires : tie.Need-shrink-requires
 shrink-requires c κs =
     let n = c .before .before in
-    (held (n .before .before), (wanted _ _ _ _ _ (accepted (n .before .before .before)) _ (n .before .blocks2 .ensures), n .if3 .taken))
+    (held (n .before .before), (wanted _ _ _ _ _ _ (accepted (n .before .before .before .before .before .before .before)) _ (n .before .blocks2 .ensures), n .if3 .taken))
 
 same-length-5 : tie.Need-same-length-5
 same-length-5 c = search needs
@@ -118,12 +137,13 @@ same-length-6 c = search needs
 returns-3 : tie.Need-returns-3
 returns-3 c =
     let n = c .before .before .before .before .before in
-    rw (c .before .before .shrink .ensures) (reallocate-shrinks _ _ _ _ (accepted (n .before .before .before)) _ _ (n .before .before .block-count .ensures .0) (n .before .blocks2 .ensures) (n .if3 .taken))
+    done (n .before .before .before .before .before .before .before) _ _ _ _ (λ i. c .slice-known3 .given i .fits) (c .before .before .shrink .ensures)
+    (reallocate-shrinks _ _ _ _ (accepted (n .before .before .before .before .before .before .before) .passes) _ _ (n .before .before .block-count .ensures .0) (n .before .blocks2 .ensures) (n .if3 .taken))
 
 grows-in-place-requires : tie.Need-grows-in-place-requires
 grows-in-place-requires c κs =
     let h = held (c .before .before .before) in
-    (h .few, (held-room h, omega arith))
+    (h .is-table, (held-room h, omega arith))
 
 grow-requires : tie.Need-grow-requires
 grow-requires c κs =
@@ -141,12 +161,13 @@ returns-4 : tie.Need-returns-4
 returns-4 c =
     let n = c .before .before .before .before .before .before .before .before .before .before in
     let g = may-grow _ _ _ _ (c .before .before .before .before .before .before .before .before .grows-in-place .ensures) (held-room (held (n .before .before))) (c .before .before .before .before .before .before .before .if4 .taken) in
-    rw (c .before .before .before .before .grow .ensures) (reallocate-grows _ _ _ _ (accepted (n .before .before .before)) _ _ (n .before .before .block-count .ensures .0) (n .before .blocks2 .ensures) (omega arith) g)
+    done (n .before .before .before .before .before .before .before) _ _ _ _ (λ i. c .slice-known5 .given i .fits) (c .before .before .before .before .grow .ensures)
+    (reallocate-grows _ _ _ _ (accepted (n .before .before .before .before .before .before .before) .passes) _ _ (n .before .before .block-count .ensures .0) (n .before .blocks2 .ensures) (omega arith) g)
 
 relocate-requires : tie.Need-relocate-requires
 relocate-requires c κs =
     let n = c .before .before .before .before .before in
-    (held (n .before .before), (omega arith, within _ _ _ _ _ (accepted (n .before .before .before)) _ (n .before .blocks2 .ensures) (room (n .before .before .before .before))))
+    (held (n .before .before), (omega arith, within _ _ _ _ _ _ (accepted (n .before .before .before .before .before .before .before)) _ (n .before .blocks2 .ensures) (room (n .before .before .before .before))))
 
 same-length-9 : tie.Need-same-length-9
 same-length-9 c = search needs
@@ -158,7 +179,8 @@ returns-5 : tie.Need-returns-5
 returns-5 c =
     let n = c .before .before .before .before .before .before .before .before .before .before in
     let none = may-not _ _ _ _ (c .before .before .before .before .before .before .before .before .grows-in-place .ensures) (c .before .before .before .before .before .before .before .if4 .left) in
-    rw (c .before .before .before .before .relocate .ensures) (reallocate-moves _ _ _ _ (accepted (n .before .before .before)) _ _ (n .before .before .block-count .ensures .0) (n .before .blocks2 .ensures) (held-room (held (n .before .before))) (omega arith) none)
+    done (n .before .before .before .before .before .before .before) _ _ _ _ (λ i. c .slice-known7 .given i .fits) (c .before .before .before .before .relocate .ensures)
+    (reallocate-moves _ _ _ _ (accepted (n .before .before .before .before .before .before .before) .passes) _ _ (n .before .before .block-count .ensures .0) (n .before .blocks2 .ensures) (held-room (held (n .before .before))) (omega arith) none)
 
 pub reallocate-spec : {M : Type 1} → statement M
 reallocate-spec =

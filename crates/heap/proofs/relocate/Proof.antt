@@ -13,9 +13,9 @@ use lib.Seq.{sets}
 use mir.Syntax.{w32}
 use mir.Val.{toZ, ofZ}
 use borrow.Author.Needs.{needs}
-use Rattle.rules.specs.Entries.{entriesOf}
 use Rattle.rules.specs.Tables.{firstFit, placed, released}
-use Rattle.rules.specs.Outcomes.{heapOf, placedAt, leaves, clearedBlocks}
+use Rattle.rules.specs.Outcomes.{placedAt, leaves, clearedBlocks}
+use Rattle.rules.specs.Planes.{entriesIn, IsTable, Holds, heapAt}
 use Rattle.rules.specs.Meaning.{Run}
 use Rattle.rules.specs.Calls.{placing, moved, movesTo, along}
 use Rattle.rules.proofs.Tables.{first-fits}
@@ -24,45 +24,45 @@ use Rattle.rules.proofs.Pools.{moved-steps}
 use Rattle.rules.proofs.Calls.{move-change, run-beside}
 use Rattle.memory.specs.Places.{found}
 use Rattle.heap.specs.Held.{Held}
-use Rattle.heap.specs.Answers.{placed as answered, unplacedBy}
+use Rattle.heap.specs.Answers.{placedIn, unplacedBy}
 use Rattle.heap.proofs.Held.{held-few, held-room, change-is}
 use Rattle.heap.proofs.relocate.Statement.{statement}
 use Rattle.heap.proofs.relocate.Tie as tie
 
 -- the start s was found
-module _ {pool table : List ℕ} {k old new s : ℕ} (held : Held pool table k old) (more : (old < new) × (new ≤ 4096)) (start : firstFit (entriesOf table) new ≡ some s) where
-  run : Run (entriesOf table) new s
-  run = first-fits (entriesOf table) new s (omega arith) start .run
+module _ {t : ℕ} {pool table : List ℕ} {k old new s : ℕ} (held : Held t pool table k old) (more : (old < new) × (new ≤ 4096)) (start : firstFit (entriesIn t table) new ≡ some s) where
+  run : Run (entriesIn t table) new s
+  run = first-fits (entriesIn t table) new s (omega arith) start .run
 
   apart : (from to count : ℕ) → from ≡ 16 * k → to ≡ 16 * s → count ≡ 16 * old → (from + count ≤ to) ⊎ (to + count ≤ from)
-  apart from to count f t n =
+  apart from to count f g n =
       ⊎-elim (λ below. inr (omega arith)) (λ above. inl (omega (arith, held .count)))
-      (run-beside (entriesOf table) new s k (omega arith) run (held .head))
+      (run-beside (entriesIn t table) new s k (omega arith) run (held .head))
 
-  moves : (pool1 pool2 table1 table2 : List ℕ) (from to count end : ℕ) (d : ℤ) → entriesOf table1 ≡ placed (entriesOf table) s new
+  moves : (pool1 pool2 table1 table2 : List ℕ) (from to count end : ℕ) (d : ℤ) → Holds t (placed (entriesIn t table) s new) table1
       → from ≡ 16 * k → to ≡ 16 * s → count ≡ 16 * old → pool1 ≡ sets pool to (take count (drop from pool))
       → end ≡ s + old → pool2 ≡ clearedBlocks pool1 end (new - old)
-      → entriesOf table2 ≡ released (entriesOf table1) k old → d ≡ subℕ new old
-      → leaves (placedAt s (toZ w32 (ofZ w32 d))) (heapOf pool2 table2) ≡ along (movesTo (firstFit (entriesOf table) new)) (heapOf pool table) k old new
+      → Holds t (released (entriesIn t table1) k old) table2 → d ≡ subℕ new old
+      → IsTable t table2 × (leaves (placedAt s (toZ w32 (ofZ w32 d))) (heapAt t pool2 table2) ≡ along (movesTo (firstFit (entriesIn t table) new)) (heapAt t pool table) k old new)
   unfolding along movesTo placing moved
-  moves pool1 pool2 table1 table2 from to count end d p f t n copied e cleared r q =
+  moves pool1 pool2 table1 table2 from to count end d p f g n copied e cleared r q =
       let few = held-few held in
       let room = held-room held in
-      let steps = moved-steps (heapOf pool table) k old new s (omega (arith, held .long)) (omega arith) in
-      let change = move-change (entriesOf table) k new s (held .head) (omega arith) run in
-      rw (start, change-is new old d (omega arith) (omega arith) q, r, p, cleared, e, copied, f, t, n, steps, rw (sym (held .count)) at change)
+      let steps = moved-steps (heapAt t pool table) k old new s (omega (arith, held .long)) (omega arith) in
+      let change = move-change (entriesIn t table) k new s (held .head) (omega arith) run in
+      (r .is-table, rw (start, change-is new old d (omega arith) (omega arith) q, r .entries, p .entries, cleared, e, copied, f, g, n, steps, rw (sym (held .count)) at change))
 
 -- no start was found
-nowhere : (pool table : List ℕ) (k old new : ℕ) → firstFit (entriesOf table) new ≡ none
-    → answered (unplacedBy 9) pool table ≡ along (movesTo (firstFit (entriesOf table) new)) (heapOf pool table) k old new
+nowhere : (t : ℕ) (pool table : List ℕ) (k old new : ℕ) → firstFit (entriesIn t table) new ≡ none
+    → placedIn (unplacedBy 9) (heapAt t pool table) ≡ along (movesTo (firstFit (entriesIn t table) new)) (heapAt t pool table) k old new
 unfolding along movesTo
-nowhere pool table k old new e = rw e
+nowhere t pool table k old new e = rw e
 
 -- the same, at the place where the start is known
-start-at : (c : tie.After-s) → let a = c .before .before .before .before .before .before .args in firstFit (entriesOf (a .table .now)) (a .new) ≡ some (c .s .given .0 .0 .0)
+start-at : (c : tie.After-s) → let a = c .before .before .before .before .before .before .args in firstFit (entriesIn (a .t) (a .table .now)) (a .new) ≡ some (c .s .given .0 .0 .0)
 start-at c = sym (c .before .before .first-fit .ensures) ∙ ap found (c .s .given .1)
 
-room-at : (c : tie.After-s) → let a = c .before .before .before .before .before .before .args in c .s .given .0 .0 .0 + a .new ≤ length (entriesOf (a .table .now))
+room-at : (c : tie.After-s) → let a = c .before .before .before .before .before .before .args in c .s .given .0 .0 .0 + a .new ≤ length (entriesIn (a .t) (a .table .now))
 room-at c = run (c .before .before .before .before .before .before .pre .0) (c .before .before .before .before .before .before .pre .1) (start-at c) .room
 
 first-fit-requires : tie.Need-first-fit-requires
@@ -72,7 +72,7 @@ enum-known-s : tie.Need-enum-known-s
 enum-known-s c = search needs
 
 place-requires : tie.Need-place-requires
-place-requires c κs = (c .before .before .before .before .before .before .before .before .pre .0 .few, (omega arith, room-at (c .before .before)))
+place-requires c κs = (c .before .before .before .before .before .before .before .before .pre .0 .is-table, (omega arith, room-at (c .before .before)))
 
 offset-requires : tie.Need-offset-requires
 offset-requires c κs =
@@ -106,7 +106,7 @@ plus-requires c κs =
     omega (arith, room-at m, s .pre .1, held-few (s .pre .0))
 
 sub-clear-blocks : tie.Need-sub-clear-blocks
-sub-clear-blocks c = search needs
+sub-clear-blocks c = omega (arith, c .before .before .before .before .before .before .before .before .before .before .before .before .before .before .before .before .before .before .before .before .pre .1)
 
 clear-blocks-requires : tie.Need-clear-blocks-requires
 clear-blocks-requires c κs =
@@ -121,7 +121,7 @@ clear-blocks-requires c κs =
 release-requires : tie.Need-release-requires
 release-requires c κs =
     let p = c .before .before .before .before .before .before .before .before .before .before .before .before .before .before .before in
-    omega (arith, held-room (p .before .before .before .before .before .before .before .before .before .pre .0), ap length (p .place .ensures) ∙ placed-length _ _ _)
+    (p .place .ensures .is-table, omega (arith, held-room (p .before .before .before .before .before .before .before .before .before .pre .0), ap length (p .place .ensures .entries) ∙ placed-length _ _ _))
 
 difference-requires : tie.Need-difference-requires
 difference-requires c κs =
@@ -159,7 +159,7 @@ same-length-3 : tie.Need-same-length-3
 same-length-3 c = search needs
 
 returns-2 : tie.Need-returns-2
-returns-2 c = rw (c .unplaced .ensures) (nowhere _ _ _ _ _ (sym (c .before .before .before .first-fit .ensures) ∙ ap found (c .before .enum-told .given .1)))
+returns-2 c = (c .before .before .before .before .before .before .before .pre .0 .is-table, rw (c .unplaced .ensures) (nowhere _ _ _ _ _ _ (sym (c .before .before .before .first-fit .ensures) ∙ ap found (c .before .enum-told .given .1))))
 
 pub relocate-spec : {M : Type 1} → statement M
 relocate-spec =

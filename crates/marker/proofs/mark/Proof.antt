@@ -5,8 +5,9 @@ use Prim.Native.Nat.{_+_, _≤_}
 use native.Mathlib.Omega.{arith}
 use borrow.Author.Needs.{needs}
 use lib.ListN.{length}
+use Rattle.rules.specs.Planes.{IsTable}
 use Rattle.rules.specs.Marking.{rescan}
-use Rattle.rules.proofs.Entries.{length-entriesOf}
+use Rattle.rules.proofs.Planes.{few-entries}
 use Rattle.rules.proofs.Marking.{toRescan, rescan-most}
 use Rattle.marker.specs.Variables.{contextOf, idle}
 use Rattle.marker.proofs.Turning.{shape-same, Rescanned, rescanned, mark-end}
@@ -14,40 +15,42 @@ use Rattle.marker.proofs.mark.Statement.{statement}
 use Rattle.marker.proofs.mark.Tie as tie
 
 abbrev Inv-loop : tie.InvT-loop
-Inv-loop base pool table₀ stack₀ roots overflow₀ rescans₀ table stack overflow rescans =
-    (rescans + toRescan (idle table overflow) ≤ toRescan (idle table₀ overflow₀))
+Inv-loop base t pool table₀ stack₀ roots overflow₀ rescans₀ table stack overflow rescans =
+    (rescans + toRescan (idle t table overflow) ≤ toRescan (idle t table₀ overflow₀))
+    × IsTable t table
     × (length table ≡ length table₀)
     × (length stack ≡ length stack₀)
-    × (rescan (contextOf (base .0) pool stack₀) (idle table overflow) rescans ≡ rescan (contextOf (base .0) pool stack₀) (idle table₀ overflow₀) 0)
+    × (rescan (contextOf (base .0) pool stack₀) (idle t table overflow) rescans ≡ rescan (contextOf (base .0) pool stack₀) (idle t table₀ overflow₀) 0)
 
 abbrev μ-loop : tie.MeasureT-loop
-μ-loop base pool table₀ stack₀ roots overflow₀ rescans₀ table stack overflow rescans = toRescan (idle table overflow)
+μ-loop base t pool table₀ stack₀ roots overflow₀ rescans₀ table stack overflow rescans = toRescan (idle t table overflow)
 
 mark-roots-requires : tie.Need-mark-roots-requires Inv-loop μ-loop
 mark-roots-requires c κs = search needs
 
 loop-holds : tie.Need-loop-holds Inv-loop μ-loop
-loop-holds c = (omega arith, refl, refl, refl)
+loop-holds c = (omega arith, c .before .before .before .before .mark-roots .ensures .0, refl, refl, refl)
 
 rescan-requires : tie.Need-rescan-requires Inv-loop μ-loop
 rescan-requires c κs =
     let a = c .before .before .before .before .before .before .before .before .before .before .before .before .before .before .before .args in
-    shape-same (a .pool .now) (a .table .now) (c .before .before .before .loop .table) (c .before .before .before .before .before .before .before .before .before .before .before .before .before .before .before .pre) (c .before .before .before .loop .inv .1 ∙ c .before .before .before .before .before .before .before .before .mark-roots .kept .1 .1 .0)
+    shape-same (a .t) (a .pool .now) (a .table .now) (c .before .before .before .loop .table) (c .before .before .before .before .before .before .before .before .before .before .before .before .before .before .before .pre) (c .before .before .before .loop .inv .1)
 
 turned : (c : tie.After-slice-known6 Inv-loop μ-loop) →
     let l = c .before .before .before .before .before .before .before .before .loop in
     let r = c .before .before .before .before .rescan in
-    Rescanned (c .before .before .before .before .before .before .before .before .before .before .before .before .before .before .before .before .before .before .before .before .args .base .0) (c .before .before .before .before .before .before .before .before .before .before .before .before .before .before .before .before .before .before .before .before .args .pool .now) (c .before .before .before .before .before .before .before .before .before .before .before .before .before .mark-roots .last .1 .1 .1 .0) (l .table) (r .last .1 .1 .0) (l .overflow) (r .result)
+    Rescanned (c .before .before .before .before .before .before .before .before .before .before .before .before .before .before .before .before .before .before .before .before .args .base .0) (c .before .before .before .before .before .before .before .before .before .before .before .before .before .before .before .before .before .before .before .before .args .t) (c .before .before .before .before .before .before .before .before .before .before .before .before .before .before .before .before .before .before .before .before .args .pool .now) (c .before .before .before .before .before .before .before .before .before .before .before .before .before .mark-roots .last .1 .1 .1 .1 .0) (l .table) (r .last .1 .1 .1 .0) (l .overflow) (r .result)
 turned c =
     let l = c .before .before .before .before .before .before .before .before .loop in
     let r = c .before .before .before .before .rescan in
-    rescanned (c .before .before .before .before .before .before .before .before .before .before .before .before .before .before .before .before .before .before .before .before .args .base .0) (c .before .before .before .before .before .before .before .before .before .before .before .before .before .before .before .before .before .before .before .before .args .pool .now) (c .before .before .before .before .before .before .before .before .before .before .before .before .before .mark-roots .last .1 .1 .1 .0) (l .stack) (l .table) (r .last .1 .1 .0) (l .overflow) (r .result)
-    (c .before .before .before .before .before .before .before .loop-test .taken) (l .inv .2) (r .ensures)
+    rescanned (c .before .before .before .before .before .before .before .before .before .before .before .before .before .before .before .before .before .before .before .before .args .base .0) (c .before .before .before .before .before .before .before .before .before .before .before .before .before .before .before .before .before .before .before .before .args .t) (c .before .before .before .before .before .before .before .before .before .before .before .before .before .before .before .before .before .before .before .before .args .pool .now) (c .before .before .before .before .before .before .before .before .before .before .before .before .before .mark-roots .last .1 .1 .1 .1 .0) (l .stack) (l .table) (r .last .1 .1 .1 .0) (l .overflow) (r .result)
+    (c .before .before .before .before .before .before .before .loop-test .taken) (l .inv .3) (r .ensures .1)
 
 add-rescans : tie.Need-add-rescans Inv-loop μ-loop
 add-rescans c =
+    let a = c .before .before .before .before .before .before .before .before .before .before .before .before .before .before .before .before .before .before .before .before .args in
     let m = c .before .before .before .before .before .before .before .before .before .before .before .before .before .mark-roots in
-    omega (arith, turned c .less, c .before .before .before .before .before .before .before .before .loop .inv .0, rescan-most (idle (m .last .1 .1 .0) (m .result)), length-entriesOf (m .last .1 .1 .0), m .kept .1 .1 .0, c .before .before .before .before .before .before .before .before .before .before .before .before .before .before .before .before .before .before .before .before .pre .small)
+    omega (arith, turned c .less, c .before .before .before .before .before .before .before .before .loop .inv .0, rescan-most (idle (a .t) (m .last .1 .1 .1 .0) (m .result)), few-entries (a .t) (m .last .1 .1 .1 .0) (m .ensures .0))
 
 loop-less : tie.Need-loop-less Inv-loop μ-loop
 loop-less c = turned c .less
@@ -56,7 +59,7 @@ loop-again : tie.Need-loop-again Inv-loop μ-loop
 loop-again c =
     let l = c .before .before .before .before .before .before .before .before .loop in
     let r = c .before .before .before .before .rescan in
-    (omega (arith, turned c .less, l .inv .0), r .kept .1 .1 .0 ∙ l .inv .1, r .kept .1 .1 .1 .0 ∙ l .inv .2, turned c .same (l .rescans) ∙ l .inv .3)
+    (omega (arith, turned c .less, l .inv .0), r .ensures .0, r .kept .1 .1 .1 .0 ∙ l .inv .2, r .kept .1 .1 .1 .1 .0 ∙ l .inv .3, turned c .same (l .rescans) ∙ l .inv .4)
 
 same-length : tie.Need-same-length Inv-loop μ-loop
 same-length c = search needs
@@ -68,9 +71,11 @@ returns : tie.Need-returns Inv-loop μ-loop
 returns c =
     let a = c .before .before .before .before .before .before .before .before .before .before .before .before .before .args in
     let l = c .before .loop in
-    let m = c .before .before .before .before .before .before .mark-roots in
-    mark-end (a .base .0) (a .pool .now) (m .last .1 .1 .1 .0) (a .stack .now) (a .roots .now) (a .table .now) (m .last .1 .1 .0) (l .table) (m .result) (l .overflow) (l .rescans)
-    (m .kept .1 .1 .1 .0) (c .loop-test .left) (m .ensures) (l .inv .3)
+    let m = c .before .before .before .before .before .before .mark-roots in (
+      l .inv .1,
+      mark-end (a .base .0) (a .t) (a .pool .now) (m .last .1 .1 .1 .1 .0) (a .stack .now) (a .roots .now) (a .table .now) (m .last .1 .1 .1 .0) (l .table) (m .result) (l .overflow) (l .rescans)
+          (m .kept .1 .1 .1 .1 .0) (c .loop-test .left) (m .ensures .1) (l .inv .4),
+    )
 
 pub mark-spec : {M : Type 1} → statement M
 mark-spec =

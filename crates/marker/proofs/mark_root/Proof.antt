@@ -6,13 +6,15 @@ use mathlib.Core.Option.{some}
 use Prim.Native.Nat.{ℕ, _<_}
 use native.Mathlib.Omega.{arith}
 use borrow.Author.Needs.{needs}
+use borrow.Author.Tests.{eqb-true, eqb-false, not-true, not-false}
 use lib.ListN.{length}
 use Rattle.memory.specs.Places.{found}
-use Rattle.rules.specs.Entries.{HEAD, entriesOf}
+use Rattle.rules.specs.Entries.{HEAD}
 use Rattle.rules.specs.Tables.{entryAt}
 use Rattle.rules.specs.Pointers.{targetOf}
+use Rattle.rules.specs.Planes.{entriesIn}
 use Rattle.rules.specs.Marking.{state, trace}
-use Rattle.rules.proofs.Entries.{length-entriesOf}
+use Rattle.rules.proofs.Planes.{same-length as as-many}
 use Rattle.rules.proofs.Tables.{start-says}
 use Rattle.rules.proofs.Marking.{head-inside}
 use Rattle.marker.specs.Variables.{contextOf, idle}
@@ -33,69 +35,70 @@ enum-known-target c = search needs
 enum-told : tie.Need-enum-told
 enum-told c = search needs
 
-same-length : tie.Need-same-length
-same-length c = search needs
-
 returns : tie.Need-returns
 returns c =
-    let a = c .before .before .before .before .before .before .before .before .args in
-    sym (root-none (contextOf (a .base .0) (a .pool .now) (a .stack .now)) (a .w) (idle (a .table .now) (a .overflow)) _ (c .before .before .before .blocks2 .ensures)
-    (sym (ap found (c .enum-told .given .1)) ∙ c .before .before .target .ensures))
+    let a = c .before .before .before .before .before .before .before .args in (
+      c .before .before .before .before .before .before .before .pre .is-table,
+      sym (root-none (contextOf (a .base .0) (a .pool .now) (a .stack .now)) (a .w) (idle (a .t) (a .table .now) (a .overflow)) _ (c .before .before .before .blocks2 .ensures _)
+          (sym (ap found (c .enum-told .given .1)) ∙ c .before .before .target .ensures)),
+    )
 
 -- the block that the target is
-at : (c : tie.After-target2) → some (c .target2 .given .0 .0 .0) ≡ targetOf (c .before .before .before .before .before .before .before .before .args .base .0) (c .before .before .before .blocks2 .result) (c .before .before .before .before .before .before .before .before .args .w)
+at : (c : tie.After-target2) → some (c .target2 .given .0 .0 .0) ≡ targetOf (c .before .before .before .before .before .before .before .args .base .0) (c .before .before .before .blocks2 .result) (c .before .before .before .before .before .before .before .args .w)
 at c = sym (ap found (c .target2 .given .1)) ∙ c .before .before .target .ensures
 
 -- it is a block of the table
-inside : (c : tie.After-target2) → c .target2 .given .0 .0 .0 < length (entriesOf (c .before .before .before .before .before .before .before .before .args .table .now))
-inside c = omega (arith, target-inside _ _ _ _ (at c), c .before .before .before .blocks2 .ensures)
+inside : (c : tie.After-target2) → c .target2 .given .0 .0 .0 < length (entriesIn (c .before .before .before .before .before .before .before .args .t) (c .before .before .before .before .before .before .before .args .table .now))
+inside c = omega (arith, target-inside _ _ _ _ (at c), c .before .before .before .blocks2 .ensures (c .before .before .before .before .before .before .before .args .table .now))
 
 start-requires : tie.Need-start-requires
-start-requires c κs = (c .before .before .before .before .before .before .before .before .before .before .pre .small, inside (c .before .before))
+start-requires c κs = (c .before .before .before .before .before .before .before .before .before .pre .is-table, inside (c .before .before))
 
-entry-requires : tie.Need-entry-requires
-entry-requires c κs =
-    omega (arith, c .before .start .ensures, start-says (entriesOf (c .before .before .before .before .before .before .before .before .before .before .before .before .args .table .now)) (c .before .before .before .before .target2 .given .0 .0 .0) .from, inside (c .before .before .before .before))
+is-head-requires : tie.Need-is-head-requires
+is-head-requires c κs =
+    (c .before .before .before .before .before .before .before .before .before .before .before .pre .is-table, omega (arith, c .before .start .ensures, start-says (entriesIn (c .before .before .before .before .before .before .before .before .before .before .before .args .t) (c .before .before .before .before .before .before .before .before .before .before .before .args .table .now)) (c .before .before .before .before .target2 .given .0 .0 .0) .from, inside (c .before .before .before .before)))
+
+same-length : tie.Need-same-length
+same-length c = search needs
+
+returns-2 : tie.Need-returns-2
+returns-2 c =
+    let a = c .before .before .before .before .before .before .before .before .before .before .before .before .before .args in
+    let x = contextOf (a .base .0) (a .pool .now) (a .stack .now) in
+    let s = idle (a .t) (a .table .now) (a .overflow) in
+    (c .before .before .before .before .before .before .before .before .before .before .before .before .before .pre .is-table, sym (root-target x (a .w) s _ (c .before .before .before .before .before .before .before .before .before .blocks2 .ensures _) (at (c .before .before .before .before .before .before)) ∙ root-stays x s _ _ (c .before .before .before .start .ensures) (eqb-false _ _ (sym (c .before .is-head .ensures) ∙ not-true _ (c .if1 .taken)))))
+
+-- the object's start is a HEAD
+head : (c : tie.Else1) → entryAt (entriesIn (c .before .before .before .before .before .before .before .before .before .before .before .before .before .args .t) (c .before .before .before .before .before .before .before .before .before .before .before .before .before .args .table .now)) (c .before .before .before .start .result .0) ≡ HEAD
+head c = eqb-true _ _ (sym (c .before .is-head .ensures) ∙ not-false _ (c .if1 .left))
+
+set-mark-requires : tie.Need-set-mark-requires
+set-mark-requires c κs = (c .before .before .before .before .before .before .before .before .before .before .before .before .before .before .pre .is-table, head (c .before))
+
+trace-requires : tie.Need-trace-requires
+trace-requires c κs =
+    let a = c .before .before .before .before .before .before .before .before .before .before .before .before .before .before .before .before .before .before .before .args in
+    let e = c .before .before .before .before .set-mark in (
+      shape-same (a .t) (a .pool .now) (a .table .now) (e .last .1 .0) (c .before .before .before .before .before .before .before .before .before .before .before .before .before .before .before .before .before .before .before .pre) (e .ensures .is-table),
+      omega (arith, head-inside (entriesIn (a .t) (a .table .now)) _ (head (c .before .before .before .before .before .before)), as-many (a .t) (e .last .1 .0) (a .table .now)),
+    )
 
 same-length-2 : tie.Need-same-length-2
 same-length-2 c = search needs
 
-returns-2 : tie.Need-returns-2
-returns-2 c =
-    let a = c .before .before .before .before .before .before .before .before .before .before .before .before .before .before .args in
-    let t = contextOf (a .base .0) (a .pool .now) (a .stack .now) in
-    let s = idle (a .table .now) (a .overflow) in
-    sym (root-target t (a .w) s _ (c .before .before .before .before .before .before .before .before .before .blocks2 .ensures) (at (c .before .before .before .before .before .before)) ∙ root-stays t s _ _ (c .before .before .before .start .ensures) (λ q. c .if1 .taken (c .before .entry .ensures ∙ q)))
-
--- the object's start is a HEAD
-head : (c : tie.Else1) → entryAt (entriesOf (c .before .before .before .before .before .before .before .before .before .before .before .before .before .before .args .table .now)) (c .before .before .before .start .result .0) ≡ HEAD
-head c = sym (c .before .entry .ensures) ∙ c .if1 .left
-
-set-entry-requires : tie.Need-set-entry-requires
-set-entry-requires c κs = (head-inside (entriesOf (c .before .before .before .before .before .before .before .before .before .before .before .before .before .before .before .args .table .now)) _ (head (c .before)), search needs)
-
-trace-requires : tie.Need-trace-requires
-trace-requires c κs =
-    let a = c .before .before .before .before .before .before .before .before .before .before .before .before .before .before .before .before .before .before .before .before .args in
-    let e = c .before .before .before .before .set-entry in (
-      shape-same (a .pool .now) (a .table .now) (e .last .0) (c .before .before .before .before .before .before .before .before .before .before .before .before .before .before .before .before .before .before .before .before .pre) (e .kept .0),
-      omega (arith, head-inside (entriesOf (a .table .now)) _ (head (c .before .before .before .before .before .before)), e .kept .0, length-entriesOf (e .last .0), length-entriesOf (a .table .now)),
-    )
-
 same-length-3 : tie.Need-same-length-3
 same-length-3 c = search needs
 
-same-length-4 : tie.Need-same-length-4
-same-length-4 c = search needs
-
 returns-3 : tie.Need-returns-3
 returns-3 c =
-    let a = c .before .before .before .before .before .before .before .before .before .before .before .before .before .before .before .before .before .before .before .before .before .before .before .before .before .args in
-    let t = contextOf (a .base .0) (a .pool .now) (a .stack .now) in
-    let s = idle (a .table .now) (a .overflow) in
-    let h = c .before .before .before .before .before .before .before .before .before .before .before .before .before .before .start in
-    c .before .before .before .before .trace .ensures ∙ ap (λ (es : List ℕ). trace t (h .result .0) (state es [] (a .overflow))) (c .before .before .before .before .before .before .before .before .before .set-entry .ensures)
-    ∙ sym (root-target t (a .w) s _ (c .before .before .before .before .before .before .before .before .before .before .before .before .before .before .before .before .before .before .before .before .blocks2 .ensures) (at (c .before .before .before .before .before .before .before .before .before .before .before .before .before .before .before .before .before)) ∙ root-takes t s _ (h .result .0) (h .ensures) (head (c .before .before .before .before .before .before .before .before .before .before .before)))
+    let a = c .before .before .before .before .before .before .before .before .before .before .before .before .before .before .before .before .before .before .before .before .before .before .before .before .args in
+    let x = contextOf (a .base .0) (a .pool .now) (a .stack .now) in
+    let s = idle (a .t) (a .table .now) (a .overflow) in
+    let h = c .before .before .before .before .before .before .before .before .before .before .before .before .before .before .start in (
+      c .before .before .before .before .trace .ensures .0,
+      c .before .before .before .before .trace .ensures .1 ∙ ap (λ (es : List ℕ). trace x (h .result .0) (state es [] (a .overflow))) (c .before .before .before .before .before .before .before .before .before .set-mark .ensures .entries)
+          ∙ sym (root-target x (a .w) s _ (c .before .before .before .before .before .before .before .before .before .before .before .before .before .before .before .before .before .before .before .before .blocks2 .ensures _) (at (c .before .before .before .before .before .before .before .before .before .before .before .before .before .before .before .before .before)) ∙ root-takes x s _ (h .result .0) (h .ensures) (head (c .before .before .before .before .before .before .before .before .before .before .before))),
+    )
 
 pub mark-root-spec : {M : Type 1} → statement M
 mark-root-spec =
@@ -105,14 +108,13 @@ mark-root-spec =
     target-requires
     enum-known-target
     enum-told
-    same-length
     returns
     start-requires
-    entry-requires
-    same-length-2
+    is-head-requires
+    same-length
     returns-2
-    set-entry-requires
+    set-mark-requires
     trace-requires
+    same-length-2
     same-length-3
-    same-length-4
     returns-3)

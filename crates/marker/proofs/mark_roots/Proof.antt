@@ -7,6 +7,7 @@ use native.Mathlib.Omega.{arith}
 use borrow.Author.Needs.{needs}
 use lib.ListN.{length, drop}
 use Rattle.rules.specs.Words.{wordsOf}
+use Rattle.rules.specs.Planes.{IsTable}
 use Rattle.rules.specs.Marking.{markRoots}
 use Rattle.rules.proofs.Words.{length-wordsOf}
 use Rattle.rules.proofs.Marking.{roots-end}
@@ -16,22 +17,23 @@ use Rattle.marker.proofs.mark_roots.Statement.{statement}
 use Rattle.marker.proofs.mark_roots.Tie as tie
 
 abbrev Inv-loop : tie.InvT-loop
-Inv-loop base pool table₀ stack₀ roots overflow₀ i₀ table stack overflow i =
-    (length table ≡ length table₀)
+Inv-loop base t pool table₀ stack₀ roots overflow₀ i₀ table stack overflow i =
+    IsTable t table
+    × (length table ≡ length table₀)
     × (length stack ≡ length stack₀)
-    × (markRoots (contextOf (base .0) pool stack₀) (drop i (wordsOf roots)) (idle table overflow) ≡ markRoots (contextOf (base .0) pool stack₀) (wordsOf roots) (idle table₀ false))
+    × (markRoots (contextOf (base .0) pool stack₀) (drop i (wordsOf roots)) (idle t table overflow) ≡ markRoots (contextOf (base .0) pool stack₀) (wordsOf roots) (idle t table₀ false))
 
 abbrev μ-loop : tie.MeasureT-loop
-μ-loop base pool table₀ stack₀ roots overflow₀ i₀ table stack overflow i = length roots / 4 - i
+μ-loop base t pool table₀ stack₀ roots overflow₀ i₀ table stack overflow i = length roots / 4 - i
 
 loop-holds : tie.Need-loop-holds Inv-loop μ-loop
-loop-holds c = (refl, refl, refl)
+loop-holds c = (c .before .before .before .before .pre .is-table, refl, refl, refl)
 
 word-requires : tie.Need-word-requires Inv-loop μ-loop
 word-requires c κs = omega (arith, c .before .before .loop-test .taken)
 
 mark-root-requires : tie.Need-mark-root-requires Inv-loop μ-loop
-mark-root-requires c κs = shape-same (c .before .before .before .before .before .before .before .before .before .args .pool .now) (c .before .before .before .before .before .before .before .before .before .args .table .now) (c .before .before .before .before .loop .table) (c .before .before .before .before .before .before .before .before .before .pre) (c .before .before .before .before .loop .inv .0)
+mark-root-requires c κs = shape-same (c .before .before .before .before .before .before .before .before .before .args .t) (c .before .before .before .before .before .before .before .before .before .args .pool .now) (c .before .before .before .before .before .before .before .before .before .args .table .now) (c .before .before .before .before .loop .table) (c .before .before .before .before .before .before .before .before .before .pre) (c .before .before .before .before .loop .inv .0)
 
 add-i : tie.Need-add-i Inv-loop μ-loop
 add-i c = search needs
@@ -44,10 +46,11 @@ loop-again c =
     let a = c .before .before .before .before .before .before .before .before .before .before .before .before .before .before .args in
     let l = c .before .before .before .before .before .before .before .before .before .loop in
     let r = c .before .before .before .before .mark-root in (
-      r .kept .1 .1 .0 ∙ l .inv .0,
+      r .ensures .0,
       r .kept .1 .1 .1 .0 ∙ l .inv .1,
-      roots-next (a .base .0) (a .pool .now) (a .stack .now) (a .roots .now) (l .i) (c .before .before .before .before .before .word .result) (l .stack) (idle (l .table) (l .overflow))
-          (c .before .before .before .before .before .before .before .before .loop-test .taken) (l .inv .1) (c .before .before .before .before .before .word .ensures) (r .ensures) (l .inv .2),
+      r .kept .1 .1 .1 .1 .0 ∙ l .inv .2,
+      roots-next (a .base .0) (a .pool .now) (a .stack .now) (a .roots .now) (l .i) (c .before .before .before .before .before .word .result) (l .stack) (idle (a .t) (l .table) (l .overflow))
+          (c .before .before .before .before .before .before .before .before .loop-test .taken) (l .inv .2) (c .before .before .before .before .before .word .ensures) (r .ensures .1) (l .inv .3),
     )
 
 same-length : tie.Need-same-length Inv-loop μ-loop
@@ -59,9 +62,11 @@ same-length-2 c = search needs
 returns : tie.Need-returns Inv-loop μ-loop
 returns c =
     let a = c .before .before .before .before .before .before .args in
-    let l = c .before .loop in
-    roots-end (contextOf (a .base .0) (a .pool .now) (a .stack .now)) (wordsOf (a .roots .now)) (l .i) (idle (l .table) (l .overflow))
-    (omega (arith, c .loop-test .left, length-wordsOf (a .roots .now))) (l .inv .2)
+    let l = c .before .loop in (
+      l .inv .0,
+      roots-end (contextOf (a .base .0) (a .pool .now) (a .stack .now)) (wordsOf (a .roots .now)) (l .i) (idle (a .t) (l .table) (l .overflow))
+          (omega (arith, c .loop-test .left, length-wordsOf (a .roots .now))) (l .inv .3),
+    )
 
 pub mark-roots-spec : {M : Type 1} → statement M
 mark-roots-spec =

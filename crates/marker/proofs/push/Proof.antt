@@ -4,22 +4,22 @@ use Prim.Native.Nat.{_<_}
 use native.Mathlib.Omega.{arith}
 use borrow.Author.Needs.{needs}
 use lib.ListN.{length}
-use Rattle.rules.specs.Entries.{entriesOf}
-use Rattle.rules.proofs.Entries.{length-entriesOf}
+use Rattle.rules.specs.Planes.{entriesIn}
+use Rattle.rules.proofs.Planes.{few-entries}
 use Rattle.rules.proofs.Marking.{head-inside}
 use Rattle.marker.proofs.Stacking.{came-pushes, came-loses}
 use Rattle.marker.proofs.push.Statement.{statement}
 use Rattle.marker.proofs.push.Tie as tie
 
 -- the HEAD is a block of the table
-inside : (c : tie.Start) → c .args .k .0 < length (entriesOf (c .args .table .now))
-inside c = head-inside (entriesOf (c .args .table .now)) (c .args .k .0) (c .pre .1)
+inside : (c : tie.Start) → c .args .k .0 < length (entriesIn (c .args .t) (c .args .table .now))
+inside c = head-inside (entriesIn (c .args .t) (c .args .table .now)) (c .args .k .0) (c .pre .1)
 
-set-entry-requires : tie.Need-set-entry-requires
-set-entry-requires c κs = (inside (c .before .before .before), search needs)
+set-mark-requires : tie.Need-set-mark-requires
+set-mark-requires c κs = search needs
 
 to-word-requires : tie.Need-to-word-requires
-to-word-requires c κs = omega (arith, inside (c .before .before .before .before .before .before .before .before .before .before), length-entriesOf (c .before .before .before .before .before .before .before .before .before .before .args .table .now), c .before .before .before .before .before .before .before .before .before .before .pre .0)
+to-word-requires c κs = omega (arith, inside (c .before .before .before .before .before .before .before .before .before .before), few-entries (c .before .before .before .before .before .before .before .before .before .before .args .t) (c .before .before .before .before .before .before .before .before .before .before .args .table .now) (c .before .before .before .before .before .before .before .before .before .before .pre .0 .0))
 
 set-word-requires : tie.Need-set-word-requires
 set-word-requires c κs = search needs
@@ -36,8 +36,8 @@ same-length-2 c = search needs
 returns : tie.Need-returns
 returns c base pool =
     let a = c .before .before .before .before .before .before .before .before .before .before .before .before .before .before .args in
-    came-pushes base pool (a .table .now) (a .stack .now) (a .m) (a .k .0) (c .before .before .before .before .before .before .before .before .before .before .before .before .before .before .pre .0 .1 .0) (c .before .before .before .before .before .before .before .before .before .before .before .before .before .before .pre .0 .1 .1) (c .before .before .before .before .before .before .before .before .before .before .before .before .before .before .pre .1) (c .before .before .before .before .before .before .before .before .before .before .set-entry .ensures)
-    (omega (arith, inside (c .before .before .before .before .before .before .before .before .before .before .before .before .before .before), length-entriesOf (a .table .now), c .before .before .before .before .before .before .before .before .before .before .before .before .before .before .pre .0)) (c .before .before .before .before .before .if1 .taken) (rw (c .before .before .before .to-word .ensures) at (c .before .before .set-word .ensures))
+    came-pushes base (a .t) pool (a .table .now) (a .stack .now) (a .m) (a .k .0) (c .before .before .before .before .before .before .before .before .before .before .before .before .before .before .pre .0 .1 .0) (c .before .before .before .before .before .before .before .before .before .before .before .before .before .before .pre .0 .1 .1) (c .before .before .before .before .before .before .before .before .before .before .before .before .before .before .pre .1) (c .before .before .before .before .before .before .before .before .before .before .set-mark .ensures)
+    (omega (arith, inside (c .before .before .before .before .before .before .before .before .before .before .before .before .before .before), few-entries (a .t) (a .table .now) (c .before .before .before .before .before .before .before .before .before .before .before .before .before .before .pre .0 .0))) (c .before .before .before .before .before .if1 .taken) (rw (c .before .before .before .to-word .ensures) at (c .before .before .set-word .ensures))
 
 same-length-3 : tie.Need-same-length-3
 same-length-3 c = search needs
@@ -45,13 +45,13 @@ same-length-3 c = search needs
 returns-2 : tie.Need-returns-2
 returns-2 c base pool =
     let a = c .before .before .before .before .before .before .before .before .before .args in
-    came-loses base pool (a .table .now) (a .stack .now) (a .m) (a .k .0) (c .before .before .before .before .before .before .before .before .before .pre .0 .1 .0) (c .before .before .before .before .before .before .before .before .before .pre .0 .1 .1) (c .before .before .before .before .before .before .before .before .before .pre .1) (c .before .before .before .before .before .set-entry .ensures) (c .if1 .left)
+    came-loses base (a .t) pool (a .table .now) (a .stack .now) (a .m) (a .k .0) (c .before .before .before .before .before .before .before .before .before .pre .0 .1 .0) (c .before .before .before .before .before .before .before .before .before .pre .0 .1 .1) (c .before .before .before .before .before .before .before .before .before .pre .1) (c .before .before .before .before .before .set-mark .ensures) (c .if1 .left)
 
 pub push-spec : {M : Type 1} → statement M
 push-spec =
     tie.close
     (tie.spec
-    set-entry-requires
+    set-mark-requires
     to-word-requires
     set-word-requires
     add-deeper

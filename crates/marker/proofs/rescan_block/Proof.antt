@@ -16,9 +16,11 @@ same-length c = search needs
 
 returns : tie.Need-returns
 returns c =
-    let a = c .before .before .before .before .before .before .args in
-    sym (pass-skips (contextOf (a .base .0) (a .pool .now) (a .stack .now)) (a .k .0) (idle (a .table .now) (a .overflow))
-    (λ q. c .if1 .taken (c .before .entry .ensures ∙ q)))
+    let a = c .before .before .before .before .before .before .args in (
+      c .before .before .before .before .before .before .pre .0 .is-table,
+      sym (pass-skips (contextOf (a .base .0) (a .pool .now) (a .stack .now)) (a .k .0) (idle (a .t) (a .table .now) (a .overflow))
+          (λ q. c .if1 .taken (c .before .entry .ensures ∙ q))),
+    )
 
 trace-requires : tie.Need-trace-requires
 trace-requires c κs = search needs
@@ -31,9 +33,11 @@ same-length-3 c = search needs
 
 returns-2 : tie.Need-returns-2
 returns-2 c =
-    let a = c .before .before .before .before .before .before .before .before .before .before .before .before .before .args in
-    block-end (contextOf (a .base .0) (a .pool .now) (a .stack .now)) (a .k .0) (idle (a .table .now) (a .overflow))
-    (sym (c .before .before .before .before .before .before .before .before .entry .ensures) ∙ c .before .before .before .before .before .before .before .if1 .left) (c .before .before .before .before .trace .ensures)
+    let a = c .before .before .before .before .before .before .before .before .before .before .before .before .before .args in (
+      c .before .before .before .before .trace .ensures .0,
+      block-end (contextOf (a .base .0) (a .pool .now) (a .stack .now)) (a .k .0) (idle (a .t) (a .table .now) (a .overflow))
+          (sym (c .before .before .before .before .before .before .before .before .entry .ensures) ∙ c .before .before .before .before .before .before .before .if1 .left) (c .before .before .before .before .trace .ensures .1),
+    )
 
 pub rescan-block-spec : {M : Type 1} → statement M
 rescan-block-spec =

@@ -3,7 +3,7 @@
 use mathlib.Core.Path.{sym, _∙_}
 use borrow.Author.Needs.{needs}
 use borrow.Author.Tests.{leb-true}
-use Rattle.rules.specs.Entries.{entriesOf}
+use Rattle.rules.specs.Planes.{entriesIn}
 use Rattle.rules.proofs.Tables.{start-between}
 use Rattle.marker.proofs.start_of.Statement.{statement}
 use Rattle.marker.proofs.start_of.Tie as tie
@@ -17,7 +17,7 @@ is-at-or-after-requires-2 c κs = search needs
 returns : tie.Need-returns
 returns c =
     let a = c .before .before .before .before .before .before .args in
-    sym (start-between (entriesOf (a .table .now)) (a .k .0) (a .m .last .0) (a .m .first .0) (c .before .before .before .before .before .before .pre .1 .1)
+    sym (start-between (entriesIn (a .t) (a .table .now)) (a .k .0) (a .m .last .0) (a .m .first .0) (c .before .before .before .before .before .before .pre .1 .1)
     (leb-true _ _ (sym (c .before .before .before .before .is-at-or-after .ensures) ∙ c .before .before .before .if1 .taken)) (leb-true _ _ (sym (c .before .before .is-at-or-after2 .ensures) ∙ c .before .if2 .taken)))
 
 start-requires : tie.Need-start-requires

@@ -5,7 +5,7 @@ use Prim.Native.Nat.{_-_, _<_}
 use native.Mathlib.Omega.{arith}
 use borrow.Author.Needs.{needs}
 use lib.ListN.{length}
-use Rattle.rules.specs.Entries.{entriesOf}
+use Rattle.rules.specs.Planes.{entriesIn}
 use Rattle.rules.specs.Marking.{trace}
 use Rattle.rules.proofs.Marking.{toDrain}
 use Rattle.marker.specs.Variables.{contextOf, stateOf, CanTrace}
@@ -14,15 +14,15 @@ use Rattle.marker.proofs.trace.Statement.{statement}
 use Rattle.marker.proofs.trace.Tie as tie
 
 abbrev Inv-loop : tie.InvT-loop
-Inv-loop base pool table₀ stack₀ overflow left₀ next₀ table stack left next =
-    CanTrace pool table stack left
-    × (next .0 < length (entriesOf table))
+Inv-loop base t pool table₀ stack₀ overflow left₀ next₀ table stack left next =
+    CanTrace t pool table stack left
+    × (next .0 < length (entriesIn t table))
     × (length table ≡ length table₀)
     × (length stack ≡ length stack₀)
-    × (trace (contextOf (base .0) pool stack₀) (next .0) (stateOf table stack left) ≡ trace (contextOf (base .0) pool stack₀) (next₀ .0) (stateOf table₀ stack₀ left₀))
+    × (trace (contextOf (base .0) pool stack₀) (next .0) (stateOf t table stack left) ≡ trace (contextOf (base .0) pool stack₀) (next₀ .0) (stateOf t table₀ stack₀ left₀))
 
 abbrev μ-loop : tie.MeasureT-loop
-μ-loop base pool table₀ stack₀ overflow left₀ next₀ table stack left next = toDrain (stateOf table stack left)
+μ-loop base t pool table₀ stack₀ overflow left₀ next₀ table stack left next = toDrain (stateOf t table stack left)
 
 first-requires : tie.Need-first-requires Inv-loop μ-loop
 first-requires c κs = search needs
@@ -33,7 +33,7 @@ first-requires-2 c κs = search needs
 loop-holds : tie.Need-loop-holds Inv-loop μ-loop
 loop-holds c =
     let a = c .before .before .before .before .before .args in
-    (can-start (a .pool .now) (a .table .now) (a .stack .now) _ (c .before .before .before .before .before .pre .0) refl (c .before .first .ensures) (c .first2 .ensures), c .before .before .before .before .before .pre .1, refl, refl, refl)
+    (can-start (a .t) (a .pool .now) (a .table .now) (a .stack .now) _ (c .before .before .before .before .before .pre .0) refl (c .before .first .ensures) (c .first2 .ensures), c .before .before .before .before .before .pre .1, refl, refl, refl)
 
 walk-requires : tie.Need-walk-requires Inv-loop μ-loop
 walk-requires c κs =
@@ -50,9 +50,11 @@ returns : tie.Need-returns Inv-loop μ-loop
 returns c =
     let a = c .before .before .before .before .before .before .before .before .before .before .before .before .before .before .before .args in
     let l = c .before .before .before .before .before .before .before .before .before .loop in
-    let w = c .before .before .before .before .before .before .walk in
-    trace-end (a .base .0) (a .pool .now) (a .stack .now) (l .table) (l .stack) (l .left) (l .inv .0) (l .inv .3) (l .next .0) (w .last .1 .1 .0) (w .last .1 .1 .1 .0) (w .result)
-    (w .kept .1 .1 .0) (w .ensures) (c .if1 .taken) ∙ l .inv .4
+    let w = c .before .before .before .before .before .before .walk in (
+      w .ensures .is-table,
+      trace-end (a .base .0) (a .t) (a .pool .now) (a .stack .now) (l .table) (l .stack) (l .left) (l .inv .0) (l .inv .3) (l .next .0) (w .last .1 .1 .1 .0) (w .last .1 .1 .1 .1 .0) (w .result)
+          (w .ensures) (c .if1 .taken) ∙ l .inv .4,
+    )
 
 sub-d : tie.Need-sub-d Inv-loop μ-loop
 sub-d c = search needs
@@ -67,14 +69,14 @@ turned : (c : tie.After-last Inv-loop μ-loop) →
     let a = c .before .before .before .before .before .before .before .before .before .before .before .before .before .before .before .before .before .before .before .before .before .args in
     let l = c .before .before .before .before .before .before .before .before .before .before .before .before .before .before .before .loop in
     let w = c .before .before .before .before .before .before .before .before .before .before .before .before .walk in
-    Popped (a .base .0) (a .pool .now) (a .stack .now) (l .table) (l .stack) (l .left) (l .next .0) (w .last .1 .1 .0) (w .last .1 .1 .1 .0)
+    Popped (a .base .0) (a .t) (a .pool .now) (a .stack .now) (l .table) (l .stack) (l .left) (l .next .0) (w .last .1 .1 .1 .0) (w .last .1 .1 .1 .1 .0)
     (record { depth = w .result .depth - 1; overflow = w .result .overflow; first = w .result .first; last = w .result .last }) (c .before .before .of-word .result .0)
 turned c =
     let a = c .before .before .before .before .before .before .before .before .before .before .before .before .before .before .before .before .before .before .before .before .before .args in
     let l = c .before .before .before .before .before .before .before .before .before .before .before .before .before .before .before .loop in
     let w = c .before .before .before .before .before .before .before .before .before .before .before .before .walk in
-    popped (a .base .0) (a .pool .now) (a .stack .now) (l .table) (l .stack) (l .left) (l .inv .0) (l .inv .3) (l .next .0) (w .last .1 .1 .0) (w .last .1 .1 .1 .0) (w .result)
-    (w .kept .1 .1 .0) (w .ensures) (c .before .before .of-word .result .0) (omega (arith, c .before .before .before .before .before .before .if1 .left)) (c .before .before .of-word .ensures ∙ c .before .before .before .word .ensures)
+    popped (a .base .0) (a .t) (a .pool .now) (a .stack .now) (l .table) (l .stack) (l .left) (l .inv .0) (l .inv .3) (l .next .0) (w .last .1 .1 .1 .0) (w .last .1 .1 .1 .1 .0) (w .result)
+    (w .ensures) (c .before .before .of-word .result .0) (omega (arith, c .before .before .before .before .before .before .if1 .left)) (c .before .before .of-word .ensures ∙ c .before .before .before .word .ensures)
 
 loop-less : tie.Need-loop-less Inv-loop μ-loop
 loop-less c = turned c .less
@@ -83,7 +85,7 @@ loop-again : tie.Need-loop-again Inv-loop μ-loop
 loop-again c =
     let l = c .before .before .before .before .before .before .before .before .before .before .before .before .before .before .before .loop in
     let w = c .before .before .before .before .before .before .before .before .before .before .before .before .walk in
-    (turned c .can, turned c .inside, w .kept .1 .1 .0 ∙ l .inv .2, w .kept .1 .1 .1 .0 ∙ l .inv .3, turned c .same ∙ l .inv .4)
+    (turned c .can, turned c .inside, w .kept .1 .1 .1 .0 ∙ l .inv .2, w .kept .1 .1 .1 .1 .0 ∙ l .inv .3, turned c .same ∙ l .inv .4)
 
 pub trace-spec : {M : Type 1} → statement M
 trace-spec =

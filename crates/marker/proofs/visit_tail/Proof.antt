@@ -1,9 +1,12 @@
 -- The object's start is found; the object is pushed if that is HEAD.
 -- Assumes nothing.
-use mathlib.Core.Path.{sym, ap, _∙_}
+use mathlib.Core.Path.{_≡_, sym, ap, _∙_}
 use native.Mathlib.Omega.{arith}
 use borrow.Author.Needs.{needs}
-use Rattle.rules.specs.Entries.{entriesOf}
+use borrow.Author.Tests.{eqb-true, eqb-false, not-true, not-false}
+use Rattle.rules.specs.Entries.{HEAD}
+use Rattle.rules.specs.Tables.{entryAt}
+use Rattle.rules.specs.Planes.{entriesIn}
 use Rattle.rules.specs.Marking.{State, marked, pushed}
 use Rattle.rules.proofs.Tables.{start-says}
 use Rattle.marker.specs.Variables.{contextOf, stateOf}
@@ -18,13 +21,13 @@ start-of-requires c κs = search needs
 remember-requires : tie.Need-remember-requires
 remember-requires c κs =
     let a = c .before .before .before .before .args in
-    let es = entriesOf (a .table .now) in
+    let es = entriesIn (a .t) (a .table .now) in
     (omega (arith, c .before .before .before .before .pre .0 .1 .1, start-says es (a .m .last .0) .from), omega (arith, c .start-of .ensures, start-says es (a .k .0) .from))
 
-entry-requires : tie.Need-entry-requires
-entry-requires c κs =
+is-head-requires : tie.Need-is-head-requires
+is-head-requires c κs =
     let a = c .before .before .before .before .before .before .args in
-    omega (arith, c .before .before .start-of .ensures, start-says (entriesOf (a .table .now)) (a .k .0) .from, c .before .before .before .before .before .before .pre .1)
+    (c .before .before .before .before .before .before .pre .0 .0, omega (arith, c .before .before .start-of .ensures, start-says (entriesIn (a .t) (a .table .now)) (a .k .0) .from, c .before .before .before .before .before .before .pre .1))
 
 same-length : tie.Need-same-length
 same-length c = search needs
@@ -35,17 +38,22 @@ returns c base pool =
     let h = c .before .before .before .before .start-of in
     let r = c .before .before .before .remember in
     record {
-      same = state-remembers (a .table .now) (a .stack .now) (a .m) (r .result) (h .result .0) (a .k .0) (r .ensures)
-          ∙ sym (visit-stays (contextOf base pool (a .stack .now)) (stateOf (a .table .now) (a .stack .now) (a .m)) (a .k .0) (h .result .0) (h .ensures) (λ q. c .if1 .taken (c .before .entry .ensures ∙ q)));
+      is-table = c .before .before .before .before .before .before .before .before .pre .0 .0;
+      same = state-remembers (a .t) (a .table .now) (a .stack .now) (a .m) (r .result) (h .result .0) (a .k .0) (r .ensures)
+          ∙ sym (visit-stays (contextOf base pool (a .stack .now)) (stateOf (a .t) (a .table .now) (a .stack .now) (a .m)) (a .k .0) (h .result .0) (h .ensures) (eqb-false _ _ (sym (c .before .is-head .ensures) ∙ not-true _ (c .if1 .taken))));
       deep = rw (r .ensures .depth) (c .before .before .before .before .before .before .before .before .pre .0 .1 .0);
-      knows = knows-either (entriesOf (a .table .now)) (a .m) (r .result) (h .result .0) (a .k .0) (c .before .before .before .before .before .before .before .before .pre .0 .1 .1) (h .ensures) (r .ensures);
+      knows = knows-either (entriesIn (a .t) (a .table .now)) (a .m) (r .result) (h .result .0) (a .k .0) (c .before .before .before .before .before .before .before .before .pre .0 .1 .1) (h .ensures) (r .ensures);
     }
+
+-- the object's start is a HEAD
+head : (c : tie.Else1) → entryAt (entriesIn (c .before .before .before .before .before .before .before .before .args .t) (c .before .before .before .before .before .before .before .before .args .table .now)) (c .before .before .before .before .start-of .result .0) ≡ HEAD
+head c = eqb-true _ _ (sym (c .before .is-head .ensures) ∙ not-false _ (c .if1 .left))
 
 push-requires : tie.Need-push-requires
 push-requires c κs =
     let a = c .before .before .before .before .before .before .before .before .before .before .args in
     let r = c .before .before .before .before .before .remember in
-    ((c .before .before .before .before .before .before .before .before .before .before .pre .0 .0, (rw (r .ensures .depth) (c .before .before .before .before .before .before .before .before .before .before .pre .0 .1 .0), knows-either (entriesOf (a .table .now)) (a .m) (r .result) (c .before .before .before .before .before .before .start-of .result .0) (a .k .0) (c .before .before .before .before .before .before .before .before .before .before .pre .0 .1 .1) (c .before .before .before .before .before .before .start-of .ensures) (r .ensures))), sym (c .before .before .before .entry .ensures) ∙ c .before .before .if1 .left)
+    ((c .before .before .before .before .before .before .before .before .before .before .pre .0 .0, (rw (r .ensures .depth) (c .before .before .before .before .before .before .before .before .before .before .pre .0 .1 .0), knows-either (entriesIn (a .t) (a .table .now)) (a .m) (r .result) (c .before .before .before .before .before .before .start-of .result .0) (a .k .0) (c .before .before .before .before .before .before .before .before .before .before .pre .0 .1 .1) (c .before .before .before .before .before .before .start-of .ensures) (r .ensures))), head (c .before .before))
 
 same-length-2 : tie.Need-same-length-2
 same-length-2 c = search needs
@@ -57,10 +65,10 @@ returns-2 : tie.Need-returns-2
 returns-2 c base pool =
     let a = c .before .before .before .before .before .before .before .before .before .before .before .before .before .before .before .args in
     let h = c .before .before .before .before .before .before .before .before .before .before .before .start-of in
-    let t = contextOf base pool (a .stack .now) in
+    let x = contextOf base pool (a .stack .now) in
     came-to (c .before .before .before .before .push .ensures base pool)
-    (ap (λ (s : State). pushed t (h .result .0) (marked (h .result .0) s)) (state-remembers (a .table .now) (a .stack .now) (a .m) (c .before .before .before .before .before .before .before .before .before .before .remember .result) (h .result .0) (a .k .0) (c .before .before .before .before .before .before .before .before .before .before .remember .ensures))
-    ∙ sym (visit-takes t (stateOf (a .table .now) (a .stack .now) (a .m)) (a .k .0) (h .result .0) (h .ensures) (sym (c .before .before .before .before .before .before .before .before .entry .ensures) ∙ c .before .before .before .before .before .before .before .if1 .left)))
+    (ap (λ (s : State). pushed x (h .result .0) (marked (h .result .0) s)) (state-remembers (a .t) (a .table .now) (a .stack .now) (a .m) (c .before .before .before .before .before .before .before .before .before .before .remember .result) (h .result .0) (a .k .0) (c .before .before .before .before .before .before .before .before .before .before .remember .ensures))
+    ∙ sym (visit-takes x (stateOf (a .t) (a .table .now) (a .stack .now) (a .m)) (a .k .0) (h .result .0) (h .ensures) (head (c .before .before .before .before .before .before .before))))
 
 pub visit-tail-spec : {M : Type 1} → statement M
 visit-tail-spec =
@@ -68,7 +76,7 @@ visit-tail-spec =
     (tie.spec
     start-of-requires
     remember-requires
-    entry-requires
+    is-head-requires
     same-length
     returns
     push-requires

@@ -5,37 +5,38 @@ use Prim.Native.Nat.{_+_, _*_, _/_, _≤_}
 use native.Mathlib.Omega.{arith}
 use borrow.Author.Needs.{needs}
 use lib.ListN.{length}
-use Rattle.rules.specs.Entries.{entriesOf}
+use Rattle.rules.specs.Planes.{entriesIn, IsTable}
 use Rattle.rules.specs.Marking.{walkWords}
-use Rattle.rules.proofs.Entries.{length-entriesOf}
+use Rattle.rules.proofs.Planes.{few-entries}
 use Rattle.marker.specs.Variables.{contextOf, stateOf, Knows}
 use Rattle.marker.proofs.Turning.{walk-turn, walk-end}
 use Rattle.marker.proofs.walk.Statement.{statement}
 use Rattle.marker.proofs.walk.Tie as tie
 
 abbrev Inv-loop : tie.InvT-loop
-Inv-loop base pool table₀ stack₀ first i₀ walked₀ table stack i walked =
+Inv-loop base t pool table₀ stack₀ first i₀ walked₀ table stack i walked =
     (i ≤ i₀)
     × (walked .depth ≤ length stack / 4)
+    × IsTable t table
     × (length table ≡ length table₀)
     × (length stack ≡ length stack₀)
-    × Knows (entriesOf table) walked
-    × (walkWords (contextOf (base .0) pool stack₀) first i (stateOf table stack walked) ≡ walkWords (contextOf (base .0) pool stack₀) first i₀ (stateOf table₀ stack₀ walked₀))
+    × Knows (entriesIn t table) walked
+    × (walkWords (contextOf (base .0) pool stack₀) first i (stateOf t table stack walked) ≡ walkWords (contextOf (base .0) pool stack₀) first i₀ (stateOf t table₀ stack₀ walked₀))
 
 abbrev μ-loop : tie.MeasureT-loop
-μ-loop base pool table₀ stack₀ first i₀ walked₀ table stack i walked = i
+μ-loop base t pool table₀ stack₀ first i₀ walked₀ table stack i walked = i
 
 first-word-requires : tie.Need-first-word-requires Inv-loop μ-loop
-first-word-requires c κs = omega (arith, c .before .before .before .pre .0 .small, c .before .before .before .pre .1 .1 .0, length-entriesOf (c .before .before .before .args .table .now))
+first-word-requires c κs = omega (arith, c .before .before .before .pre .1 .1 .0, few-entries (c .before .before .before .args .t) (c .before .before .before .args .table .now) (c .before .before .before .pre .0 .is-table))
 
 block-count-requires : tie.Need-block-count-requires Inv-loop μ-loop
 block-count-requires c κs = search needs
 
 mul-i : tie.Need-mul-i Inv-loop μ-loop
-mul-i c = omega (arith, c .block-count .ensures .1, c .before .before .before .before .before .before .pre .0 .small, length-entriesOf (c .before .before .before .before .before .before .args .table .now))
+mul-i c = omega (arith, c .block-count .ensures .1, few-entries (c .before .before .before .before .before .before .args .t) (c .before .before .before .before .before .before .args .table .now) (c .before .before .before .before .before .before .pre .0 .is-table))
 
 loop-holds : tie.Need-loop-holds Inv-loop μ-loop
-loop-holds c = (omega arith, c .before .before .before .before .before .before .pre .1 .0, refl, refl, c .before .before .before .before .before .before .pre .1 .1 .1, refl)
+loop-holds c = (omega arith, c .before .before .before .before .before .before .pre .1 .0, c .before .before .before .before .before .before .pre .0 .is-table, refl, refl, c .before .before .before .before .before .before .pre .1 .1 .1, refl)
 
 sub-i : tie.Need-sub-i Inv-loop μ-loop
 sub-i c = search needs
@@ -51,7 +52,7 @@ word-requires : tie.Need-word-requires Inv-loop μ-loop
 word-requires c κs = omega (arith, within c, c .before .before .loop-test .taken)
 
 visit-requires : tie.Need-visit-requires Inv-loop μ-loop
-visit-requires c κs = (omega (arith, c .before .before .before .before .loop .inv .2, c .before .before .before .before .before .before .before .before .before .before .before .pre .0 .small), (c .before .before .before .before .loop .inv .1, c .before .before .before .before .loop .inv .4))
+visit-requires c κs = (c .before .before .before .before .loop .inv .2, (c .before .before .before .before .loop .inv .1, c .before .before .before .before .loop .inv .5))
 
 loop-less : tie.Need-loop-less Inv-loop μ-loop
 loop-less c = search needs
@@ -63,11 +64,12 @@ loop-again c =
     let v = c .before .before .before .before .visit in (
       omega arith,
       v .ensures (a .pool .now) .deep,
-      v .kept .1 .0 ∙ l .inv .2,
+      v .ensures (a .pool .now) .is-table,
       v .kept .1 .1 .0 ∙ l .inv .3,
+      v .kept .1 .1 .1 .0 ∙ l .inv .4,
       v .ensures (a .pool .now) .knows,
       walk-turn (a .base .0) (a .pool .now) (a .stack .now) (c .before .before .before .before .before .before .before .before .before .before .before .before .first-word .result) (l .i) (c .before .before .before .before .before .word .result) (l .stack)
-          (stateOf (l .table) (l .stack) (l .walked)) (omega arith) (l .inv .3) (c .before .before .before .before .before .word .ensures) (v .ensures (a .pool .now) .same) (l .inv .5),
+          (stateOf (a .t) (l .table) (l .stack) (l .walked)) (omega arith) (l .inv .4) (c .before .before .before .before .before .word .ensures) (v .ensures (a .pool .now) .same) (l .inv .6),
     )
 
 same-length : tie.Need-same-length Inv-loop μ-loop
@@ -83,10 +85,11 @@ returns c =
     record {
       same =
           walk-end (a .base .0) (a .pool .now) (a .stack .now) (a .k .0) (c .before .before .block-count .result) (c .before .before .before .before .first-word .result) (l .i)
-          (stateOf (l .table) (l .stack) (l .walked)) (stateOf (a .table .now) (a .stack .now) (a .m))
-          (c .loop-test .left) (c .before .before .before .before .first-word .ensures) (c .before .before .block-count .ensures .0) (l .inv .5);
+          (stateOf (a .t) (l .table) (l .stack) (l .walked)) (stateOf (a .t) (a .table .now) (a .stack .now) (a .m))
+          (c .loop-test .left) (c .before .before .before .before .first-word .ensures) (c .before .before .block-count .ensures .0) (l .inv .6);
+      is-table = l .inv .2;
       deep = l .inv .1;
-      knows = l .inv .4;
+      knows = l .inv .5;
     }
 
 pub walk-spec : {M : Type 1} → statement M

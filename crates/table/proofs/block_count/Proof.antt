@@ -8,19 +8,20 @@ use native.Mathlib.Omega.{arith}
 use lib.ListN.{length}
 use borrow.Author.Needs.{needs}
 use borrow.Author.Count.{below-more}
-use borrow.Author.Tests.{ltb-true, ltb-false}
-use Rattle.rules.specs.Entries.{TAIL, entriesOf}
-use Rattle.rules.specs.Tables.{entryAt, blockCount}
-use Rattle.rules.proofs.Entries.{length-entriesOf}
+use borrow.Author.Tests.{eqb-true, eqb-false, ltb-true, ltb-false, not-true, not-false}
+use Rattle.rules.specs.Entries.{TAIL}
+use Rattle.rules.specs.Tables.{entryAt, isTail, blockCount}
+use Rattle.rules.specs.Planes.{entriesIn}
+use Rattle.rules.proofs.Planes.{few-entries}
 use Rattle.rules.proofs.Tables.{count-is, entry-outside}
 use Rattle.table.proofs.block_count.Statement.{statement}
 use Rattle.table.proofs.block_count.Tie as tie
 
 abbrev Inv-loop : tie.InvT-loop
-Inv-loop table k n count₀ count = ((0 < count) × (k .0 + count ≤ n)) × ((j : ℕ) → j < count → 0 < j → entryAt (entriesOf table) (k .0 + j) ≡ TAIL)
+Inv-loop t table k n count₀ count = ((0 < count) × (k .0 + count ≤ length (entriesIn t table))) × ((j : ℕ) → j < count → 0 < j → entryAt (entriesIn t table) (k .0 + j) ≡ TAIL)
 
 abbrev μ-loop : tie.MeasureT-loop
-μ-loop table k n count₀ count = n - count
+μ-loop t table k n count₀ count = length (entriesIn t table) - count
 
 -- TAILs in the b blocks from k on, save the first, and none after them
 counted : (es : List ℕ) (k b : ℕ) → 0 < b → k + b ≤ length es → ((j : ℕ) → j < b → 0 < j → entryAt es (k + j) ≡ TAIL) → entryAt es (k + b) ≢ TAIL
@@ -36,35 +37,36 @@ loop-holds c = (search needs, λ j l m. absurd (omega arith))
 plus-requires : tie.Need-plus-requires Inv-loop μ-loop
 plus-requires c κs =
     let s = c .before .before .before in
-    omega (arith, s .pre .0, length-entriesOf (s .args .table .now))
+    omega (arith, few-entries _ _ (s .pre .0))
 
 is-below-requires : tie.Need-is-below-requires Inv-loop μ-loop
 is-below-requires c κs = search needs
 
 -- in a turn, the block after those that are counted is one of the table's
-below : (c : tie.Then1 Inv-loop μ-loop) → c .before .before .plus .result .0 < c .before .before .before .before .blocks2 .result
-below c = ltb-true _ _ (sym (c .before .is-below .ensures) ∙ c .if1 .taken)
+below : (c : tie.Then1 Inv-loop μ-loop) → let a = c .before .before .before .before .before .before .args in c .before .before .plus .result .0 < length (entriesIn (a .t) (a .table .now))
+below c = rw (← c .before .before .before .before .blocks2 .ensures _) (ltb-true _ _ (sym (c .before .is-below .ensures) ∙ c .if1 .taken))
 
 plus-requires-2 : tie.Need-plus-requires-2 Inv-loop μ-loop
 plus-requires-2 c κs =
     let s = c .before .before .before .before .before .before in
-    omega (arith, s .pre .0, length-entriesOf (s .args .table .now))
+    omega (arith, few-entries _ _ (s .pre .0))
 
-entry-requires : tie.Need-entry-requires Inv-loop μ-loop
-entry-requires c κs = omega (arith, below (c .before))
+is-tail-requires : tie.Need-is-tail-requires Inv-loop μ-loop
+is-tail-requires c κs = (c .before .before .before .before .before .before .before .pre .0, omega (arith, below (c .before)))
 
--- what is read is the entry `count` blocks after k
-entry-is : (c : tie.After-entry Inv-loop μ-loop)
-    → let a = c .before .before .before .before .before .before .before .before .args in c .entry .result ≡ entryAt (entriesOf (a .table .now)) (a .k .0 + c .before .before .before .before .before .loop .count)
-entry-is c = rw (← c .before .plus2 .ensures) (c .entry .ensures)
+-- what is asked is whether the block `count` blocks after k is a TAIL
+tail-is : (c : tie.After-is-tail Inv-loop μ-loop)
+    → let a = c .before .before .before .before .before .before .before .before .args in
+    c .is-tail .result ≡ isTail (entryAt (entriesIn (a .t) (a .table .now)) (a .k .0 + c .before .before .before .before .before .loop .count))
+tail-is c = rw (← c .before .plus2 .ensures) (c .is-tail .ensures)
 
 returns : tie.Need-returns Inv-loop μ-loop
 returns c =
     let l = c .before .before .before .before .before .before .loop in
-    counted _ _ (l .count) (omega arith) (omega arith) (l .inv .1) (λ t. c .if2 .taken (entry-is (c .before) ∙ t))
+    counted _ _ (l .count) (omega arith) (omega arith) (l .inv .1) (eqb-false _ _ (sym (tail-is (c .before)) ∙ not-true _ (c .if2 .taken)))
 
 add-count : tie.Need-add-count Inv-loop μ-loop
-add-count c = omega (arith, below (c .before .before .before))
+add-count c = omega (arith, below (c .before .before .before), few-entries _ _ (c .before .before .before .before .before .before .before .before .before .pre .0))
 
 loop-less : tie.Need-loop-less Inv-loop μ-loop
 loop-less c = omega (arith, below (c .before .before .before))
@@ -73,13 +75,14 @@ loop-again : tie.Need-loop-again Inv-loop μ-loop
 loop-again c =
     let l = c .before .before .before .before .before .before .loop in
     let b = below (c .before .before .before) in
-    ((omega arith, omega arith), below-more _ _ (l .inv .1) (λ m. sym (entry-is (c .before)) ∙ c .if2 .left))
+    ((omega arith, omega arith), below-more _ _ (l .inv .1) (λ m. eqb-true _ _ (sym (tail-is (c .before)) ∙ not-false _ (c .if2 .left))))
 
 returns-2 : tie.Need-returns-2 Inv-loop μ-loop
 returns-2 c =
     let l = c .before .before .before .loop in
     let a = c .before .before .before .before .before .before .args in
-    let es = entriesOf (a .table .now) in
+    let es = entriesIn (a .t) (a .table .now) in
+    let n = c .before .before .before .before .blocks2 .ensures (a .table .now) in
     let past = ltb-false (c .before .before .plus .result .0) _ (sym (c .before .is-below .ensures) ∙ c .if1 .left) in
     counted es (a .k .0) (l .count) (omega arith) (omega arith) (l .inv .1) (λ t. omega (arith, t, entry-outside es (a .k .0 + l .count) (omega arith)))
 
@@ -94,7 +97,7 @@ block-count-spec =
     plus-requires
     is-below-requires
     plus-requires-2
-    entry-requires
+    is-tail-requires
     returns
     add-count
     loop-less

@@ -8,9 +8,9 @@ use native.Mathlib.Omega.{arith}
 use lib.Dec.{leb}
 use borrow.Author.Needs.{needs}
 use borrow.Author.Tests.{not-true, not-false}
-use Rattle.rules.specs.Entries.{entriesOf}
 use Rattle.rules.specs.Tables.{freeFrom, aligned, growsInPlace}
-use Rattle.rules.proofs.Entries.{length-entriesOf}
+use Rattle.rules.specs.Planes.{entriesIn}
+use Rattle.rules.proofs.Planes.{few-entries}
 use Rattle.table.proofs.grows_in_place.Statement.{statement}
 use Rattle.table.proofs.grows_in_place.Tie as tie
 
@@ -32,7 +32,7 @@ returns c = sym (not-aligned _ _ _ _ (sym (c .before .is-aligned .ensures) ∙ n
 plus-requires : tie.Need-plus-requires
 plus-requires c κs =
     let s = c .before .before .before in
-    omega (arith, s .pre .0, length-entriesOf (s .args .table .now))
+    omega (arith, few-entries _ _ (s .pre .0))
 
 sub-is-free : tie.Need-sub-is-free
 sub-is-free c = search needs
@@ -44,7 +44,7 @@ returns-2 : tie.Need-returns-2
 returns-2 c =
     let e = c .before .before in
     let a = e .before .before .before .args in
-    let es = entriesOf (a .table .now) in
+    let es = entriesIn (a .t) (a .table .now) in
     c .is-free .ensures ∙ ap (λ (end : ℕ). leb (a .new - a .old) (freeFrom es end)) (c .before .plus .ensures)
     ∙ sym (where-aligned es (a .k .0) (a .old) (a .new) (sym (e .before .is-aligned .ensures) ∙ not-false _ (e .if1 .left)))
 

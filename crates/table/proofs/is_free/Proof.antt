@@ -3,48 +3,50 @@
 use mathlib.Core.Path.{_≡_, sym, _∙_}
 use Prim.Native.Nat.{ℕ, _+_, _-_, _≤_, _<_}
 use native.Mathlib.Omega.{arith}
+use lib.ListN.{length}
 use borrow.Author.Needs.{needs}
 use borrow.Author.Count.{below-more}
 use borrow.Author.Tests.{le-leb, lt-leb}
-use Rattle.rules.specs.Entries.{FREE, entriesOf}
+use Rattle.rules.specs.Entries.{FREE}
 use Rattle.rules.specs.Tables.{entryAt, freeFrom}
-use Rattle.rules.proofs.Entries.{length-entriesOf}
+use Rattle.rules.specs.Planes.{entriesIn}
+use Rattle.rules.proofs.Planes.{few-entries}
 use Rattle.rules.proofs.Tables.{free-room, no-run-lt, run-le}
 use Rattle.table.proofs.is_free.Statement.{statement}
 use Rattle.table.proofs.is_free.Tie as tie
 
 abbrev Inv-loop : tie.InvT-loop
-Inv-loop table from count i₀ i = (i ≤ count) × ((j : ℕ) → j < i → entryAt (entriesOf table) (from .0 + j) ≡ FREE)
+Inv-loop t table from count i₀ i = ((i ≤ count) × (from .0 + count ≤ length (entriesIn t table))) × ((j : ℕ) → j < i → entryAt (entriesIn t table) (from .0 + j) ≡ FREE)
 
 abbrev μ-loop : tie.MeasureT-loop
-μ-loop table from count i₀ i = count - i
+μ-loop t table from count i₀ i = count - i
 
 blocks-requires : tie.Need-blocks-requires Inv-loop μ-loop
 blocks-requires c κs = search needs
 
 until-requires : tie.Need-until-requires Inv-loop μ-loop
-until-requires c κs = search needs
+until-requires c κs = let s = c .before .before in omega (arith, c .blocks2 .ensures (s .args .table .now), s .pre .1)
 
 returns : tie.Need-returns Inv-loop μ-loop
 returns c =
     let a = c .before .before .before .before .args in
-    let es = entriesOf (a .table .now) in
-    sym (lt-leb (a .count) (freeFrom es (a .from .0)) (omega (arith, free-room es (a .from .0))))
+    let es = entriesIn (a .t) (a .table .now) in
+    sym (lt-leb (a .count) (freeFrom es (a .from .0)) (omega (arith, free-room es (a .from .0), c .before .before .blocks2 .ensures (a .table .now))))
 
 loop-holds : tie.Need-loop-holds Inv-loop μ-loop
-loop-holds c = (search needs, λ j l. absurd (omega arith))
+loop-holds c = (omega (arith, c .before .before .blocks2 .ensures (c .before .before .before .before .args .table .now)), λ j l. absurd (omega arith))
 
 plus-requires : tie.Need-plus-requires Inv-loop μ-loop
 plus-requires c κs =
     let s = c .before .before .before .before .before .before in
-    omega (arith, s .pre .0, length-entriesOf (s .args .table .now))
+    omega (arith, few-entries _ _ (s .pre .0))
 
 entry-requires : tie.Need-entry-requires Inv-loop μ-loop
 entry-requires c κs = search needs
 
 -- what is read is the entry i blocks after `from`
 entry-is : (c : tie.After-entry Inv-loop μ-loop)
-    → let a = c .before .before .before .before .before .before .before .before .args in c .entry .result ≡ entryAt (entriesOf (a .table .now)) (a .from .0 + c .before .before .before .loop .i)
+    → let a = c .before .before .before .before .before .before .before .before .args in c .entry .result ≡ entryAt (entriesIn (a .t) (a .table .now)) (a .from .0 + c .before .before .before .loop .i)
 entry-is c = rw (← c .before .plus .ensures) (c .entry .ensures)
 
 returns-2 : tie.Need-returns-2 Inv-loop μ-loop
