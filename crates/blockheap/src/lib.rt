@@ -4,23 +4,24 @@ ghost use mathlib.Core.Path.{_≡_};
 ghost use mathlib.Core.List.{[]};
 ghost use Rattle.rules.specs.Outcomes.{onlyRefusal, placement, collection, findings, reading};
 ghost use Rattle.rules.specs.Runs.{Init, Allocate, Free, Reallocate, Collect, Survey, Load, Store};
-ghost use Rattle.rules.specs.Forms.{packed};
+ghost use Rattle.rules.specs.Planes.{planes};
 ghost use Rattle.rules.specs.Memory.{memory, result, perform};
 use memory::Address;
 use memory::Block;
 use memory::Bytes;
 
 #[no_mangle]
-pub extern "C" fn blockheap_init(base: u64, pool: &[u8], table: &mut [u8]) -> u32
+pub extern "C" fn blockheap_init(base: u64, t: u64, pool: &[u8], table: &mut [u8]) -> u32
     ensures { λ r. ⌜ result (onlyRefusal r) (memory (now (pool .entry)) (now (table .exit))) []
-        ≡ perform packed (Init base) [] (memory (now (pool .entry)) (now (table .entry))) ⌝ }
+        ≡ perform (planes t) (Init base) [] (memory (now (pool .entry)) (now (table .entry))) ⌝ }
 {
-    heap::init(Address::of_number(base), pool, table)
+    heap::init(Address::of_number(base), t as usize, pool, table)
 }
 
 #[no_mangle]
 pub extern "C" fn blockheap_allocate(
     base: u64,
+    t: u64,
     pool: &mut [u8],
     table: &mut [u8],
     bytes: u64,
@@ -28,10 +29,11 @@ pub extern "C" fn blockheap_allocate(
     change: &mut i32,
 ) -> u32
     ensures { λ r. ⌜ result (placement r (now (block .exit)) (now (change .exit))) (memory (now (pool .exit)) (now (table .exit))) []
-        ≡ perform packed (Allocate base bytes) [] (memory (now (pool .entry)) (now (table .entry))) ⌝ }
+        ≡ perform (planes t) (Allocate base bytes) [] (memory (now (pool .entry)) (now (table .entry))) ⌝ }
 {
     let p = heap::allocate(
         Address::of_number(base),
+        t as usize,
         pool,
         table,
         Bytes::of_number(bytes),
@@ -45,16 +47,18 @@ pub extern "C" fn blockheap_allocate(
 #[no_mangle]
 pub extern "C" fn blockheap_free(
     base: u64,
+    t: u64,
     pool: &[u8],
     table: &mut [u8],
     block: u64,
     change: &mut i32,
 ) -> u32
     ensures { λ r. ⌜ result (placement r 0 (now (change .exit))) (memory (now (pool .entry)) (now (table .exit))) []
-        ≡ perform packed (Free base block) [] (memory (now (pool .entry)) (now (table .entry))) ⌝ }
+        ≡ perform (planes t) (Free base block) [] (memory (now (pool .entry)) (now (table .entry))) ⌝ }
 {
     let f = heap::free(
         Address::of_number(base),
+        t as usize,
         pool,
         table,
         Block::of_number(block),
@@ -67,6 +71,7 @@ pub extern "C" fn blockheap_free(
 #[no_mangle]
 pub extern "C" fn blockheap_reallocate(
     base: u64,
+    t: u64,
     pool: &mut [u8],
     table: &mut [u8],
     block: u64,
@@ -75,10 +80,11 @@ pub extern "C" fn blockheap_reallocate(
     change: &mut i32,
 ) -> u32
     ensures { λ r. ⌜ result (placement r (now («new_block» .exit)) (now (change .exit))) (memory (now (pool .exit)) (now (table .exit))) []
-        ≡ perform packed (Reallocate base block bytes) [] (memory (now (pool .entry)) (now (table .entry))) ⌝ }
+        ≡ perform (planes t) (Reallocate base block bytes) [] (memory (now (pool .entry)) (now (table .entry))) ⌝ }
 {
     let p = heap::reallocate(
         Address::of_number(base),
+        t as usize,
         pool,
         table,
         Block::of_number(block),
@@ -93,6 +99,7 @@ pub extern "C" fn blockheap_reallocate(
 #[no_mangle]
 pub extern "C" fn blockheap_collect(
     base: u64,
+    t: u64,
     pool: &[u8],
     table: &mut [u8],
     roots: &[u8],
@@ -102,9 +109,16 @@ pub extern "C" fn blockheap_collect(
     change: &mut i32,
 ) -> u32
     ensures { λ r. ⌜ result (collection r (now (kept .exit)) (now (rescans .exit)) (now (change .exit))) (memory (now (pool .entry)) (now (table .exit))) (now (stack .exit))
-        ≡ perform packed (Collect base (now (roots .entry))) (now (stack .entry)) (memory (now (pool .entry)) (now (table .entry))) ⌝ }
+        ≡ perform (planes t) (Collect base (now (roots .entry))) (now (stack .entry)) (memory (now (pool .entry)) (now (table .entry))) ⌝ }
 {
-    let c = collector::collect(Address::of_number(base), pool, table, roots, stack);
+    let c = collector::collect(
+        Address::of_number(base),
+        t as usize,
+        pool,
+        table,
+        roots,
+        stack,
+    );
     *kept = c.kept;
     *rescans = c.rescans;
     let d = c.change;
@@ -115,6 +129,7 @@ pub extern "C" fn blockheap_collect(
 #[no_mangle]
 pub extern "C" fn blockheap_survey(
     base: u64,
+    t: u64,
     pool: &[u8],
     table: &[u8],
     used: &mut u32,
@@ -122,9 +137,9 @@ pub extern "C" fn blockheap_survey(
     longest: &mut u32,
 ) -> u32
     ensures { λ r. ⌜ result (findings r (now (used .exit)) (now (objects .exit)) (now (longest .exit))) (memory (now (pool .entry)) (now (table .entry))) []
-        ≡ perform packed (Survey base) [] (memory (now (pool .entry)) (now (table .entry))) ⌝ }
+        ≡ perform (planes t) (Survey base) [] (memory (now (pool .entry)) (now (table .entry))) ⌝ }
 {
-    let s = heap::survey(Address::of_number(base), pool, table);
+    let s = heap::survey(Address::of_number(base), t as usize, pool, table);
     *used = s.used;
     *objects = s.objects;
     *longest = s.longest;
@@ -134,6 +149,7 @@ pub extern "C" fn blockheap_survey(
 #[no_mangle]
 pub extern "C" fn blockheap_load(
     base: u64,
+    t: u64,
     pool: &[u8],
     table: &[u8],
     block: u64,
@@ -141,10 +157,11 @@ pub extern "C" fn blockheap_load(
     value: &mut u32,
 ) -> u32
     ensures { λ r. ⌜ result (reading r (now (value .exit))) (memory (now (pool .entry)) (now (table .entry))) []
-        ≡ perform packed (Load base block word) [] (memory (now (pool .entry)) (now (table .entry))) ⌝ }
+        ≡ perform (planes t) (Load base block word) [] (memory (now (pool .entry)) (now (table .entry))) ⌝ }
 {
     let l = heap::load(
         Address::of_number(base),
+        t as usize,
         pool,
         table,
         Block::of_number(block),
@@ -157,6 +174,7 @@ pub extern "C" fn blockheap_load(
 #[no_mangle]
 pub extern "C" fn blockheap_store(
     base: u64,
+    t: u64,
     pool: &mut [u8],
     table: &[u8],
     block: u64,
@@ -164,10 +182,11 @@ pub extern "C" fn blockheap_store(
     value: u32,
 ) -> u32
     ensures { λ r. ⌜ result (onlyRefusal r) (memory (now (pool .exit)) (now (table .entry))) []
-        ≡ perform packed (Store base block word value) [] (memory (now (pool .entry)) (now (table .entry))) ⌝ }
+        ≡ perform (planes t) (Store base block word value) [] (memory (now (pool .entry)) (now (table .entry))) ⌝ }
 {
     heap::store(
         Address::of_number(base),
+        t as usize,
         pool,
         table,
         Block::of_number(block),

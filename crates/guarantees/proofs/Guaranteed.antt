@@ -2,9 +2,9 @@
 -- Assumes nothing.
 use Rattle.rules.specs.Examples.{examples-hold, examples-number, words-hold}
 use Rattle.rules.specs.Orders.{orders-hold, orders-number}
-use Rattle.rules.specs.Bytewise.{bytewise-refusals}
+use Rattle.rules.specs.PlaneExamples.{plane-examples-hold, plane-examples-number, plane-refusals}
 use Rattle.keeping.proofs.Collections.{keeps-exactly, any-stack}
-use Rattle.promises.proofs.Bytes.{on-bytes}
+use Rattle.promises.proofs.Bytes.{on-bytes, as-packed}
 use Rattle.promises.proofs.Promised.{promises}
 use Rattle.promises.proofs.Determined.{determined}
 use Rattle.promises.proofs.Whole.{whole}
@@ -24,9 +24,12 @@ guarantees = record {
   examples-number = examples-number;
   orders-number = orders-number;
   words-hold = words-hold;
-  bytewise-refusals = bytewise-refusals;
+  plane-examples-hold = plane-examples-hold;
+  plane-examples-number = plane-examples-number;
+  plane-refusals = plane-refusals;
   entry-points = entry-points;
   on-bytes = on-bytes;
+  as-packed = as-packed;
   promises = promises;
   determined = determined;
   whole = whole;

@@ -23,7 +23,7 @@ use denote.Triple.Entry.{Args, Res}
 use denote.Triple.Spec.{Spec, exits}
 use Rattle.rules.specs.Outcomes.{onlyRefusal, placement, collection, findings, reading}
 use Rattle.rules.specs.Runs.{Init, Allocate, Free, Reallocate, Collect, Survey, Load, Store}
-use Rattle.rules.specs.Forms.{packed}
+use Rattle.rules.specs.Planes.{planes}
 use Rattle.rules.specs.Memory.{memory, result, perform}
 use Rattle.blockheap.proofs.blockheap_init as init
 use Rattle.blockheap.proofs.blockheap_init.Statement as init-statement
@@ -73,41 +73,41 @@ pub record EntryPoints : Type 2 where
   -- of each function: it meets its contract; the contract asks nothing; and it says that the answer and the lent memory at exit are those of the rules' call
   pub init-meets : {M : Type 1} → init-statement.statement M
   pub init-asks-nothing : AsksNothing init.signature (λ M. init.spec {M = M})
-  pub init-says : Says init.ended (λ M. init.spec {M = M}) (λ κs base pool table r.
+  pub init-says : Says init.ended (λ M. init.spec {M = M}) (λ κs base t pool table r.
       result (onlyRefusal r) (memory (now (pool .entry)) (now (table .exit))) []
-      ≡ perform packed (Init (base .entry)) [] (memory (now (pool .entry)) (now (table .entry))))
+      ≡ perform (planes (t .entry)) (Init (base .entry)) [] (memory (now (pool .entry)) (now (table .entry))))
   pub allocate-meets : {M : Type 1} → allocate-statement.statement M
   pub allocate-asks-nothing : AsksNothing allocate.signature (λ M. allocate.spec {M = M})
-  pub allocate-says : Says allocate.ended (λ M. allocate.spec {M = M}) (λ κs base pool table bytes block change r.
+  pub allocate-says : Says allocate.ended (λ M. allocate.spec {M = M}) (λ κs base t pool table bytes block change r.
       result (placement r (now (block .exit)) (now (change .exit))) (memory (now (pool .exit)) (now (table .exit))) []
-      ≡ perform packed (Allocate (base .entry) (bytes .entry)) [] (memory (now (pool .entry)) (now (table .entry))))
+      ≡ perform (planes (t .entry)) (Allocate (base .entry) (bytes .entry)) [] (memory (now (pool .entry)) (now (table .entry))))
   pub free-meets : {M : Type 1} → free-statement.statement M
   pub free-asks-nothing : AsksNothing free.signature (λ M. free.spec {M = M})
-  pub free-says : Says free.ended (λ M. free.spec {M = M}) (λ κs base pool table block change r.
+  pub free-says : Says free.ended (λ M. free.spec {M = M}) (λ κs base t pool table block change r.
       result (placement r 0 (now (change .exit))) (memory (now (pool .entry)) (now (table .exit))) []
-      ≡ perform packed (Free (base .entry) (block .entry)) [] (memory (now (pool .entry)) (now (table .entry))))
+      ≡ perform (planes (t .entry)) (Free (base .entry) (block .entry)) [] (memory (now (pool .entry)) (now (table .entry))))
   pub reallocate-meets : {M : Type 1} → reallocate-statement.statement M
   pub reallocate-asks-nothing : AsksNothing reallocate.signature (λ M. reallocate.spec {M = M})
-  pub reallocate-says : Says reallocate.ended (λ M. reallocate.spec {M = M}) (λ κs base pool table block bytes new-block change r.
+  pub reallocate-says : Says reallocate.ended (λ M. reallocate.spec {M = M}) (λ κs base t pool table block bytes new-block change r.
       result (placement r (now (new-block .exit)) (now (change .exit))) (memory (now (pool .exit)) (now (table .exit))) []
-      ≡ perform packed (Reallocate (base .entry) (block .entry) (bytes .entry)) [] (memory (now (pool .entry)) (now (table .entry))))
+      ≡ perform (planes (t .entry)) (Reallocate (base .entry) (block .entry) (bytes .entry)) [] (memory (now (pool .entry)) (now (table .entry))))
   pub collect-meets : {M : Type 1} → collect-statement.statement M
   pub collect-asks-nothing : AsksNothing collect.signature (λ M. collect.spec {M = M})
-  pub collect-says : Says collect.ended (λ M. collect.spec {M = M}) (λ κs base pool table roots stack kept rescans change r.
+  pub collect-says : Says collect.ended (λ M. collect.spec {M = M}) (λ κs base t pool table roots stack kept rescans change r.
       result (collection r (now (kept .exit)) (now (rescans .exit)) (now (change .exit))) (memory (now (pool .entry)) (now (table .exit))) (now (stack .exit))
-      ≡ perform packed (Collect (base .entry) (now (roots .entry))) (now (stack .entry)) (memory (now (pool .entry)) (now (table .entry))))
+      ≡ perform (planes (t .entry)) (Collect (base .entry) (now (roots .entry))) (now (stack .entry)) (memory (now (pool .entry)) (now (table .entry))))
   pub survey-meets : {M : Type 1} → survey-statement.statement M
   pub survey-asks-nothing : AsksNothing survey.signature (λ M. survey.spec {M = M})
-  pub survey-says : Says survey.ended (λ M. survey.spec {M = M}) (λ κs base pool table used objects longest r.
+  pub survey-says : Says survey.ended (λ M. survey.spec {M = M}) (λ κs base t pool table used objects longest r.
       result (findings r (now (used .exit)) (now (objects .exit)) (now (longest .exit))) (memory (now (pool .entry)) (now (table .entry))) []
-      ≡ perform packed (Survey (base .entry)) [] (memory (now (pool .entry)) (now (table .entry))))
+      ≡ perform (planes (t .entry)) (Survey (base .entry)) [] (memory (now (pool .entry)) (now (table .entry))))
   pub load-meets : {M : Type 1} → load-statement.statement M
   pub load-asks-nothing : AsksNothing load.signature (λ M. load.spec {M = M})
-  pub load-says : Says load.ended (λ M. load.spec {M = M}) (λ κs base pool table block word value r.
+  pub load-says : Says load.ended (λ M. load.spec {M = M}) (λ κs base t pool table block word value r.
       result (reading r (now (value .exit))) (memory (now (pool .entry)) (now (table .entry))) []
-      ≡ perform packed (Load (base .entry) (block .entry) (word .entry)) [] (memory (now (pool .entry)) (now (table .entry))))
+      ≡ perform (planes (t .entry)) (Load (base .entry) (block .entry) (word .entry)) [] (memory (now (pool .entry)) (now (table .entry))))
   pub store-meets : {M : Type 1} → store-statement.statement M
   pub store-asks-nothing : AsksNothing store.signature (λ M. store.spec {M = M})
-  pub store-says : Says store.ended (λ M. store.spec {M = M}) (λ κs base pool table block word value r.
+  pub store-says : Says store.ended (λ M. store.spec {M = M}) (λ κs base t pool table block word value r.
       result (onlyRefusal r) (memory (now (pool .exit)) (now (table .entry))) []
-      ≡ perform packed (Store (base .entry) (block .entry) (word .entry) (value .entry)) [] (memory (now (pool .entry)) (now (table .entry))))
+      ≡ perform (planes (t .entry)) (Store (base .entry) (block .entry) (word .entry) (value .entry)) [] (memory (now (pool .entry)) (now (table .entry))))

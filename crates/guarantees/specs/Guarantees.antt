@@ -7,9 +7,9 @@ use lib.ListN.{length}
 use Rattle.rules.specs.Words.{wordAt, bytesOf}
 use Rattle.rules.specs.Examples.{Example, examples}
 use Rattle.rules.specs.Orders.{orders}
-use Rattle.rules.specs.Bytewise.{BytewiseRefusals}
+use Rattle.rules.specs.PlaneExamples.{PlaneExample, planeExamples, PlaneRefusals}
 use Rattle.keeping.specs.Keeping.{KeepsExactly, AnyStack}
-use Rattle.promises.specs.Bytes.{OnBytes}
+use Rattle.promises.specs.Bytes.{OnBytes, AsPacked}
 use Rattle.promises.specs.Promises.{Promises}
 use Rattle.promises.specs.Determined.{Determined, Whole}
 use Rattle.promises.specs.Alignment.{NewObjectsAligned, AlignedFromInit}
@@ -19,18 +19,22 @@ use Rattle.plain.specs.Refines.{AnswersAsList, ListKeepsReachable, UsedIsSum}
 use Rattle.guarantees.specs.EntryPoints.{EntryPoints}
 
 pub record Guarantees : Type 2 where
-  -- The worked examples 1 to 12, a chain through the middle of an object, a rescan and large objects come out, the order of the marking shows in its rescans, and words have their lowest byte first; on a table of another form
-  -- than the packed one the calls are refused as they should be.
+  -- The worked examples 1 to 12, a chain through the middle of an object, a rescan and large objects come out, the order of the marking shows in its rescans, and words have their lowest byte first; the worked examples come
+  -- out in the bytes of two planes too, where a spare bit is refused by 2, and another t or another length by 1.
   pub examples-hold : map (λ (x : Example). x .is) examples ≡ map (λ (x : Example). x .ought) examples
   pub orders-hold : map (λ (x : Example). x .is) orders ≡ map (λ (x : Example). x .ought) orders
   pub examples-number : length examples ≡ 43
   pub orders-number : length orders ≡ 4
   pub words-hold : (wordAt (0 ∷ 16 ∷ 0 ∷ 0 ∷ []) 0 ≡ 4096) × (bytesOf 4096 ≡ 0 ∷ 16 ∷ 0 ∷ 0 ∷ [])
-  pub bytewise-refusals : BytewiseRefusals
+  pub plane-examples-hold : map (λ (x : PlaneExample). x .is) planeExamples ≡ map (λ (x : PlaneExample). x .ought) planeExamples
+  pub plane-examples-number : length planeExamples ≡ 29
+  pub plane-refusals : PlaneRefusals
   -- The code follows the rules: each function that C calls does to lent memory, for every input, what the rules say.
   pub entry-points : EntryPoints
-  -- Of lent memory a refused call leaves every byte, and an accepted one the bytes of the heap that the call leaves.
+  -- Of lent memory a refused call leaves every byte, and an accepted one the bytes of the heap that the call leaves; what that means of two planes, and of their spare bits.
   pub on-bytes : OnBytes
+  -- Every call answers as it does on a packed table, and leaves the same entries.
+  pub as-packed : AsPacked
   -- Each call of the rules: by which number it is refused, that it then changes nothing, and what it does otherwise.
   pub promises : Promises
   -- That leaves one outcome: the same answer, the same entries and the same bytes; and no call changes the size of the heap.

@@ -1,12 +1,8 @@
 -- `blockheap::blockheap_allocate` meets its contract: the block fits 32 bits, being a block of the table. Assumes nothing.
 use native.Mathlib.Omega.{arith}
-use mathlib.Core.List.{[]}
-use mathlib.Core.Path.{refl}
 use borrow.Author.Needs.{needs}
 use mir.Syntax.{w32}
 use mir.ValLaws.{toZ-ofZ}
-use Rattle.rules.specs.Runs.{Allocate, step}
-use Rattle.rules.proofs.Memory.{in-bytes}
 use Rattle.rules.proofs.Blocks.{allocated-small}
 use Rattle.blockheap.proofs.blockheap_allocate.Statement.{statement}
 use Rattle.blockheap.proofs.blockheap_allocate.Tie as tie
@@ -24,7 +20,7 @@ number-requires : tie.Need-number-requires
 number-requires c κs = search needs
 
 cast-block : tie.Need-cast-block
-cast-block c = omega (arith, c .number .ensures, allocated-small _ _ _ _ (c .before .before .before .before .before .allocate .ensures))
+cast-block c = omega (arith, c .number .ensures, allocated-small _ _ _ _ _ (c .before .before .before .before .before .allocate .ensures))
 
 same-length : tie.Need-same-length
 same-length c = search needs
@@ -33,12 +29,9 @@ same-length-2 : tie.Need-same-length-2
 same-length-2 c = search needs
 
 returns : tie.Need-returns
-unfolding step
 returns c =
-    rw (c .before .number .ensures)
-    (in-bytes (Allocate _ _) [] _ _ [] _ (λ i. c .before .before .before .before .before .before .before .before .before .before .before .slice-known2 .given i .fits) (λ i. c .before .before .slice-known4 .given i .fits) refl
-    (rw (toZ-ofZ w32 (c .before .before .before .before .before .before .allocate .result .change) (search (needs, c .struct-told .given)))
-    (rw (c .before .before .before .before .before .before .before .before .before .before .of-number .ensures, c .before .before .before .before .before .before .before .of-number2 .ensures) at (c .before .before .before .before .before .before .allocate .ensures))))
+    rw (c .before .number .ensures, toZ-ofZ w32 (c .before .before .before .before .before .before .allocate .result .change) (search (needs, c .struct-told .given)))
+    (rw (c .before .before .before .before .before .before .before .before .before .before .of-number .ensures, c .before .before .before .before .before .before .before .of-number2 .ensures) at (c .before .before .before .before .before .before .allocate .ensures))
 
 pub blockheap-allocate-spec : {M : Type 1} → statement M
 blockheap-allocate-spec = tie.close (tie.spec of-number-requires of-number-requires-2 allocate-requires number-requires cast-block same-length same-length-2 returns)

@@ -1,10 +1,7 @@
 -- `blockheap::blockheap_collect` meets its contract: the numbers go on as they came. Assumes nothing.
-use mathlib.Core.Path.{refl}
 use borrow.Author.Needs.{needs}
 use mir.Syntax.{w32}
 use mir.ValLaws.{toZ-ofZ}
-use Rattle.rules.specs.Runs.{Collect, step}
-use Rattle.rules.proofs.Memory.{in-bytes}
 use Rattle.blockheap.proofs.blockheap_collect.Statement.{statement}
 use Rattle.blockheap.proofs.blockheap_collect.Tie as tie
 
@@ -21,11 +18,9 @@ same-length-2 : tie.Need-same-length-2
 same-length-2 c = search needs
 
 returns : tie.Need-returns
-unfolding step
 returns c =
-    in-bytes (Collect _ _) _ _ _ _ _ (λ i. c .before .before .before .before .before .before .before .before .before .before .before .slice-known .given i .fits) (λ i. c .before .before .before .slice-known3 .given i .fits) refl
-    (rw (toZ-ofZ w32 (c .before .before .before .before .before .collect .result .change) (search (needs, c .struct-told .given)))
-    (rw (c .before .before .before .before .before .before .before .before .of-number .ensures) at (c .before .before .before .before .before .collect .ensures)))
+    rw (toZ-ofZ w32 (c .before .before .before .before .before .collect .result .change) (search (needs, c .struct-told .given)))
+    (rw (c .before .before .before .before .before .before .before .before .of-number .ensures) at (c .before .before .before .before .before .collect .ensures))
 
 pub blockheap-collect-spec : {M : Type 1} → statement M
 blockheap-collect-spec = tie.close (tie.spec of-number-requires collect-requires same-length same-length-2 returns)

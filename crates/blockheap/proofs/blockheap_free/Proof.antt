@@ -1,11 +1,7 @@
 -- `blockheap::blockheap_free` meets its contract: the numbers go on as they came. Assumes nothing.
-use mathlib.Core.List.{[]}
-use mathlib.Core.Path.{refl}
 use borrow.Author.Needs.{needs}
 use mir.Syntax.{w32}
 use mir.ValLaws.{toZ-ofZ}
-use Rattle.rules.specs.Runs.{Free, step}
-use Rattle.rules.proofs.Memory.{in-bytes}
 use Rattle.blockheap.proofs.blockheap_free.Statement.{statement}
 use Rattle.blockheap.proofs.blockheap_free.Tie as tie
 
@@ -22,11 +18,9 @@ same-length : tie.Need-same-length
 same-length c = search needs
 
 returns : tie.Need-returns
-unfolding step
 returns c =
-    in-bytes (Free _ _) [] _ _ [] _ (λ i. c .before .before .before .before .before .before .before .slice-known .given i .fits) (λ i. c .before .slice-known2 .given i .fits) refl
-    (rw (toZ-ofZ w32 (c .before .before .before .free .result .change) (search (needs, c .struct-told .given)))
-    (rw (c .before .before .before .before .before .before .of-number .ensures, c .before .before .before .before .of-number2 .ensures) at (c .before .before .before .free .ensures)))
+    rw (toZ-ofZ w32 (c .before .before .before .free .result .change) (search (needs, c .struct-told .given)))
+    (rw (c .before .before .before .before .before .before .of-number .ensures, c .before .before .before .before .of-number2 .ensures) at (c .before .before .before .free .ensures))
 
 pub blockheap-free-spec : {M : Type 1} → statement M
 blockheap-free-spec = tie.close (tie.spec of-number-requires of-number-requires-2 free-requires same-length returns)

@@ -1,9 +1,5 @@
 -- `blockheap::blockheap_init` meets its contract: the numbers go on as they came. Assumes nothing.
-use mathlib.Core.List.{[]}
-use mathlib.Core.Path.{refl}
 use borrow.Author.Needs.{needs}
-use Rattle.rules.specs.Runs.{Init, step}
-use Rattle.rules.proofs.Memory.{in-bytes}
 use Rattle.blockheap.proofs.blockheap_init.Statement.{statement}
 use Rattle.blockheap.proofs.blockheap_init.Tie as tie
 
@@ -17,10 +13,8 @@ same-length : tie.Need-same-length
 same-length c = search needs
 
 returns : tie.Need-returns
-unfolding step
 returns c =
-    in-bytes (Init _) [] _ _ [] _ (λ i. c .before .before .before .before .before .slice-known .given i .fits) (λ i. c .slice-known2 .given i .fits) refl
-    (rw (c .before .before .before .before .of-number .ensures) at (c .before .before .init .ensures))
+    rw (c .before .before .before .before .of-number .ensures) at (c .before .before .init .ensures)
 
 pub blockheap-init-spec : {M : Type 1} → statement M
 blockheap-init-spec = tie.close (tie.spec of-number-requires init-requires same-length returns)

@@ -1,9 +1,5 @@
 -- `blockheap::blockheap_load` meets its contract: the numbers go on as they came. Assumes nothing.
-use mathlib.Core.List.{[]}
-use mathlib.Core.Path.{refl}
 use borrow.Author.Needs.{needs}
-use Rattle.rules.specs.Runs.{Load, step}
-use Rattle.rules.proofs.Memory.{in-bytes}
 use Rattle.blockheap.proofs.blockheap_load.Statement.{statement}
 use Rattle.blockheap.proofs.blockheap_load.Tie as tie
 
@@ -17,10 +13,8 @@ load-requires : tie.Need-load-requires
 load-requires c κs = search needs
 
 returns : tie.Need-returns
-unfolding step
 returns c =
-    in-bytes (Load _ _ _) [] _ _ [] _ (λ i. c .before .before .before .shared-slice-known2 .given i .fits) (λ i. c .before .before .before .shared-slice-known2 .given i .fits) refl
-    (rw (c .before .before .of-number .ensures, c .before .of-number2 .ensures) at (c .load .ensures))
+    rw (c .before .before .of-number .ensures, c .before .of-number2 .ensures) at (c .load .ensures)
 
 pub blockheap-load-spec : {M : Type 1} → statement M
 blockheap-load-spec = tie.close (tie.spec of-number-requires of-number-requires-2 load-requires returns)

@@ -1,12 +1,8 @@
 -- `blockheap::blockheap_reallocate` meets its contract: the block fits 32 bits, being a block of the table. Assumes nothing.
 use native.Mathlib.Omega.{arith}
-use mathlib.Core.List.{[]}
-use mathlib.Core.Path.{refl}
 use borrow.Author.Needs.{needs}
 use mir.Syntax.{w32}
 use mir.ValLaws.{toZ-ofZ}
-use Rattle.rules.specs.Runs.{Reallocate, step}
-use Rattle.rules.proofs.Memory.{in-bytes}
 use Rattle.rules.proofs.Blocks.{reallocated-small}
 use Rattle.blockheap.proofs.blockheap_reallocate.Statement.{statement}
 use Rattle.blockheap.proofs.blockheap_reallocate.Tie as tie
@@ -27,7 +23,7 @@ number-requires : tie.Need-number-requires
 number-requires c κs = search needs
 
 cast-new-block : tie.Need-cast-new-block
-cast-new-block c = omega (arith, c .number .ensures, reallocated-small _ _ _ _ _ (c .before .before .before .before .before .reallocate .ensures))
+cast-new-block c = omega (arith, c .number .ensures, reallocated-small _ _ _ _ _ _ (c .before .before .before .before .before .reallocate .ensures))
 
 same-length : tie.Need-same-length
 same-length c = search needs
@@ -36,12 +32,9 @@ same-length-2 : tie.Need-same-length-2
 same-length-2 c = search needs
 
 returns : tie.Need-returns
-unfolding step
 returns c =
-    rw (c .before .number .ensures)
-    (in-bytes (Reallocate _ _ _) [] _ _ [] _ (λ i. c .before .before .before .before .before .before .before .before .before .before .before .before .slice-known2 .given i .fits) (λ i. c .before .before .slice-known4 .given i .fits) refl
-    (rw (toZ-ofZ w32 (c .before .before .before .before .before .before .reallocate .result .change) (search (needs, c .struct-told .given)))
-    (rw (c .before .before .before .before .before .before .before .before .before .before .before .of-number .ensures, c .before .before .before .before .before .before .before .before .of-number2 .ensures, c .before .before .before .before .before .before .before .of-number3 .ensures) at (c .before .before .before .before .before .before .reallocate .ensures))))
+    rw (c .before .number .ensures, toZ-ofZ w32 (c .before .before .before .before .before .before .reallocate .result .change) (search (needs, c .struct-told .given)))
+    (rw (c .before .before .before .before .before .before .before .before .before .before .before .of-number .ensures, c .before .before .before .before .before .before .before .before .of-number2 .ensures, c .before .before .before .before .before .before .before .of-number3 .ensures) at (c .before .before .before .before .before .before .reallocate .ensures))
 
 pub blockheap-reallocate-spec : {M : Type 1} → statement M
 blockheap-reallocate-spec = tie.close (tie.spec of-number-requires of-number-requires-2 of-number-requires-3 reallocate-requires number-requires cast-new-block same-length same-length-2 returns)
