@@ -33,6 +33,7 @@ extern "C" {
  */
 struct blockheap {
     uint64_t base;
+    uint64_t t; /* where it is 0, pool_len gives it: bh_t */
     uint8_t *pool;
     size_t pool_len;
     uint8_t *table;
@@ -50,7 +51,8 @@ struct blockheap {
 #endif
 
 /* Initialises a heap over two arrays, a pool and its table (not over pointers: it takes their sizeof). */
-#define BH_OVER(base, pool, table) {(base), (pool), sizeof(pool), (table), sizeof(table)}
+#define BH_OVER(base, pool, table) \
+    {(base), BLOCKHEAP_T_OF_POOL(sizeof(pool)), (pool), sizeof(pool), (table), sizeof(table)}
 
 /*
  * Defines a heap with static memory of its own, aligned: large objects lie at
@@ -64,20 +66,29 @@ struct blockheap {
 /*
  * A heap in one area of memory, as large as it can be: the pool at its front,
  * the table behind it. Large objects lie at multiples of 64 bytes if the area
- * does. One of fewer than 65 bytes is too short: bh_init then answers BAD_SHAPE.
+ * does. One of fewer than 66 bytes is too short: bh_init then answers BAD_SHAPE.
  */
 static inline struct blockheap bh_split(uint64_t base, uint8_t *area, size_t area_len)
 {
     struct blockheap heap;
     size_t t = area_len / (BLOCKHEAP_POOL_BYTES(1) + 1);
-    if (t > BLOCKHEAP_MAX_TABLE_BYTES)
-        t = BLOCKHEAP_MAX_TABLE_BYTES;
+    if (t > BLOCKHEAP_MAX_T)
+        t = BLOCKHEAP_MAX_T;
+    if (BLOCKHEAP_POOL_BYTES(t) + BLOCKHEAP_TABLE_BYTES_OF_T(t) > area_len)
+        t--;
     heap.base = base;
+    heap.t = t;
     heap.pool = area;
     heap.pool_len = BLOCKHEAP_POOL_BYTES(t);
     heap.table = area + heap.pool_len;
-    heap.table_len = t;
+    heap.table_len = BLOCKHEAP_TABLE_BYTES_OF_T(t);
     return heap;
+}
+
+/* The t of a heap. A struct whose fields were set by name may leave it to the pool's length. */
+static inline uint64_t bh_t(const struct blockheap *heap)
+{
+    return heap->t ? heap->t : BLOCKHEAP_T_OF_POOL(heap->pool_len);
 }
 
 /* ---- The calls ---- */
@@ -92,7 +103,7 @@ static inline uint8_t *bh_no_bytes(void)
 /* A list, and a heap, as the arguments that blockheap.h asks for. */
 #define BH_LIST(bytes, len) ((len) ? (bytes) : bh_no_bytes()), (len)
 #define BH_PARTS(heap) \
-    (heap)->base, BH_LIST((heap)->pool, (heap)->pool_len), BH_LIST((heap)->table, (heap)->table_len)
+    (heap)->base, bh_t(heap), BH_LIST((heap)->pool, (heap)->pool_len), BH_LIST((heap)->table, (heap)->table_len)
 
 static inline uint32_t bh_init(const struct blockheap *heap)
 {
@@ -187,10 +198,13 @@ static inline uint8_t *bh_pointer(const struct blockheap *heap, uint32_t block)
 /* What the table says of a block; FREE if there is no such block. */
 static inline enum blockheap_entry bh_entry(const struct blockheap *heap, uint32_t block)
 {
-    if (block / BLOCKHEAP_BLOCKS_PER_TABLE_BYTE >= heap->table_len)
+    size_t plane_len = heap->table_len / 2, at = block / BLOCKHEAP_BLOCKS_PER_PLANE_BYTE;
+    unsigned bit = block % BLOCKHEAP_BLOCKS_PER_PLANE_BYTE, low, high;
+    if (block >= bh_blocks(heap) || at >= plane_len)
         return BLOCKHEAP_FREE;
-    return (enum blockheap_entry)(heap->table[block / BLOCKHEAP_BLOCKS_PER_TABLE_BYTE]
-                                  >> 2 * (block % BLOCKHEAP_BLOCKS_PER_TABLE_BYTE) & 3);
+    low = heap->table[at] >> bit & 1u;
+    high = heap->table[plane_len + at] >> bit & 1u;
+    return (enum blockheap_entry)(low + 2 * high);
 }
 
 /* How many bytes the blocks of an object have; 0 if the block is not its head. */
@@ -246,7 +260,7 @@ static inline const char *bh_refusal_text(uint32_t refusal)
 {
     switch (refusal) {
     case BLOCKHEAP_OK: return "the call was accepted";
-    case BLOCKHEAP_BAD_SHAPE: return "the base or a length breaks the rules";
+    case BLOCKHEAP_BAD_SHAPE: return "the base, t or a length breaks the rules";
     case BLOCKHEAP_BAD_TABLE: return "the table is damaged";
     case BLOCKHEAP_TOO_MANY_ROOTS: return "there are more than 4,096 root words";
     case BLOCKHEAP_STACK_TOO_LONG: return "the mark stack has more than 64 entries";

@@ -6,14 +6,14 @@
  *
  * The library has no memory of its own. Every call is handed the whole heap:
  *
- *   base, pool, pool_len, table, table_len
+ *   base, t, pool, pool_len, table, table_len
  *
- * - The pool is cut into blocks of 16 bytes, numbered from 0.
- * - The table has two bits for each block: block k is in byte k / 4, shifted
- *   left by 2 * (k % 4). They say free, head of an object, or tail of one. An
- *   object is a head with all the tails directly after it.
- * - table_len, called t below, is 1 to 1,024. It rules n = 4 * t blocks, and
- *   pool_len is exactly 64 * t.
+ * - t, 1 to 1,024, is the size of the heap: it has n = 4 * t blocks.
+ * - The pool is cut into blocks of 16 bytes, numbered from 0. pool_len is
+ *   exactly 64 * t.
+ * - The table has two bits for each block (see below). They say free, head of
+ *   an object, or tail of one. An object is a head with all the tails directly
+ *   after it. table_len is exactly 2 * ((t + 1) / 2).
  * - base is the address of block 0, as the words in the pool spell addresses:
  *   block k has the address base + 16 * k. It is a multiple of 16, at least
  *   16, and base + 64 * t is at most 4,294,967,296. On a 32-bit board, lend a
@@ -24,9 +24,9 @@
  *   block number divisible by 4. New objects, and those that grow or move, take
  *   aligned runs: large ones, of four blocks or more, begin at a multiple of 64
  *   bytes in the pool. If base is a multiple of 64, so are their addresses; if
- *   the pool itself lies at a multiple of 64, so do their bytes. A table of an
- *   older version may have large objects that begin elsewhere. They are valid,
- *   and stay where they are until they grow.
+ *   the pool itself lies at a multiple of 64, so do their bytes. A table that
+ *   other programs made may have large objects that begin elsewhere. They are
+ *   valid, and stay where they are until they grow.
  * - A word is 32 bits, lowest byte first on every host. An object of b blocks
  *   has words 0 to 4 * b - 1.
  * - A word is a pointer if it equals the address of a block of an object, head
@@ -37,19 +37,50 @@
  *   an address: a word that is 0 serves as nil.
  *
  * To start, lend a pool and a table and call blockheap_init. Then hand both to
- * each later call as the last one left them. Programs may read and write the
- * bytes of their own objects directly; block k begins at pool + 16 * k. The
- * table is the library's to write.
+ * each later call as the last one left them, with the same t. Programs may read
+ * and write the bytes of their own objects directly; block k begins at
+ * pool + 16 * k. The table is the library's to write.
+ *
+ * THE TABLE
+ *
+ * The table is two planes, one after the other, of (t + 1) / 2 bytes each: the
+ * low bits of all blocks, then their high bits. A plane has eight blocks to a
+ * byte, lowest bit first: block 8 * i + j is bit j of its byte i.
+ *
+ *               FREE   HEAD   TAIL   MARK
+ *   low bit       0      1      0      1
+ *   high bit      0      0      1      1
+ *
+ * MARK is what a collection works with. No call leaves one in a table.
+ *
+ * Where t is odd, the upper four bits of the last byte of each plane are of no
+ * block. These spare bits must be 0, and are 0 after every accepted call.
+ *
+ * Here t is 3: 12 blocks and 4 bytes. From block 0 on there are objects of one,
+ * three and four blocks. Bit 0 of each byte stands on the left, and a dot is a
+ * spare bit.
+ *
+ *                  table[0] = 0x13            table[1] = 0x00
+ *              +------------------------+------------------------+
+ *   low bits   | 1  1  0  0  1  0  0  0 | 0  0  0  0  .  .  .  . |
+ *              +------------------------+------------------------+
+ *   blocks       0  1  2  3  4  5  6  7   8  9 10 11
+ *                H  H  T  T  H  T  T  T   -  -  -  -
+ *              +------------------------+------------------------+
+ *   high bits  | 0  0  1  1  0  1  1  1 | 0  0  0  0  .  .  .  . |
+ *              +------------------------+------------------------+
+ *                  table[2] = 0xec            table[3] = 0x00
  *
  * ANSWERS
  *
  * Every call returns 0, or the number of the first reason to refuse, in the
- * order of enum blockheap_refusal. Any number may be passed as base, block,
+ * order of enum blockheap_refusal. Any number may be passed as base, t, block,
  * word or bytes, and any content in any buffer: what does not fit is refused.
  * The other answers go out through the pointers that come last. They are
- * written on every call. After a refusal they are all 0, and pool, table and
- * mark stack hold what they held before. Block 0 is a valid answer, so look at
- * the returned number, not at the block, to see whether a call was refused.
+ * written on every call. After a refusal they are all 0, and every byte of
+ * pool, table and mark stack is what it was before, spare bits too. Block 0 is
+ * a valid answer, so look at the returned number, not at the block, to see
+ * whether a call was refused.
  *
  * `change` is the change in used blocks, -4,096 to 4,096. Since the latest
  * accepted init, the changes add up to the used blocks of blockheap_survey.
@@ -104,23 +135,29 @@ extern "C" {
 #define BLOCKHEAP_BLOCK_BYTES 16
 #define BLOCKHEAP_WORD_BYTES 4
 #define BLOCKHEAP_WORDS_PER_BLOCK 4
-#define BLOCKHEAP_BLOCKS_PER_TABLE_BYTE 4
+#define BLOCKHEAP_BLOCKS_PER_PLANE_BYTE 8
 #define BLOCKHEAP_LARGE_BLOCKS 4 /* new objects of so many or more begin at a block number divisible by 4 */
-#define BLOCKHEAP_MAX_TABLE_BYTES 1024
+#define BLOCKHEAP_MAX_T 1024
 #define BLOCKHEAP_MAX_BLOCKS 4096
 #define BLOCKHEAP_MAX_POOL_BYTES 65536
+#define BLOCKHEAP_MAX_TABLE_BYTES 1024
 #define BLOCKHEAP_MIN_BASE 16
 #define BLOCKHEAP_MAX_ROOTS 4096
 #define BLOCKHEAP_MAX_STACK_ENTRIES 64
 
-/* The length of the pool that a table of t bytes rules, and of the table for a pool of so many bytes. */
+/* From t: the lengths in bytes of the pool, of one plane of the table, and of the whole table. */
 #define BLOCKHEAP_POOL_BYTES(t) (64 * (t))
-#define BLOCKHEAP_TABLE_BYTES(pool_bytes) ((pool_bytes) / 64)
+#define BLOCKHEAP_PLANE_BYTES(t) (((t) + 1) / 2)
+#define BLOCKHEAP_TABLE_BYTES_OF_T(t) (2 * BLOCKHEAP_PLANE_BYTES(t))
+
+/* From the length of the pool: t, and the length of the table. */
+#define BLOCKHEAP_T_OF_POOL(pool_bytes) ((pool_bytes) / 64)
+#define BLOCKHEAP_TABLE_BYTES(pool_bytes) BLOCKHEAP_TABLE_BYTES_OF_T(BLOCKHEAP_T_OF_POOL(pool_bytes))
 
 /* The length in bytes of a list of n words: n roots, or n entries of a mark stack. */
 #define BLOCKHEAP_LIST_BYTES(n) (BLOCKHEAP_WORD_BYTES * (n))
 
-/* What a block's two bits say. MARK is never left in a table by a call. */
+/* What a block's two bits say: the low bit and two times the high bit. */
 enum blockheap_entry {
     BLOCKHEAP_FREE = 0,
     BLOCKHEAP_HEAD = 1,
@@ -131,9 +168,10 @@ enum blockheap_entry {
 /* What a call returns. Of several reasons, the lowest number is given. */
 enum blockheap_refusal {
     BLOCKHEAP_OK = 0,
-    BLOCKHEAP_BAD_SHAPE = 1,       /* table_len, pool_len or base breaks the rules above, or the
+    BLOCKHEAP_BAD_SHAPE = 1,       /* t, table_len, pool_len or base breaks the rules above, or the
                                       roots' or stack's length is not divisible by 4 */
-    BLOCKHEAP_BAD_TABLE = 2,       /* a MARK, a tail at block 0, or a tail after a free block */
+    BLOCKHEAP_BAD_TABLE = 2,       /* a MARK, a tail at block 0 or after a free block, or a spare
+                                      bit that is 1 */
     BLOCKHEAP_TOO_MANY_ROOTS = 3,  /* more than 4,096 root words */
     BLOCKHEAP_STACK_TOO_LONG = 4,  /* a mark stack of more than 64 entries */
     BLOCKHEAP_ZERO_BYTES = 5,      /* a request for 0 bytes */
@@ -144,11 +182,12 @@ enum blockheap_refusal {
 };
 
 /*
- * Makes every block free, whatever the table held. The pool is not touched.
+ * Makes every block free and every spare bit 0, whatever the table held. The
+ * pool is not touched.
  * Refusals: BAD_SHAPE.
  */
 BLOCKHEAP_NONNULL
-uint32_t blockheap_init(uint64_t base, const uint8_t *pool, size_t pool_len,
+uint32_t blockheap_init(uint64_t base, uint64_t t, const uint8_t *pool, size_t pool_len,
                         uint8_t *table, size_t table_len);
 
 /*
@@ -159,7 +198,7 @@ uint32_t blockheap_init(uint64_t base, const uint8_t *pool, size_t pool_len,
  * aligned run of as many free blocks; nothing is collected to make room).
  */
 BLOCKHEAP_NONNULL
-uint32_t blockheap_allocate(uint64_t base, uint8_t *pool, size_t pool_len,
+uint32_t blockheap_allocate(uint64_t base, uint64_t t, uint8_t *pool, size_t pool_len,
                             uint8_t *table, size_t table_len,
                             uint64_t bytes, uint32_t *block, int32_t *change);
 
@@ -170,7 +209,7 @@ uint32_t blockheap_allocate(uint64_t base, uint8_t *pool, size_t pool_len,
  * Refusals: BAD_SHAPE, BAD_TABLE, NO_SUCH_BLOCK, NOT_A_HEAD.
  */
 BLOCKHEAP_NONNULL
-uint32_t blockheap_free(uint64_t base, const uint8_t *pool, size_t pool_len,
+uint32_t blockheap_free(uint64_t base, uint64_t t, const uint8_t *pool, size_t pool_len,
                         uint8_t *table, size_t table_len,
                         uint64_t block, int32_t *change);
 
@@ -193,7 +232,7 @@ uint32_t blockheap_free(uint64_t base, const uint8_t *pool, size_t pool_len,
  * as it was).
  */
 BLOCKHEAP_NONNULL
-uint32_t blockheap_reallocate(uint64_t base, uint8_t *pool, size_t pool_len,
+uint32_t blockheap_reallocate(uint64_t base, uint64_t t, uint8_t *pool, size_t pool_len,
                               uint8_t *table, size_t table_len,
                               uint64_t block, uint64_t bytes,
                               uint32_t *new_block, int32_t *change);
@@ -202,7 +241,7 @@ uint32_t blockheap_reallocate(uint64_t base, uint8_t *pool, size_t pool_len,
  * Collects garbage: keeps exactly the objects that a chain of pointers leads
  * to from a root, and makes the blocks of all others free. Pool and roots are
  * not written. A pointer to a tail takes longer to follow: its head is found by
- * reading the table backwards, up to 64 bytes at a time.
+ * reading the table backwards, 64 blocks at a time.
  * - roots: the root words, four bytes each, lowest byte first; at most 4,096.
  *   A root is followed as a pointer in an object is, and anything else in the
  *   list counts for nothing. Roots may stand in any order and more than once:
@@ -221,7 +260,7 @@ uint32_t blockheap_reallocate(uint64_t base, uint8_t *pool, size_t pool_len,
  * Refusals: BAD_SHAPE, BAD_TABLE, TOO_MANY_ROOTS, STACK_TOO_LONG.
  */
 BLOCKHEAP_NONNULL
-uint32_t blockheap_collect(uint64_t base, const uint8_t *pool, size_t pool_len,
+uint32_t blockheap_collect(uint64_t base, uint64_t t, const uint8_t *pool, size_t pool_len,
                            uint8_t *table, size_t table_len,
                            const uint8_t *roots, size_t roots_len,
                            uint8_t *stack, size_t stack_len,
@@ -235,7 +274,7 @@ uint32_t blockheap_collect(uint64_t base, const uint8_t *pool, size_t pool_len,
  * Refusals: BAD_SHAPE, BAD_TABLE.
  */
 BLOCKHEAP_NONNULL
-uint32_t blockheap_survey(uint64_t base, const uint8_t *pool, size_t pool_len,
+uint32_t blockheap_survey(uint64_t base, uint64_t t, const uint8_t *pool, size_t pool_len,
                           const uint8_t *table, size_t table_len,
                           uint32_t *used, uint32_t *objects, uint32_t *longest);
 
@@ -244,7 +283,7 @@ uint32_t blockheap_survey(uint64_t base, const uint8_t *pool, size_t pool_len,
  * Refusals: BAD_SHAPE, BAD_TABLE, NO_SUCH_BLOCK, NOT_A_HEAD, NO_SUCH_WORD.
  */
 BLOCKHEAP_NONNULL
-uint32_t blockheap_load(uint64_t base, const uint8_t *pool, size_t pool_len,
+uint32_t blockheap_load(uint64_t base, uint64_t t, const uint8_t *pool, size_t pool_len,
                         const uint8_t *table, size_t table_len,
                         uint64_t block, uint64_t word, uint32_t *value);
 
@@ -254,7 +293,7 @@ uint32_t blockheap_load(uint64_t base, const uint8_t *pool, size_t pool_len,
  * Refusals: BAD_SHAPE, BAD_TABLE, NO_SUCH_BLOCK, NOT_A_HEAD, NO_SUCH_WORD.
  */
 BLOCKHEAP_NONNULL
-uint32_t blockheap_store(uint64_t base, uint8_t *pool, size_t pool_len,
+uint32_t blockheap_store(uint64_t base, uint64_t t, uint8_t *pool, size_t pool_len,
                          const uint8_t *table, size_t table_len,
                          uint64_t block, uint64_t word, uint32_t value);
 
