@@ -1,5 +1,6 @@
 /*
  * The checked examples of the heap's rules through the C header: base 4,096, and 8 blocks up to example 16.
+ * Beside each table stand the bytes of its two planes. The last examples are about the planes alone.
  *
  * Each runs once for each place of the lent buffers. Against a page that cannot be touched, any access past
  * that border ends the program, also one from inside the archive. In memory from malloc, valgrind sees each
@@ -14,16 +15,14 @@
 
 #include "blockheap.h"
 
-static uint64_t base;
-static uint8_t *pool;
-static uint8_t *table;
-static size_t table_bytes;
+static uint64_t base, t;
+static uint8_t *pool, *table;
+static size_t pool_len, table_len;
 
-#define POOL_BYTES BLOCKHEAP_POOL_BYTES(table_bytes)
-#define HEAP base, pool, POOL_BYTES, table, table_bytes
+#define HEAP base, t, pool, pool_len, table, table_len
 
-/* The bytes of a table, and how many they are. */
-#define TABLE_OF(...) (const uint8_t[]){__VA_ARGS__}, sizeof((const uint8_t[]){__VA_ARGS__})
+/* Bytes, and how many they are. */
+#define BYTES(...) (const uint8_t[]){__VA_ARGS__}, sizeof((const uint8_t[]){__VA_ARGS__})
 
 /* What every place for an answer holds before a call. */
 enum { RUBBISH = 0x5EED5EED };
@@ -80,16 +79,64 @@ static uint8_t *lent(enum buffer buffer, size_t bytes)
     }
 }
 
-/* A heap with this table and a pool of zeros. */
-#define from(...) from_bytes(TABLE_OF(__VA_ARGS__))
-static bool from_bytes(const uint8_t *bytes, size_t count)
+static void lend_heap(uint64_t size, size_t pool_bytes, size_t table_bytes)
 {
     base = 4096;
-    table_bytes = count;
-    pool = lent(POOL, POOL_BYTES);
-    table = lent(TABLE, count);
-    memset(pool, 0, POOL_BYTES);
-    memcpy(table, bytes, count);
+    t = size;
+    pool_len = pool_bytes;
+    table_len = table_bytes;
+    pool = lent(POOL, pool_len);
+    table = lent(TABLE, table_len);
+    memset(pool, 0, pool_len);
+    memset(table, 0, table_len);
+}
+
+/* The examples write entries as numbers, four entries to a number, the first in the lowest bits. */
+static unsigned entry_in(const uint8_t *numbers, size_t block)
+{
+    return numbers[block / 4] >> 2 * (block % 4) & 3;
+}
+
+/* Where a block's bit is in a plane, 0 the low and 1 the high one. */
+static uint8_t *plane_byte(size_t plane, size_t block)
+{
+    return table + plane * (table_len / 2) + block / 8;
+}
+
+/* Sets an entry that is still FREE. */
+static void set_entry(size_t block, unsigned entry)
+{
+    for (size_t plane = 0; plane < 2; plane++)
+        *plane_byte(plane, block) |= (uint8_t)((entry >> plane & 1) << block % 8);
+}
+
+static unsigned entry_at(size_t block)
+{
+    unsigned low = *plane_byte(0, block) >> block % 8 & 1, high = *plane_byte(1, block) >> block % 8 & 1;
+    return low + 2 * high;
+}
+
+/* A heap with the entries of these numbers, as many as t, and a pool of zeros. */
+#define from(...) from_numbers(BYTES(__VA_ARGS__))
+static bool from_numbers(const uint8_t *numbers, size_t count)
+{
+    lend_heap(count, BLOCKHEAP_POOL_BYTES(count), BLOCKHEAP_TABLE_BYTES_OF_T(count));
+    for (size_t block = 0; block < 4 * count; block++)
+        set_entry(block, entry_in(numbers, block));
+    return true;
+}
+
+/* Whether the table has the entries of these numbers, and no spare bit is 1. */
+#define table_is(...) table_is_numbers(BYTES(__VA_ARGS__))
+static bool table_is_numbers(const uint8_t *numbers, size_t count)
+{
+    if (!same("t", (long long)t, (long long)count))
+        return false;
+    for (size_t block = 0; block < 4 * table_len; block++)
+        if (!same("entry", entry_at(block), block < 4 * count ? entry_in(numbers, block) : 0)) {
+            printf("    (block %zu)\n", block);
+            return false;
+        }
     return true;
 }
 
@@ -103,10 +150,11 @@ static bool bytes_are(const char *what, const uint8_t *bytes, const uint8_t *exp
     return true;
 }
 
-#define table_is(...) table_is_bytes(TABLE_OF(__VA_ARGS__))
-static bool table_is_bytes(const uint8_t *bytes, size_t count)
+/* Whether the table's planes are these bytes. */
+#define planes_are(...) planes_are_bytes(BYTES(__VA_ARGS__))
+static bool planes_are_bytes(const uint8_t *bytes, size_t count)
 {
-    return same("table length", (long long)table_bytes, (long long)count)
+    return same("table length", (long long)table_len, (long long)count)
         && bytes_are("table byte", table, bytes, count);
 }
 
@@ -157,11 +205,11 @@ static bool surveys(uint32_t used, uint32_t objects, uint32_t longest)
         && same("longest", got_longest, longest);
 }
 
-static bool all_zero(const uint8_t *bytes, size_t length)
+static bool all_are(const char *what, const uint8_t *bytes, size_t length, uint8_t expected)
 {
     for (size_t at = 0; at < length; at++)
-        if (bytes[at])
-            return same("mark stack byte", bytes[at], 0);
+        if (!same(what, bytes[at], expected))
+            return false;
     return true;
 }
 
@@ -179,85 +227,94 @@ static bool collects(const uint32_t *root, size_t stack_entries, uint32_t kept, 
         blockheap_collect(HEAP, roots, roots_len, stack, stack_len, &got_kept, &got_rescans, &got_change);
     return same("refusal", refusal, BLOCKHEAP_OK) && same("kept", got_kept, kept)
         && same("rescans", got_rescans, rescans) && same("change", got_change, change)
-        && all_zero(stack, stack_len);
+        && all_are("mark stack byte", stack, stack_len, 0);
 }
 
 /* The heap of examples 9 to 11: word 0 of block 4 leads to block 0. */
 static bool from_linked(void)
 {
-    return from(165, 169) && stores(4, 0, 4096) && surveys(8, 3, 0);
+    return from(165, 169) && stores(4, 0, 4096) && surveys(8, 3, 0) && planes_are(0x13, 0xec);
 }
 
 static bool example_1(void)
 {
-    return from(0, 0) && allocates(1, BLOCKHEAP_OK, 0, 1) && table_is(1, 0);
+    return from(0, 0) && planes_are(0x00, 0x00)
+        && allocates(1, BLOCKHEAP_OK, 0, 1) && table_is(1, 0) && planes_are(0x01, 0x00);
 }
 
 static bool example_2(void)
 {
-    return from(1, 0) && allocates(33, BLOCKHEAP_OK, 1, 3) && table_is(165, 0);
+    return from(1, 0) && planes_are(0x01, 0x00)
+        && allocates(33, BLOCKHEAP_OK, 1, 3) && table_is(165, 0) && planes_are(0x03, 0x0c);
 }
 
 static bool example_3(void)
 {
-    return from(165, 0) && allocates(64, BLOCKHEAP_OK, 4, 4) && table_is(165, 169);
+    return from(165, 0) && planes_are(0x03, 0x0c)
+        && allocates(64, BLOCKHEAP_OK, 4, 4) && table_is(165, 169) && planes_are(0x13, 0xec);
 }
 
 static bool example_4(void)
 {
-    return from(165, 169) && allocates(1, BLOCKHEAP_NO_ROOM, 0, 0) && table_is(165, 169);
+    return from(165, 169) && allocates(1, BLOCKHEAP_NO_ROOM, 0, 0)
+        && table_is(165, 169) && planes_are(0x13, 0xec);
 }
 
 static bool example_5(void)
 {
-    return from(165, 169) && frees(1, BLOCKHEAP_OK, -3) && table_is(1, 169)
-        && frees(5, BLOCKHEAP_NOT_A_HEAD, 0) && frees(8, BLOCKHEAP_NO_SUCH_BLOCK, 0) && table_is(1, 169);
+    return from(165, 169) && frees(1, BLOCKHEAP_OK, -3) && table_is(1, 169) && planes_are(0x11, 0xe0)
+        && frees(5, BLOCKHEAP_NOT_A_HEAD, 0) && frees(8, BLOCKHEAP_NO_SUCH_BLOCK, 0)
+        && table_is(1, 169) && planes_are(0x11, 0xe0);
 }
 
 static bool example_6(void)
 {
-    return from(1, 169) && reallocates(4, 16, BLOCKHEAP_OK, 4, -3) && table_is(1, 1);
+    return from(1, 169) && planes_are(0x11, 0xe0)
+        && reallocates(4, 16, BLOCKHEAP_OK, 4, -3) && table_is(1, 1) && planes_are(0x11, 0x00);
 }
 
 static bool example_7(void)
 {
-    return from(1, 1) && reallocates(0, 64, BLOCKHEAP_OK, 0, 3) && table_is(169, 1)
-        && from(1, 1) && reallocates(0, 65, BLOCKHEAP_NO_ROOM, 0, 0) && table_is(1, 1);
+    return from(1, 1) && planes_are(0x11, 0x00)
+        && reallocates(0, 64, BLOCKHEAP_OK, 0, 3) && table_is(169, 1) && planes_are(0x11, 0x0e)
+        && from(1, 1) && reallocates(0, 65, BLOCKHEAP_NO_ROOM, 0, 0)
+        && table_is(1, 1) && planes_are(0x11, 0x00);
 }
 
 static bool example_8(void)
 {
-    return from(5, 0) && reallocates(0, 17, BLOCKHEAP_OK, 2, 1) && table_is(148, 0);
+    return from(5, 0) && planes_are(0x03, 0x00)
+        && reallocates(0, 17, BLOCKHEAP_OK, 2, 1) && table_is(148, 0) && planes_are(0x06, 0x08);
 }
 
 static bool example_9(void)
 {
     const uint32_t root = 4160;
-    return from_linked() && collects(&root, 64, 2, 0, -3) && table_is(1, 169)
-        && from_linked() && collects(&root, 0, 2, 1, -3) && table_is(1, 169);
+    return from_linked() && collects(&root, 64, 2, 0, -3) && table_is(1, 169) && planes_are(0x11, 0xe0)
+        && from_linked() && collects(&root, 0, 2, 1, -3) && table_is(1, 169) && planes_are(0x11, 0xe0);
 }
 
 static bool example_10(void)
 {
-    return from_linked() && collects(NULL, 64, 0, 0, -8) && table_is(0, 0);
+    return from_linked() && collects(NULL, 64, 0, 0, -8) && table_is(0, 0) && planes_are(0x00, 0x00);
 }
 
 static bool example_11(void)
 {
     const uint32_t tail = 4128, inside = 4097;
-    return from_linked() && collects(&tail, 64, 1, 0, -5) && table_is(164, 0)
-        && from_linked() && collects(&inside, 64, 0, 0, -8) && table_is(0, 0);
+    return from_linked() && collects(&tail, 64, 1, 0, -5) && table_is(164, 0) && planes_are(0x02, 0x0c)
+        && from_linked() && collects(&inside, 64, 0, 0, -8) && table_is(0, 0) && planes_are(0x00, 0x00);
 }
 
-static bool refuses_table(uint8_t first)
+static bool refuses_table(uint8_t first, uint8_t low, uint8_t high)
 {
-    return from(first, 0) && allocates(1, BLOCKHEAP_BAD_TABLE, 0, 0)
-        && allocates(0, BLOCKHEAP_BAD_TABLE, 0, 0) && table_is(first, 0);
+    return from(first, 0) && planes_are(low, high) && allocates(1, BLOCKHEAP_BAD_TABLE, 0, 0)
+        && allocates(0, BLOCKHEAP_BAD_TABLE, 0, 0) && table_is(first, 0) && planes_are(low, high);
 }
 
 static bool example_12(void)
 {
-    return refuses_table(2) && refuses_table(3) && refuses_table(8);
+    return refuses_table(2, 0x00, 0x01) && refuses_table(3, 0x01, 0x01) && refuses_table(8, 0x00, 0x02);
 }
 
 static bool initialises_at(uint64_t address, uint32_t refusal)
@@ -269,61 +326,136 @@ static bool initialises_at(uint64_t address, uint32_t refusal)
 
 static bool example_13(void)
 {
-    return initialises_at(4294967168u, BLOCKHEAP_OK) && table_is(0, 0)
-        && initialises_at(4294967184u, BLOCKHEAP_BAD_SHAPE) && table_is(1, 1)
-        && initialises_at(0, BLOCKHEAP_BAD_SHAPE) && table_is(1, 1);
+    return initialises_at(4294967168u, BLOCKHEAP_OK) && table_is(0, 0) && planes_are(0x00, 0x00)
+        && initialises_at(4294967184u, BLOCKHEAP_BAD_SHAPE) && table_is(1, 1) && planes_are(0x11, 0x00)
+        && initialises_at(0, BLOCKHEAP_BAD_SHAPE) && table_is(1, 1) && planes_are(0x11, 0x00);
 }
 
 static bool example_14(void)
 {
     return from(165, 169) && stores(4, 15, 77) && loads(4, 15, BLOCKHEAP_OK, 77)
-        && loads(4, 16, BLOCKHEAP_NO_SUCH_WORD, 0);
+        && loads(4, 16, BLOCKHEAP_NO_SUCH_WORD, 0) && planes_are(0x13, 0xec);
 }
 
 static bool example_15(void)
 {
-    return from(165, 169) && reallocates(8, 0, BLOCKHEAP_ZERO_BYTES, 0, 0) && table_is(165, 169);
+    return from(165, 169) && reallocates(8, 0, BLOCKHEAP_ZERO_BYTES, 0, 0)
+        && table_is(165, 169) && planes_are(0x13, 0xec);
 }
 
 /* Word 0 of block 6 leads to block 2, which is the third of its object. Word 0 of that object is given. */
 static bool from_linked_by_tails(uint32_t word)
 {
-    return from(169, 25) && stores(6, 0, 4128) && stores(0, 0, word) && surveys(7, 3, 1);
+    return from(169, 25) && stores(6, 0, 4128) && stores(0, 0, word) && surveys(7, 3, 1)
+        && planes_are(0x51, 0x2e);
 }
 
 static bool example_16(void)
 {
     const uint32_t root = 4192, free_block = 4208, tail = 4176, inside = 4184;
-    return from_linked_by_tails(tail) && collects(&root, 64, 3, 0, 0) && table_is(169, 25)
-        && from_linked_by_tails(tail) && collects(&root, 0, 3, 2, 0) && table_is(169, 25)
-        && from_linked_by_tails(inside) && collects(&root, 64, 2, 0, -2) && table_is(169, 16)
-        && from_linked_by_tails(tail) && collects(&free_block, 64, 0, 0, -7) && table_is(0, 0);
+    return from_linked_by_tails(tail) && collects(&root, 64, 3, 0, 0)
+        && table_is(169, 25) && planes_are(0x51, 0x2e)
+        && from_linked_by_tails(tail) && collects(&root, 0, 3, 2, 0)
+        && table_is(169, 25) && planes_are(0x51, 0x2e)
+        && from_linked_by_tails(inside) && collects(&root, 64, 2, 0, -2)
+        && table_is(169, 16) && planes_are(0x41, 0x0e)
+        && from_linked_by_tails(tail) && collects(&free_block, 64, 0, 0, -7)
+        && table_is(0, 0) && planes_are(0x00, 0x00);
 }
 
 static bool example_17(void)
 {
     uint8_t object[64] = {1, 2, 3, [47] = 48};
-    bool made = from(1, 0, 0) && allocates(64, BLOCKHEAP_OK, 4, 4) && table_is(1, 169, 0)
-        && allocates(48, BLOCKHEAP_OK, 1, 3) && table_is(165, 169, 0);
+    bool made = from(1, 0, 0) && planes_are(0x01, 0x00, 0x00, 0x00)
+        && allocates(64, BLOCKHEAP_OK, 4, 4) && table_is(1, 169, 0) && planes_are(0x11, 0x00, 0xe0, 0x00)
+        && allocates(48, BLOCKHEAP_OK, 1, 3) && table_is(165, 169, 0) && planes_are(0x13, 0x00, 0xec, 0x00);
     memcpy(pool + 16, object, 48);
     memset(pool + 128, 0xEE, 64);
-    return made && reallocates(1, 64, BLOCKHEAP_OK, 8, 1) && table_is(1, 169, 169)
+    return made && reallocates(1, 64, BLOCKHEAP_OK, 8, 1)
+        && table_is(1, 169, 169) && planes_are(0x11, 0x01, 0xe0, 0x0e)
         && bytes_are("byte of the object", pool + 128, object, sizeof object);
 }
 
 static bool example_18(void)
 {
-    return from(165, 2, 0) && reallocates(1, 33, BLOCKHEAP_OK, 1, -1) && table_is(165, 0, 0)
-        && from(165, 2, 0) && reallocates(1, 64, BLOCKHEAP_OK, 1, 0) && table_is(165, 2, 0)
-        && reallocates(1, 65, BLOCKHEAP_NO_ROOM, 0, 0) && table_is(165, 2, 0)
-        && from(165, 2, 0, 0) && reallocates(1, 65, BLOCKHEAP_OK, 8, 1) && table_is(1, 0, 169, 2);
+    return from(165, 2, 0) && planes_are(0x03, 0x00, 0x1c, 0x00)
+        && reallocates(1, 33, BLOCKHEAP_OK, 1, -1)
+        && table_is(165, 0, 0) && planes_are(0x03, 0x00, 0x0c, 0x00)
+        && from(165, 2, 0) && reallocates(1, 64, BLOCKHEAP_OK, 1, 0)
+        && reallocates(1, 65, BLOCKHEAP_NO_ROOM, 0, 0)
+        && table_is(165, 2, 0) && planes_are(0x03, 0x00, 0x1c, 0x00)
+        && from(165, 2, 0, 0) && reallocates(1, 65, BLOCKHEAP_OK, 8, 1)
+        && table_is(1, 0, 169, 2) && planes_are(0x01, 0x01, 0x00, 0x1e);
 }
 
 static bool example_19(void)
 {
-    return from(165, 86) && frees(1, BLOCKHEAP_OK, -4) && surveys(4, 4, 4)
-        && allocates(64, BLOCKHEAP_NO_ROOM, 0, 0) && table_is(1, 84)
-        && allocates(48, BLOCKHEAP_OK, 1, 3) && table_is(165, 84);
+    return from(165, 86) && planes_are(0xe3, 0x1c) && frees(1, BLOCKHEAP_OK, -4) && surveys(4, 4, 4)
+        && allocates(64, BLOCKHEAP_NO_ROOM, 0, 0) && table_is(1, 84) && planes_are(0xe1, 0x00)
+        && allocates(48, BLOCKHEAP_OK, 1, 3) && table_is(165, 84) && planes_are(0xe3, 0x0c);
+}
+
+/* Whether every call but init is refused so, and writes neither pool nor mark stack. */
+static bool calls_refuse(uint32_t refusal)
+{
+    uint8_t *roots = lent(ROOTS, 0), *stack = lent(STACK, 4);
+    uint32_t one, other, third;
+    int32_t change;
+    memset(stack, 0xEE, 4);
+    return same("allocate", blockheap_allocate(HEAP, 1, &one, &change), refusal)
+        && same("free", blockheap_free(HEAP, 0, &change), refusal)
+        && same("reallocate", blockheap_reallocate(HEAP, 0, 1, &one, &change), refusal)
+        && same("collect", blockheap_collect(HEAP, roots, 0, stack, 4, &one, &other, &change), refusal)
+        && same("survey", blockheap_survey(HEAP, &one, &other, &third), refusal)
+        && same("load", blockheap_load(HEAP, 0, 0, &one), refusal)
+        && same("store", blockheap_store(HEAP, 0, 0, 1), refusal)
+        && all_are("byte of the pool", pool, pool_len, 0) && all_are("mark stack byte", stack, 4, 0xEE);
+}
+
+/* A spare bit that is 1: every call but init refuses the table and leaves it as it was, and init clears it. */
+static bool refuses_spare_bit(size_t plane, unsigned bit)
+{
+    uint8_t before[4];
+    plane_byte(plane, 4 * t)[0] |= (uint8_t)(1u << bit);
+    memcpy(before, table, table_len);
+    return calls_refuse(BLOCKHEAP_BAD_TABLE) && bytes_are("table byte", table, before, table_len)
+        && initialises(BLOCKHEAP_OK) && all_are("table byte", table, table_len, 0);
+}
+
+static bool example_20(void)
+{
+    for (size_t plane = 0; plane < 2; plane++)
+        for (unsigned bit = 4; bit < 8; bit++)
+            if (!(from(1) && refuses_spare_bit(plane, bit) && from(1, 0, 0) && refuses_spare_bit(plane, bit)))
+                return false;
+    return true;
+}
+
+static bool refuses_shape(uint64_t size, size_t pool_bytes, size_t table_bytes)
+{
+    lend_heap(size, pool_bytes, table_bytes);
+    memset(table, 0x11, table_len);
+    return initialises(BLOCKHEAP_BAD_SHAPE) && calls_refuse(BLOCKHEAP_BAD_SHAPE)
+        && all_are("table byte", table, table_len, 0x11);
+}
+
+static bool example_21(void)
+{
+    return refuses_shape(0, 64, 2) && refuses_shape(1025, 64, 2)
+        && refuses_shape(UINT64_C(2) + UINT32_MAX, 64, 2) && refuses_shape(UINT64_MAX, 64, 2)
+        && refuses_shape(1, 64, 1) && refuses_shape(1, 64, 3)
+        && refuses_shape(1, 63, 2) && refuses_shape(1, 65, 2) && refuses_shape(1, 128, 2)
+        && refuses_shape(2, 64, 2) && refuses_shape(2, 128, 1) && refuses_shape(2, 128, 3)
+        && refuses_shape(3, 192, 3) && refuses_shape(3, 192, 5) && refuses_shape(3, 256, 4);
+}
+
+static bool example_22(void)
+{
+    return from(0) && allocates(64, BLOCKHEAP_OK, 0, 4) && table_is(169) && planes_are(0x01, 0x0e)
+        && from(0, 0, 0) && allocates(192, BLOCKHEAP_OK, 0, 12) && surveys(12, 1, 0)
+        && table_is(169, 170, 170) && planes_are(0x01, 0x00, 0xfe, 0x0f)
+        && allocates(1, BLOCKHEAP_NO_ROOM, 0, 0) && planes_are(0x01, 0x00, 0xfe, 0x0f)
+        && frees(0, BLOCKHEAP_OK, -12) && surveys(0, 0, 12) && planes_are(0x00, 0x00, 0x00, 0x00);
 }
 
 static const struct {
@@ -349,6 +481,9 @@ static const struct {
     {"large objects are aligned", example_17},
     {"an unaligned object of an old table", example_18},
     {"a free run that is not aligned", example_19},
+    {"spare bits", example_20},
+    {"a t and lengths that do not fit", example_21},
+    {"the last blocks where t is odd", example_22},
 };
 
 static bool holds_everywhere(bool (*holds)(void))

@@ -19,31 +19,64 @@ static void check(const char *what, bool holds)
     failed += !holds;
 }
 
-static bool lengths_are(const struct blockheap *made, size_t pool_len, size_t table_len)
+static void check_lengths(void)
 {
-    return made->pool_len == pool_len && made->table_len == table_len;
+    check("a pool has 64 bytes for each t", BLOCKHEAP_POOL_BYTES(3) == 192 && BLOCKHEAP_T_OF_POOL(192) == 3);
+    check("a table has two planes, and spare bits where t is odd",
+          BLOCKHEAP_TABLE_BYTES_OF_T(1) == 2 && BLOCKHEAP_TABLE_BYTES_OF_T(2) == 2
+              && BLOCKHEAP_TABLE_BYTES_OF_T(3) == 4 && BLOCKHEAP_TABLE_BYTES_OF_T(1023) == 1024
+              && BLOCKHEAP_TABLE_BYTES_OF_T(BLOCKHEAP_MAX_T) == BLOCKHEAP_MAX_TABLE_BYTES);
+    check("the pool's length gives the table's",
+          BLOCKHEAP_TABLE_BYTES(64) == 2 && BLOCKHEAP_TABLE_BYTES(128) == 2 && BLOCKHEAP_TABLE_BYTES(192) == 4);
+}
+
+/* Whether a maker gave the heap this t and the lengths that go with it, and the library accepts it. */
+static bool is_heap_of(const struct blockheap *made, uint64_t t)
+{
+    return made->t == t && made->pool_len == BLOCKHEAP_POOL_BYTES(t)
+        && made->table_len == BLOCKHEAP_TABLE_BYTES_OF_T(t) && !bh_init(made);
+}
+
+static bool splits_into(uint8_t *area, size_t area_len, uint64_t t)
+{
+    struct blockheap split = bh_split(BASE, area, area_len);
+    return split.pool == area && split.table == area + split.pool_len && is_heap_of(&split, t);
 }
 
 static void check_makers(void)
 {
-    static uint8_t pool[64], table[BLOCKHEAP_TABLE_BYTES(sizeof pool)], area[1025 * 65];
+    static uint8_t pool[64], table[BLOCKHEAP_TABLE_BYTES(sizeof pool)], area[1025 * 65 + 1];
     static const struct blockheap over = BH_OVER(16, pool, table);
     struct blockheap none, split;
     memset(&none, 0, sizeof none);
     check("a heap that is defined has its lengths and is aligned",
-          lengths_are(&heap, 128, 2) && (uintptr_t)heap.pool % 64 == 0);
-    check("a heap over arrays may be const", over.base == 16 && lengths_are(&over, 64, 1) && !bh_init(&over));
-    split = bh_split(BASE, area, 130);
-    check("an area is split into pool and table",
-          split.pool == area && split.table == area + 128 && lengths_are(&split, 128, 2) && !bh_init(&split));
-    split = bh_split(BASE, area, 129);
-    check("a part of the area may be left over", lengths_are(&split, 64, 1) && !bh_init(&split));
-    split = bh_split(BASE, area, sizeof area);
-    check("no pool is longer than 65,536 bytes", lengths_are(&split, 65536, 1024) && !bh_init(&split));
-    split = bh_split(BASE, area, 64);
+          is_heap_of(&heap, 2) && (uintptr_t)heap.pool % 64 == 0);
+    check("a heap over arrays may be const", over.base == 16 && is_heap_of(&over, 1));
+    check("an area is split into pool and table", splits_into(area, 130, 2) && splits_into(area, 66, 1));
+    check("a part of the area may be left over",
+          splits_into(area, 129, 1) && splits_into(area, 195, 2) && splits_into(area, 196, 3));
+    check("no pool is longer than 65,536 bytes", splits_into(area, sizeof area, 1024));
+    split = bh_split(BASE, area, 65);
     check("too short an area is refused", bh_init(&split) == BLOCKHEAP_BAD_SHAPE);
     check("a struct that is all 0 is refused",
           bh_init(&none) == BLOCKHEAP_BAD_SHAPE && bh_survey(&none, NULL, NULL, NULL) == BLOCKHEAP_BAD_SHAPE);
+}
+
+static void check_fields(void)
+{
+    static uint8_t pool[192], table[BLOCKHEAP_TABLE_BYTES(sizeof pool)];
+    struct blockheap named;
+    memset(&named, 0, sizeof named);
+    named.base = BASE;
+    named.pool = pool;
+    named.pool_len = sizeof pool;
+    named.table = table;
+    named.table_len = sizeof table;
+    check("a struct may leave t to the pool's length", bh_t(&named) == 3 && !bh_init(&named));
+    named.t = 3;
+    check("or have it", bh_t(&named) == 3 && !bh_init(&named));
+    named.t = 4;
+    check("another t is refused", bh_t(&named) == 4 && bh_init(&named) == BLOCKHEAP_BAD_SHAPE);
 }
 
 static void check_numbers(void)
@@ -76,12 +109,22 @@ static void check_highest_heap(void)
     check("nil is no block's on any base", bh_block(&highest, 0) == BH_NO_BLOCK);
 }
 
-static bool entries_are(const char *letters)
+static bool entries_are(const struct blockheap *in, const char *letters)
 {
     bool same = true;
     for (uint32_t block = 0; letters[block]; block++)
-        same = same && letters[block] == ".h="[bh_entry(&heap, block)];
+        same = same && letters[block] == ".h=m"[bh_entry(in, block)];
     return same;
+}
+
+/* t is odd: the upper half of each plane's last byte is of no block. */
+static void check_entries(void)
+{
+    static uint8_t pool[192], table[] = {0x13, 0x0a, 0xec, 0xf6}, odd_table[] = {0xff, 0xff, 0xff};
+    static const struct blockheap odd = BH_OVER(BASE, pool, table), short_table = BH_OVER(BASE, pool, odd_table);
+    check("entries are read from both planes", entries_are(&odd, "hh==h===.m=h"));
+    check("spare bits are of no block", entries_are(&odd, "hh==h===.m=h....") && !bh_entry(&odd, BH_NO_BLOCK));
+    check("nothing is read behind a table that is too short", entries_are(&short_table, "mmmmmmmm...."));
 }
 
 static void check_objects(void)
@@ -92,7 +135,7 @@ static void check_objects(void)
     check("answers that are not wanted are left out", !bh_init(&heap) && !bh_allocate(&heap, 80, &first, NULL)
                                                           && !bh_allocate(&heap, 17, &second, &change));
     check("the others come out", first == 0 && second == 5 && change == 2);
-    check("entries are read, also where no block is", entries_are("h====h=..."));
+    check("entries are read, also where no block is", entries_are(&heap, "h====h=..."));
     check("objects are measured",
           bh_object_bytes(&heap, first) == 80 && bh_object_bytes(&heap, second) == 32);
     check("tails and free blocks have no bytes", !bh_object_bytes(&heap, 2) && !bh_object_bytes(&heap, 7));
@@ -144,9 +187,12 @@ static void check_version(void)
 
 int main(void)
 {
+    check_lengths();
     check_makers();
+    check_fields();
     check_numbers();
     check_highest_heap();
+    check_entries();
     check_objects();
     check_lists();
     check_refusals();

@@ -6,8 +6,9 @@
 
 extern __typeof__(blockheap_init) __real_blockheap_init, __wrap_blockheap_init;
 
-uint32_t __wrap_blockheap_init(uint64_t base, const uint8_t *pool, size_t pool_len, uint8_t *table, size_t table_len)
+uint32_t __wrap_blockheap_init(uint64_t base, uint64_t t, const uint8_t *pool, size_t pool_len,
+                               uint8_t *table, size_t table_len)
 {
     (void)*(const volatile uint8_t *)&STRAY;
-    return __real_blockheap_init(base, pool, pool_len, table, table_len);
+    return __real_blockheap_init(base, t, pool, pool_len, table, table_len);
 }
