@@ -6,7 +6,8 @@
  *   WORK BLOCKS NANOSECONDS CHECKSUM
  *
  * where the time is that of one turn, and the checksum is made of the answers of a fixed number of turns.
- * With --legend it says what each kind of work does.
+ * With --legend it says what each kind of work does. Tables are made by calls alone: what their bytes are is
+ * left to the implementation.
  */
 #include <stdio.h>
 #include <stdlib.h>
@@ -23,12 +24,14 @@ static uint8_t pool[BLOCKHEAP_MAX_POOL_BYTES];
 static uint8_t table[BLOCKHEAP_MAX_TABLE_BYTES], prepared_table[BLOCKHEAP_MAX_TABLE_BYTES];
 static uint8_t roots[GRAPH_ROOTS * BLOCKHEAP_WORD_BYTES];
 static uint8_t stack[BLOCKHEAP_MAX_STACK_ENTRIES * BLOCKHEAP_WORD_BYTES];
-static size_t table_bytes, blocks, roots_len;
+static uint64_t t;
+static size_t blocks, roots_len;
 
 static uint32_t live[MAX_LIVE];
 static size_t live_count;
 
-#define HEAP BASE, pool, BLOCKHEAP_POOL_BYTES(table_bytes), table, table_bytes
+#define TABLE_BYTES BLOCKHEAP_TABLE_BYTES_OF_T(t)
+#define HEAP BASE, t, pool, BLOCKHEAP_POOL_BYTES(t), table, TABLE_BYTES
 
 static uint32_t checksum;
 
@@ -95,15 +98,23 @@ static void fill(void)
         must(blockheap_allocate(HEAP, 1 + random_below(48), &live[at], &change));
 }
 
-/* An object in each block but for one hole in every 32 blocks, longer by a block each time as long as there is
- * room for it: of many patterns tried, the one whose survey takes the library longest. */
-static void fill_with_rising_holes(void)
+/* One object in every block, leading nowhere, and no roots. */
+static void only_heads(void)
 {
     uint32_t object;
     int32_t change;
     must(blockheap_init(HEAP));
     for (size_t block = 0; block < blocks; block++)
         must(blockheap_allocate(HEAP, 1, &object, &change));
+    roots_len = 0;
+}
+
+/* An object in each block but for one hole in every 32 blocks, longer by a block each time as long as there is
+ * room for it: of many patterns tried, the one whose survey takes the library longest. */
+static void fill_with_rising_holes(void)
+{
+    int32_t change;
+    only_heads();
     for (size_t block = 0; block < blocks; block++) {
         size_t place = block % 32, hole = 1 + block / 32;
         if (place >= 1 && place <= hole && place <= 30)
@@ -143,14 +154,6 @@ static void survey(void)
     add(used);
     add(objects);
     add(longest);
-}
-
-/* One object in every block, leading nowhere, and no roots. */
-static void only_heads(void)
-{
-    memset(table, 0x55, table_bytes);
-    memset(pool, 0, sizeof pool);
-    roots_len = 0;
 }
 
 static void chain(void)
@@ -283,7 +286,7 @@ static void collect(void)
 {
     uint32_t kept, rescans;
     int32_t change;
-    memcpy(table, prepared_table, table_bytes);
+    memcpy(table, prepared_table, TABLE_BYTES);
     must(blockheap_collect(HEAP, roots, roots_len, stack, sizeof stack, &kept, &rescans, &change));
     add(kept);
     add(rescans);
@@ -349,14 +352,14 @@ static double best_time(const struct work *work)
     return best / (double)turns;
 }
 
-static void run(const struct work *work, size_t size)
+static void run(const struct work *work, uint64_t size)
 {
-    table_bytes = size;
-    blocks = BLOCKHEAP_BLOCKS_PER_TABLE_BYTE * size;
+    t = size;
+    blocks = BLOCKHEAP_POOL_BYTES(t) / BLOCKHEAP_BLOCK_BYTES;
     random_state = 2018;
     checksum = 0;
     work->prepare();
-    memcpy(prepared_table, table, table_bytes);
+    memcpy(prepared_table, table, TABLE_BYTES);
     for (int turn = 0; turn < CHECKED_TURNS; turn++)
         work->turn();
     uint32_t checked = checksum;
@@ -372,7 +375,7 @@ static void print_legend(void)
 
 static void run_all(void)
 {
-    static const size_t sizes[] = {8, BLOCKHEAP_MAX_TABLE_BYTES};
+    static const uint64_t sizes[] = {8, BLOCKHEAP_MAX_T};
     for (size_t at = 0; at < WORKS; at++)
         for (size_t size = 0; size < sizeof sizes / sizeof sizes[0]; size++)
             run(&works[at], sizes[size]);

@@ -1,6 +1,7 @@
 /*
  * A plain checked port of the heap's rules by hand: what a C programmer would write in the place of the
- * library. The benchmark runs it beside the library.
+ * library. The benchmark runs it beside the library, and looks into no table: the port keeps the two bits of
+ * a block together, four blocks to a byte, in the first t bytes, as MicroPython does.
  */
 #include <stdbool.h>
 #include <string.h>
@@ -24,22 +25,24 @@ static void set_entries(uint8_t *table, size_t from, size_t to, unsigned entry)
         set_entry(table, block, entry);
 }
 
-static uint32_t check_shape(uint64_t base, size_t pool_len, size_t table_len)
+static uint32_t check_shape(uint64_t base, uint64_t t, size_t pool_len, size_t table_len)
 {
-    if (table_len < 1 || table_len > BLOCKHEAP_MAX_TABLE_BYTES || pool_len != BLOCKHEAP_POOL_BYTES(table_len))
+    if (t < 1 || t > BLOCKHEAP_MAX_T)
+        return BLOCKHEAP_BAD_SHAPE;
+    if (pool_len != BLOCKHEAP_POOL_BYTES(t) || table_len != BLOCKHEAP_TABLE_BYTES_OF_T(t))
         return BLOCKHEAP_BAD_SHAPE;
     if (base < BLOCKHEAP_MIN_BASE || base % BLOCKHEAP_BLOCK_BYTES != 0 || base > 0x100000000 - pool_len)
         return BLOCKHEAP_BAD_SHAPE;
     return BLOCKHEAP_OK;
 }
 
-static uint32_t check_heap(uint64_t base, size_t pool_len, const uint8_t *table, size_t table_len)
+static uint32_t check_heap(uint64_t base, uint64_t t, size_t pool_len, const uint8_t *table, size_t table_len)
 {
-    uint32_t refusal = check_shape(base, pool_len, table_len);
+    uint32_t refusal = check_shape(base, t, pool_len, table_len);
     if (refusal)
         return refusal;
     unsigned before = BLOCKHEAP_FREE;
-    for (size_t block = 0; block < 4 * table_len; block++) {
+    for (size_t block = 0; block < 4 * t; block++) {
         unsigned entry = entry_at(table, block);
         if (entry == BLOCKHEAP_MARK || (entry == BLOCKHEAP_TAIL && before == BLOCKHEAP_FREE))
             return BLOCKHEAP_BAD_TABLE;
@@ -120,28 +123,29 @@ static void set_word(uint8_t *bytes, uint32_t value)
         bytes[at] = (uint8_t)(value >> 8 * at);
 }
 
-uint32_t blockheap_init(uint64_t base, const uint8_t *pool, size_t pool_len, uint8_t *table, size_t table_len)
+uint32_t blockheap_init(uint64_t base, uint64_t t, const uint8_t *pool, size_t pool_len, uint8_t *table,
+                        size_t table_len)
 {
     (void)pool;
-    uint32_t refusal = check_shape(base, pool_len, table_len);
+    uint32_t refusal = check_shape(base, t, pool_len, table_len);
     if (!refusal)
         memset(table, 0, table_len);
     return refusal;
 }
 
-uint32_t blockheap_allocate(uint64_t base, uint8_t *pool, size_t pool_len, uint8_t *table, size_t table_len,
-                            uint64_t bytes, uint32_t *block, int32_t *change)
+uint32_t blockheap_allocate(uint64_t base, uint64_t t, uint8_t *pool, size_t pool_len, uint8_t *table,
+                            size_t table_len, uint64_t bytes, uint32_t *block, int32_t *change)
 {
     *block = 0;
     *change = 0;
-    uint32_t refusal = check_heap(base, pool_len, table, table_len);
+    uint32_t refusal = check_heap(base, t, pool_len, table, table_len);
     if (refusal)
         return refusal;
     if (bytes == 0)
         return BLOCKHEAP_ZERO_BYTES;
     uint64_t wanted = blocks_for(bytes);
     size_t start;
-    if (!find_run(table, 4 * table_len, wanted, &start))
+    if (!find_run(table, 4 * t, wanted, &start))
         return BLOCKHEAP_NO_ROOM;
     place(table, start, wanted);
     clear(pool, start, start + wanted);
@@ -150,33 +154,34 @@ uint32_t blockheap_allocate(uint64_t base, uint8_t *pool, size_t pool_len, uint8
     return BLOCKHEAP_OK;
 }
 
-uint32_t blockheap_free(uint64_t base, const uint8_t *pool, size_t pool_len, uint8_t *table, size_t table_len,
-                        uint64_t block, int32_t *change)
+uint32_t blockheap_free(uint64_t base, uint64_t t, const uint8_t *pool, size_t pool_len, uint8_t *table,
+                        size_t table_len, uint64_t block, int32_t *change)
 {
     (void)pool;
     *change = 0;
-    uint32_t refusal = check_heap(base, pool_len, table, table_len);
+    uint32_t refusal = check_heap(base, t, pool_len, table, table_len);
     if (!refusal)
-        refusal = check_head(table, 4 * table_len, block);
+        refusal = check_head(table, 4 * t, block);
     if (refusal)
         return refusal;
-    size_t end = object_end(table, 4 * table_len, block);
+    size_t end = object_end(table, 4 * t, block);
     set_entries(table, block, end, BLOCKHEAP_FREE);
     *change = (int32_t)block - (int32_t)end;
     return BLOCKHEAP_OK;
 }
 
-uint32_t blockheap_reallocate(uint64_t base, uint8_t *pool, size_t pool_len, uint8_t *table, size_t table_len,
-                              uint64_t block, uint64_t bytes, uint32_t *new_block, int32_t *change)
+uint32_t blockheap_reallocate(uint64_t base, uint64_t t, uint8_t *pool, size_t pool_len, uint8_t *table,
+                              size_t table_len, uint64_t block, uint64_t bytes, uint32_t *new_block,
+                              int32_t *change)
 {
     *new_block = 0;
     *change = 0;
-    uint32_t refusal = check_heap(base, pool_len, table, table_len);
+    uint32_t refusal = check_heap(base, t, pool_len, table, table_len);
     if (refusal)
         return refusal;
     if (bytes == 0)
         return BLOCKHEAP_ZERO_BYTES;
-    size_t blocks = 4 * table_len;
+    size_t blocks = 4 * t;
     refusal = check_head(table, blocks, block);
     if (refusal)
         return refusal;
@@ -286,22 +291,22 @@ static void sweep(uint8_t *table, size_t blocks, uint32_t *kept, int32_t *change
     }
 }
 
-uint32_t blockheap_collect(uint64_t base, const uint8_t *pool, size_t pool_len, uint8_t *table, size_t table_len,
-                           const uint8_t *roots, size_t roots_len, uint8_t *stack, size_t stack_len,
-                           uint32_t *kept, uint32_t *rescans, int32_t *change)
+uint32_t blockheap_collect(uint64_t base, uint64_t t, const uint8_t *pool, size_t pool_len, uint8_t *table,
+                           size_t table_len, const uint8_t *roots, size_t roots_len, uint8_t *stack,
+                           size_t stack_len, uint32_t *kept, uint32_t *rescans, int32_t *change)
 {
     *kept = *rescans = 0;
     *change = 0;
     if (roots_len % BLOCKHEAP_WORD_BYTES != 0 || stack_len % BLOCKHEAP_WORD_BYTES != 0)
         return BLOCKHEAP_BAD_SHAPE;
-    uint32_t refusal = check_heap(base, pool_len, table, table_len);
+    uint32_t refusal = check_heap(base, t, pool_len, table, table_len);
     if (refusal)
         return refusal;
     if (roots_len / BLOCKHEAP_WORD_BYTES > BLOCKHEAP_MAX_ROOTS)
         return BLOCKHEAP_TOO_MANY_ROOTS;
     if (stack_len / BLOCKHEAP_WORD_BYTES > BLOCKHEAP_MAX_STACK_ENTRIES)
         return BLOCKHEAP_STACK_TOO_LONG;
-    marking m = {base, pool, table, 4 * table_len, stack, stack_len / BLOCKHEAP_WORD_BYTES, 0, false};
+    marking m = {base, pool, table, 4 * t, stack, stack_len / BLOCKHEAP_WORD_BYTES, 0, false};
     for (size_t at = 0; at < roots_len; at += BLOCKHEAP_WORD_BYTES) {
         uint32_t root;
         if (mark_target(&m, word_at(roots + at), &root))
@@ -314,16 +319,17 @@ uint32_t blockheap_collect(uint64_t base, const uint8_t *pool, size_t pool_len, 
     return BLOCKHEAP_OK;
 }
 
-uint32_t blockheap_survey(uint64_t base, const uint8_t *pool, size_t pool_len, const uint8_t *table,
-                          size_t table_len, uint32_t *used, uint32_t *objects, uint32_t *longest)
+uint32_t blockheap_survey(uint64_t base, uint64_t t, const uint8_t *pool, size_t pool_len,
+                          const uint8_t *table, size_t table_len, uint32_t *used, uint32_t *objects,
+                          uint32_t *longest)
 {
     (void)pool;
     *used = *objects = *longest = 0;
-    uint32_t refusal = check_heap(base, pool_len, table, table_len);
+    uint32_t refusal = check_heap(base, t, pool_len, table, table_len);
     if (refusal)
         return refusal;
     uint32_t run = 0;
-    for (size_t block = 0; block < 4 * table_len; block++) {
+    for (size_t block = 0; block < 4 * t; block++) {
         unsigned entry = entry_at(table, block);
         *used += entry != BLOCKHEAP_FREE;
         *objects += entry == BLOCKHEAP_HEAD;
@@ -334,15 +340,15 @@ uint32_t blockheap_survey(uint64_t base, const uint8_t *pool, size_t pool_len, c
     return BLOCKHEAP_OK;
 }
 
-static uint32_t check_word(uint64_t base, size_t pool_len, const uint8_t *table, size_t table_len,
+static uint32_t check_word(uint64_t base, uint64_t t, size_t pool_len, const uint8_t *table, size_t table_len,
                            uint64_t block, uint64_t word)
 {
-    uint32_t refusal = check_heap(base, pool_len, table, table_len);
+    uint32_t refusal = check_heap(base, t, pool_len, table, table_len);
     if (!refusal)
-        refusal = check_head(table, 4 * table_len, block);
+        refusal = check_head(table, 4 * t, block);
     if (refusal)
         return refusal;
-    size_t words = BLOCKHEAP_WORDS_PER_BLOCK * (object_end(table, 4 * table_len, block) - block);
+    size_t words = BLOCKHEAP_WORDS_PER_BLOCK * (object_end(table, 4 * t, block) - block);
     return word < words ? BLOCKHEAP_OK : BLOCKHEAP_NO_SUCH_WORD;
 }
 
@@ -351,18 +357,18 @@ static size_t word_offset(uint64_t block, uint64_t word)
     return BLOCKHEAP_BLOCK_BYTES * block + BLOCKHEAP_WORD_BYTES * word;
 }
 
-uint32_t blockheap_load(uint64_t base, const uint8_t *pool, size_t pool_len, const uint8_t *table,
+uint32_t blockheap_load(uint64_t base, uint64_t t, const uint8_t *pool, size_t pool_len, const uint8_t *table,
                         size_t table_len, uint64_t block, uint64_t word, uint32_t *value)
 {
-    uint32_t refusal = check_word(base, pool_len, table, table_len, block, word);
+    uint32_t refusal = check_word(base, t, pool_len, table, table_len, block, word);
     *value = refusal ? 0 : word_at(pool + word_offset(block, word));
     return refusal;
 }
 
-uint32_t blockheap_store(uint64_t base, uint8_t *pool, size_t pool_len, const uint8_t *table, size_t table_len,
-                         uint64_t block, uint64_t word, uint32_t value)
+uint32_t blockheap_store(uint64_t base, uint64_t t, uint8_t *pool, size_t pool_len, const uint8_t *table,
+                         size_t table_len, uint64_t block, uint64_t word, uint32_t value)
 {
-    uint32_t refusal = check_word(base, pool_len, table, table_len, block, word);
+    uint32_t refusal = check_word(base, t, pool_len, table, table_len, block, word);
     if (!refusal)
         set_word(pool + word_offset(block, word), value);
     return refusal;
