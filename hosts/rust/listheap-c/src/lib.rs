@@ -31,12 +31,12 @@ macro_rules! export {
         /// As `include/blockheap.h` asks.
         #[no_mangle]
         pub unsafe extern "C" fn $name(
-            base: u64, pool: *mut u8, pool_len: usize, table: *mut u8, table_len: usize,
+            base: u64, t: u64, pool: *mut u8, pool_len: usize, table: *mut u8, table_len: usize,
             $($argument: $type,)* $($place: *mut u32,)*
         ) -> u32 {
             let pool = from_raw_parts_mut(pool, pool_len);
             let table = from_raw_parts_mut(table, table_len);
-            let $lent = Lent { base, pool, table };
+            let $lent = Lent { base, t, pool, table };
             answer($call, [$($place),*])
         }
     };

@@ -4,16 +4,20 @@ use crate::heap::{BLOCK_BYTES, WORDS_PER_BLOCK};
 use crate::{Collected, ListHeap, Object, Refusal};
 
 const WORD_BYTES: usize = 4;
-const ENTRIES_PER_BYTE: u64 = 4;
+const BLOCKS_PER_T: u64 = 4;
 const ADDRESSES: u64 = 1 << 32;
 
 const FREE: u8 = 0;
 const HEAD: u8 = 1;
 const TAIL: u8 = 2;
 
+/// What the bits of a byte of a plane count, lowest first.
+const WEIGHTS: [u8; 8] = [1, 2, 4, 8, 16, 32, 64, 128];
+
 /// A heap in lent bytes.
 pub struct Lent<'m> {
     pub base: u64,
+    pub t: u64,
     pub pool: &'m mut [u8],
     pub table: &'m mut [u8],
 }
@@ -49,12 +53,12 @@ impl Lent<'_> {
     }
 
     fn check_shape(&self) -> Result<(), Refusal> {
-        let table_fits = (1..=1024).contains(&self.table.len());
-        let pool_fits = self.pool.len() == 64 * self.table.len();
-        let end = self.base.checked_add(self.pool.len() as u64);
-        let end_fits = end.is_some_and(|end| end <= ADDRESSES);
+        let [pool, table] = [&self.pool, &self.table].map(|bytes| bytes.len() as u64);
+        let t_fits = (1..=1024).contains(&self.t);
+        let lengths_fit = t_fits && pool == 64 * self.t && table == 2 * self.t.div_ceil(2);
+        let end_fits = self.base.checked_add(pool).is_some_and(|end| end <= ADDRESSES);
         let base_fits = self.base >= 16 && self.base % 16 == 0 && end_fits;
-        if table_fits && pool_fits && base_fits {
+        if lengths_fit && base_fits {
             Ok(())
         } else {
             Err(Refusal::Shape)
@@ -62,10 +66,11 @@ impl Lent<'_> {
     }
 
     fn decode(&self) -> Result<ListHeap, Refusal> {
-        let mut heap = ListHeap::empty(self.base, ENTRIES_PER_BYTE * self.table.len() as u64);
-        for block in 0..heap.blocks {
-            match entry(self.table, block) {
+        let mut heap = ListHeap::empty(self.base, BLOCKS_PER_T * self.t);
+        for (block, entry) in (0..).zip(entries(self.table)) {
+            match entry {
                 FREE => {}
+                _ if block >= heap.blocks => return Err(Refusal::Table),
                 HEAD => heap.objects.push(Object { start: block, blocks: 1, words: Vec::new() }),
                 TAIL => match heap.objects.last_mut() {
                     Some(object) if object.end() == block => object.blocks += 1,
@@ -101,32 +106,37 @@ pub fn words_of(bytes: &[u8]) -> Vec<u32> {
         .collect()
 }
 
+/// The entries that a table's planes spell, the spare ones behind those of the blocks.
+fn entries(table: &[u8]) -> impl Iterator<Item = u8> + '_ {
+    let (low, high) = table.split_at(table.len() / 2);
+    bits(low).zip(bits(high)).map(|(low, high)| low + 2 * high)
+}
+
+/// The bits of a plane, lowest first.
+fn bits(plane: &[u8]) -> impl Iterator<Item = u8> + '_ {
+    plane.iter().flat_map(|byte| WEIGHTS.map(|weight| byte / weight % 2))
+}
+
+/// Writes every byte of both planes anew. Spare bits become 0.
 fn encode_table(objects: &[Object], table: &mut [u8]) {
-    table.fill(0);
+    let mut entries = vec![FREE; 4 * table.len()];
     for object in objects {
-        add_entry(table, object.start, HEAD);
-        for block in object.start + 1..object.end() {
-            add_entry(table, block, TAIL);
-        }
+        entries[object.start as usize..object.end() as usize].fill(TAIL);
+        entries[object.start as usize] = HEAD;
+    }
+    let (low, high) = table.split_at_mut(table.len() / 2);
+    write_plane(low, entries.iter().map(|entry| entry % 2));
+    write_plane(high, entries.iter().map(|entry| entry / 2));
+}
+
+fn write_plane(plane: &mut [u8], mut bits: impl Iterator<Item = u8>) {
+    for byte in plane {
+        *byte = WEIGHTS.iter().zip(&mut bits).map(|(weight, bit)| weight * bit).sum();
     }
 }
 
 fn bytes_of(object: &Object) -> std::ops::Range<usize> {
     (BLOCK_BYTES * object.start) as usize..(BLOCK_BYTES * object.end()) as usize
-}
-
-/// The weight of the block's entry in its table byte: 1, 4, 16 or 64.
-fn weight(block: u64) -> u8 {
-    4u8.pow((block % ENTRIES_PER_BYTE) as u32)
-}
-
-fn entry(table: &[u8], block: u64) -> u8 {
-    table[(block / ENTRIES_PER_BYTE) as usize] / weight(block) % 4
-}
-
-/// Sets an entry that is still 0.
-fn add_entry(table: &mut [u8], block: u64, entry: u8) {
-    table[(block / ENTRIES_PER_BYTE) as usize] += entry * weight(block);
 }
 
 #[cfg(test)]
@@ -140,12 +150,26 @@ mod tests {
 
     #[test]
     fn a_table_and_its_list_are_the_same_heap() {
-        let (mut pool, mut table) = ([7; 128], [165, 169]);
-        let lent = Lent { base: 4096, pool: &mut pool, table: &mut table };
+        let (mut pool, mut table) = ([7; 192], [0x13, 0x01, 0xEC, 0x0E]);
+        let lent = Lent { base: 4096, t: 3, pool: &mut pool, table: &mut table };
         let spans = lent.on_list(|heap| {
             Ok(heap.objects.iter().map(|o| (o.start, o.blocks)).collect::<Vec<_>>())
         });
-        assert_eq!(spans, Ok(vec![(0, 1), (1, 3), (4, 4)]));
-        assert_eq!((pool, table), ([7; 128], [165, 169]));
+        assert_eq!(spans, Ok(vec![(0, 1), (1, 3), (4, 4), (8, 4)]));
+        assert_eq!((pool, table), ([7; 192], [0x13, 0x01, 0xEC, 0x0E]));
+    }
+
+    #[test]
+    fn spare_bits_are_refused_and_cleared_by_an_init() {
+        for (byte, bit) in [(0, 4), (0, 7), (1, 5), (1, 6)] {
+            let mut table = [0; 2];
+            table[byte] = 1 << bit;
+            let before = table;
+            let lent = Lent { base: 4096, t: 1, pool: &mut [0; 64], table: &mut table };
+            assert_eq!(lent.on_list(|heap| heap.allocate(1)), Err(Refusal::Table));
+            assert_eq!(table, before);
+            let lent = Lent { base: 4096, t: 1, pool: &mut [0; 64], table: &mut table };
+            assert_eq!((lent.init(), table), (Ok(()), [0; 2]));
+        }
     }
 }
