@@ -1,7 +1,7 @@
 use blockheap::{Address, MarkEntry, Memory, Refusal};
 
 fn main() -> Result<(), Refusal> {
-    let mut memory = Memory::<16>::new(); // 16 table bytes rule 64 blocks of 16 bytes
+    let mut memory = Memory::<16>::new(); // t is 16: 64 blocks of 16 bytes
     let mut heap = memory.init(Address::from_word(4096))?;
 
     let buffer = heap.allocate(33)?.block;

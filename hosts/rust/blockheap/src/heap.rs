@@ -15,12 +15,13 @@ impl<'m> Heap<'m> {
     /// Makes every block of the pool free, whatever the table held. The pool is not touched.
     ///
     /// `base` is the address of block 0, a multiple of 16 that is at least 16: on a 32-bit board the
-    /// pool's own, elsewhere any that the program keeps to. The pool is 64 times as long as the table,
-    /// and [`Memory`](crate::Memory) has both.
+    /// pool's own, elsewhere any that the program keeps to. The pool's length gives `t`, the size of the
+    /// heap: it is [`pool_bytes(t)`](crate::pool_bytes), and the table's is
+    /// [`table_bytes(t)`](crate::table_bytes). [`Memory`](crate::Memory) has both.
     ///
     /// ```
-    /// # use blockheap::{Address, Heap, Refusal};
-    /// let (mut pool, mut table) = ([0; 64 * 2], [0; 2]);
+    /// # use blockheap::{pool_bytes, table_bytes, Address, Heap, Refusal};
+    /// let (mut pool, mut table) = ([0; pool_bytes(3)], [0; table_bytes(3)]);
     /// assert!(Heap::init(Address::from_word(4096), &mut pool, &mut table).is_ok());
     /// let odd = Heap::init(Address::from_word(4097), &mut pool, &mut table);
     /// assert_eq!(odd.err(), Some(Refusal::BadShape));
@@ -35,8 +36,8 @@ impl<'m> Heap<'m> {
     }
 
     /// The heap that pool and table already hold, as the last call left it. Nothing is asked of them
-    /// here: what does not fit is refused by each call. Large objects that are not aligned, as older
-    /// versions made them, are valid, and stay where they are until they grow.
+    /// here: what does not fit is refused by each call. Large objects that are not aligned, in a table
+    /// that other programs made, are valid, and stay where they are until they grow.
     pub fn resume(base: Address, pool: &'m mut [u8], table: &'m mut [u8]) -> Self {
         Heap { lent: Lent { base, pool, table } }
     }

@@ -1,9 +1,10 @@
 //! The MicroPython block heap over memory that the caller lends, as a safe Rust interface.
 //!
 //! A pool is cut into blocks of 16 bytes, and a table says of each block whether it is free, the head
-//! of an object or a tail of one. The library keeps nothing of its own: a [`Heap`] holds what is lent,
-//! and every call hands all of it over. Any content may be lent and any number passed: what does not
-//! fit is refused with a [`Refusal`], and then nothing has changed.
+//! of an object or a tail of one, in the two bit planes that `include/blockheap.h` draws. The library
+//! keeps nothing of its own: a [`Heap`] holds what is lent, and every call hands all of it over. Any
+//! content may be lent and any number passed: what does not fit is refused with a [`Refusal`], and then
+//! nothing has changed.
 //!
 //! ```
 #![doc = include_str!("../examples/readme.rs")]

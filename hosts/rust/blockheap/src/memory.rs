@@ -1,20 +1,21 @@
-use crate::{Address, Heap, Refusal, POOL_BYTES_PER_TABLE_BYTE};
+use crate::raw::TableBytes;
+use crate::{pool_bytes, Address, Heap, Refusal};
 
-/// All the memory that a heap of `TABLE_BYTES` table bytes wants, 1 to 1,024: four blocks to a byte.
+/// All the memory that a heap of `4 * T` blocks wants, with `T` from 1 to 1,024.
 ///
 /// Who lends a `Memory` need not change when a heap wants more than a pool and a table. The pool lies at a
 /// multiple of 64, and so do the bytes of large objects.
 #[derive(Clone, Debug)]
 #[repr(C, align(64))]
-pub struct Memory<const TABLE_BYTES: usize> {
-    pool: [[u8; POOL_BYTES_PER_TABLE_BYTE]; TABLE_BYTES],
-    table: [u8; TABLE_BYTES],
+pub struct Memory<const T: usize> {
+    pool: [[u8; pool_bytes(1)]; T],
+    table: TableBytes<T>,
 }
 
-impl<const TABLE_BYTES: usize> Memory<TABLE_BYTES> {
+impl<const T: usize> Memory<T> {
     /// Cleared memory.
     pub const fn new() -> Self {
-        Memory { pool: [[0; POOL_BYTES_PER_TABLE_BYTE]; TABLE_BYTES], table: [0; TABLE_BYTES] }
+        Memory { pool: [[0; pool_bytes(1)]; T], table: TableBytes::ZERO }
     }
 
     /// A heap in this memory, all of its blocks free.
@@ -22,7 +23,7 @@ impl<const TABLE_BYTES: usize> Memory<TABLE_BYTES> {
     /// # Errors
     /// As [`Heap::init`].
     pub fn init(&mut self, base: Address) -> Result<Heap<'_>, Refusal> {
-        Heap::init(base, self.pool.as_flattened_mut(), &mut self.table)
+        Heap::init(base, self.pool.as_flattened_mut(), self.table.as_mut_slice())
     }
 
     /// The heap that this memory holds, as the last call left it.
@@ -38,11 +39,11 @@ impl<const TABLE_BYTES: usize> Memory<TABLE_BYTES> {
     /// # }
     /// ```
     pub fn resume(&mut self, base: Address) -> Heap<'_> {
-        Heap::resume(base, self.pool.as_flattened_mut(), &mut self.table)
+        Heap::resume(base, self.pool.as_flattened_mut(), self.table.as_mut_slice())
     }
 }
 
-impl<const TABLE_BYTES: usize> Default for Memory<TABLE_BYTES> {
+impl<const T: usize> Default for Memory<T> {
     fn default() -> Self {
         Memory::new()
     }

@@ -4,7 +4,7 @@
 //! Each call asks of its caller what the header does under "What the caller ensures".
 
 use crate::refusal::check;
-use crate::{Address, MarkEntry, Refusal, WORD_BYTES};
+use crate::{pool_bytes, table_bytes, Address, MarkEntry, Refusal, WORD_BYTES};
 use core::slice::{from_raw_parts, from_raw_parts_mut};
 
 /// Declares calls: whether each may write pool and table, then its own arguments and answers.
@@ -17,6 +17,7 @@ macro_rules! declare {
                 $(#[$doc])*
                 pub fn $name(
                     base: u64,
+                    t: u64,
                     pool: *$pool u8,
                     pool_len: usize,
                     table: *$table u8,
@@ -55,7 +56,7 @@ declare! {
     blockheap_store(mut pool, const table, block: u64, word: u64, value: u32);
 }
 
-/// What every call is handed.
+/// What every call is handed. The pool's length gives t.
 #[derive(Debug)]
 pub(crate) struct Lent<'m> {
     pub base: Address,
@@ -81,8 +82,9 @@ macro_rules! hand_over {
     ($lent:ident, $call:ident($pool:tt pool, $table:tt table $(, $argument:expr)*)) => {{
         let base = $lent.base.word().into();
         let (pool_len, table_len) = ($lent.pool.len(), $lent.table.len());
+        let t = (pool_len / pool_bytes(1)) as u64;
         let (pool, table) = (pointer!($pool $lent.pool), pointer!($table $lent.table));
-        check(unsafe { $call(base, pool, pool_len, table, table_len $(, $argument)*) })
+        check(unsafe { $call(base, t, pool, pool_len, table, table_len $(, $argument)*) })
     }};
 }
 
@@ -144,6 +146,25 @@ impl Lent<'_> {
 
     pub fn store(&mut self, block: u64, word: u64, value: u32) -> Result<(), Refusal> {
         hand_over!(self, blockheap_store(mut pool, const table, block, word, value))
+    }
+}
+
+/// `T` bytes and one more, for the table of a heap of this `T`, odd or even.
+#[derive(Clone, Debug)]
+#[repr(C)]
+pub(crate) struct TableBytes<const T: usize> {
+    bytes: [u8; T],
+    one_more: u8,
+}
+
+impl<const T: usize> TableBytes<T> {
+    pub const ZERO: Self = TableBytes { bytes: [0; T], one_more: 0 };
+
+    /// The table.
+    pub fn as_mut_slice(&mut self) -> &mut [u8] {
+        let first = (self as *mut Self).cast();
+        // The struct is T + 1 bytes without a gap, and a table has no more.
+        unsafe { from_raw_parts_mut(first, table_bytes(T)) }
     }
 }
 

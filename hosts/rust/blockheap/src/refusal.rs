@@ -8,7 +8,7 @@ pub enum Refusal {
     /// The lengths of pool and table or the base do not fit, or a number of bytes is not divisible by
     /// four.
     BadShape = 1,
-    /// The table has a mark, a tail at block 0 or a tail after a free block.
+    /// The table has a mark, a tail at block 0 or after a free block, or a spare bit that is 1.
     BadTable = 2,
     /// There are more than 4,096 roots.
     TooManyRoots = 3,
@@ -48,12 +48,12 @@ impl Refusal {
     fn reason(self) -> &'static str {
         match self {
             Refusal::BadShape => {
-                "the table must have 1 to 1,024 bytes, the pool exactly 64 times as many, the base \
-                 must be a multiple of 16, at least 16, with the pool's end at most 4,294,967,296, \
-                 and roots and mark stack must have four bytes to an entry"
+                "the pool must have 64 * t bytes, with t from 1 to 1,024, the table t bytes, rounded up \
+                 to an even number, the base must be a multiple of 16, at least 16, with the pool's \
+                 end at most 4,294,967,296, and roots and mark stack must have four bytes to an entry"
             }
             Refusal::BadTable => {
-                "the table has a mark, a tail at block 0 or a tail after a free block"
+                "the table has a mark, a tail at block 0 or after a free block, or a spare bit that is 1"
             }
             Refusal::TooManyRoots => "there are more than 4,096 root words",
             Refusal::StackTooLong => "the mark stack has more than 64 entries",

@@ -8,21 +8,40 @@ pub const BLOCK_BYTES: usize = 16;
 pub const WORD_BYTES: usize = 4;
 /// The words of a block.
 pub const WORDS_PER_BLOCK: usize = BLOCK_BYTES / WORD_BYTES;
-/// The blocks that one byte of the table rules.
-pub const BLOCKS_PER_TABLE_BYTE: usize = 4;
-/// The bytes of pool that one byte of the table rules.
-pub const POOL_BYTES_PER_TABLE_BYTE: usize = BLOCKS_PER_TABLE_BYTE * BLOCK_BYTES;
+/// The blocks that one byte of each plane of the table has a bit for.
+pub const BLOCKS_PER_PLANE_BYTE: usize = 8;
 /// An object of so many blocks or more is large: a new one begins at a block number divisible by 4.
 pub const LARGE_BLOCKS: usize = 4;
-/// The most bytes that a table may have.
-pub const MAX_TABLE_BYTES: usize = 1024;
+/// The largest `t`, the size of a heap: it has four times as many blocks.
+pub const MAX_T: usize = 1024;
 /// The most blocks that a pool may have.
-pub const MAX_BLOCKS: usize = MAX_TABLE_BYTES * BLOCKS_PER_TABLE_BYTE;
+pub const MAX_BLOCKS: usize = 4 * MAX_T;
 /// The most bytes that a pool may have.
-pub const MAX_POOL_BYTES: usize = MAX_TABLE_BYTES * POOL_BYTES_PER_TABLE_BYTE;
+pub const MAX_POOL_BYTES: usize = pool_bytes(MAX_T);
+/// The most bytes that a table may have.
+pub const MAX_TABLE_BYTES: usize = table_bytes(MAX_T);
 /// The lowest base.
 pub const MIN_BASE: Address = Address::from_word(16);
 /// The most roots that a collection takes.
 pub const MAX_ROOTS: usize = 4096;
 /// The most entries that a mark stack may have.
 pub const MAX_STACK_ENTRIES: usize = 64;
+
+/// The bytes of pool of a heap of this `t`.
+///
+/// ```
+/// assert_eq!(blockheap::pool_bytes(3), 192);
+/// ```
+pub const fn pool_bytes(t: usize) -> usize {
+    64 * t
+}
+
+/// The bytes of table of a heap of this `t`: two planes, each with a bit for every block.
+///
+/// ```
+/// # use blockheap::table_bytes;
+/// assert_eq!([1, 2, 3, 4].map(table_bytes), [2, 2, 4, 4]);
+/// ```
+pub const fn table_bytes(t: usize) -> usize {
+    2 * t.div_ceil(2)
+}

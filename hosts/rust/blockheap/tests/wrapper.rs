@@ -1,5 +1,6 @@
 //! The wrapper as a Rust program meets it.
 
+use blockheap::{pool_bytes, table_bytes};
 use blockheap::{Address, Block, Heap, MarkEntry, Memory, Placed, Refusal, Survey};
 
 const BASE: Address = Address::from_word(4096);
@@ -60,7 +61,7 @@ fn an_object_is_all_bytes_of_its_blocks() -> Result<(), Refusal> {
 
 #[test]
 fn large_objects_of_a_memory_lie_at_multiples_of_64() -> Result<(), Refusal> {
-    let mut memory = Memory::<4>::new();
+    let mut memory = Memory::<3>::new();
     let mut heap = memory.init(BASE)?;
     heap.allocate(16)?;
     let large = heap.allocate(64)?;
@@ -150,14 +151,44 @@ fn each_refusal_says_what_is_wrong() {
 
 #[test]
 fn heaps_that_do_not_fit_are_refused() {
-    let (mut pool, mut table) = ([0; 64], [0; 1]);
+    let (mut pool, mut table) = ([0; 64], [0; 2]);
     let misplaced = Heap::init(Address::from_word(4097), &mut pool, &mut table);
     assert_eq!(misplaced.err(), Some(Refusal::BadShape));
     let short = Heap::init(BASE, &mut pool[1..], &mut table);
     assert_eq!(short.err(), Some(Refusal::BadShape));
+    let short_table = Heap::init(BASE, &mut pool, &mut table[1..]);
+    assert_eq!(short_table.err(), Some(Refusal::BadShape));
     assert_eq!(Memory::<0>::new().init(BASE).err(), Some(Refusal::BadShape));
     assert_eq!(Memory::<1025>::new().init(BASE).err(), Some(Refusal::BadShape));
-    table = [0xFF];
-    let marked = Heap::resume(BASE, &mut pool, &mut table);
-    assert_eq!(marked.survey(), Err(Refusal::BadTable));
+    for table in [[0x01, 0x01], [0x00, 0x01], [0x11, 0x00], [0x01, 0x80]] {
+        let damaged = Heap::resume(BASE, &mut pool, &mut table.clone()).survey();
+        assert_eq!(damaged, Err(Refusal::BadTable), "{table:?}");
+    }
+}
+
+#[test]
+fn a_table_is_two_planes() -> Result<(), Refusal> {
+    let (mut pool, mut table) = ([0; pool_bytes(3)], [0xEE; table_bytes(3)]);
+    let mut heap = Heap::init(BASE, &mut pool, &mut table)?;
+    for bytes in [16, 48, 64, 64] {
+        heap.allocate(bytes)?;
+    }
+    assert_eq!(table, [0x13, 0x01, 0xEC, 0x0E]);
+    Ok(())
+}
+
+#[test]
+fn a_memory_has_room_for_every_t() -> Result<(), Refusal> {
+    fn fill<const T: usize>() -> Result<(), Refusal> {
+        let mut memory = Memory::<T>::new();
+        let placed = memory.init(BASE)?.allocate(64 * T as u64)?;
+        assert_eq!(parts(placed), (0, 4 * T as i32));
+        assert_eq!(counts(memory.resume(BASE).survey()?), [4 * T as u32, 1, 0]);
+        Ok(())
+    }
+    fill::<1>()?;
+    fill::<2>()?;
+    fill::<3>()?;
+    fill::<1023>()?;
+    fill::<1024>()
 }
