@@ -67,7 +67,7 @@ mod tests {
 
     /// The buffers of which a call may change a byte.
     fn writable(call: Call, refusal: u32) -> Vec<Buffer> {
-        let before = Lent { base: 4096, buffers: Buffer::ALL.map(|_| Guarded::zeroed(1)) };
+        let before = Lent { base: 4096, t: 1, buffers: Buffer::ALL.map(|_| Guarded::zeroed(1)) };
         let reply = Reply::refused(&call, refusal);
         let may_write = |buffer: &Buffer| {
             let mut after = before.clone();

@@ -39,11 +39,21 @@ fn reachable() -> impl Iterator<Item = (&'static str, u32)> {
     calls.flat_map(|call| call.refusals.iter().map(|number| (call.name, *number)))
 }
 
-#[derive(Clone, Default)]
+#[derive(Clone)]
 pub struct Coverage {
     numbers: BTreeMap<(&'static str, u32), u64>,
     situations: [u64; SITUATIONS.len()],
     telling_words: [u64; TELLING_WORDS.len()],
+}
+
+impl Default for Coverage {
+    fn default() -> Coverage {
+        Coverage {
+            numbers: BTreeMap::new(),
+            situations: [0; SITUATIONS.len()],
+            telling_words: [0; TELLING_WORDS.len()],
+        }
+    }
 }
 
 impl Coverage {
@@ -105,7 +115,7 @@ impl Coverage {
             }
         }
         for (name, count) in self.seen() {
-            write!(text, "\n{name:<44}{count:>8}").expect("text can be written");
+            write!(text, "\n{name:<54}{count:>8}").expect("text can be written");
         }
         text
     }
@@ -118,7 +128,7 @@ mod tests {
 
     /// An object in block 0, and one in blocks 4 to 313 of 320.
     fn heap() -> Lent {
-        let mut lent = Lent::new(4096, &[0; 64 * 80], &[0; 80]);
+        let mut lent = Lent::empty(4096, 80);
         for bytes in [1, 16 * 310] {
             assert_eq!(second(&Call::Allocate { bytes }, &mut lent).refusal, 0);
         }

@@ -1,45 +1,17 @@
 //! Random heaps, calls and arguments: mostly sensible, often at a border, sometimes absurd.
 
+use crate::planes::{table_bytes, FREE, HEAD, MARK, MOST, TAIL};
 use crate::Buffer::{Pool, Roots, Stack, Table};
 use crate::{Access, Call, Guarded, Lent, Random};
-
-pub const FREE: u8 = 0;
-pub const HEAD: u8 = 1;
-const TAIL: u8 = 2;
-const MARK: u8 = 3;
 
 /// Far outside of every heap, and equal to small numbers where a number is cut or wrapped.
 const HUGE: [u64; 6] = [1 << 32, 1 << 36, 1 << 60, 1 << 62, 1 << 63, u64::MAX - 31];
 
-pub fn entry(table: &[u8], block: u64) -> u8 {
-    table[block as usize / 4] >> (2 * (block % 4)) & 3
-}
-
-fn set_entry(table: &mut [u8], block: u64, entry: u8) {
-    let shift = 2 * (block % 4);
-    let byte = &mut table[block as usize / 4];
-    *byte = *byte & !(3 << shift) | entry << shift;
-}
-
-fn blocks(lent: &Lent) -> u64 {
-    4 * lent[Table].len() as u64
-}
-
-/// The number of blocks of the object whose head is `block`.
-pub fn object_blocks(table: &[u8], block: u64) -> u64 {
-    let after = (block + 1..4 * table.len() as u64).take_while(|k| entry(table, *k) == TAIL);
-    1 + after.count() as u64
-}
-
-pub fn heads(table: &[u8]) -> Vec<u64> {
-    (0..4 * table.len() as u64).filter(|block| entry(table, *block) == HEAD).collect()
-}
-
 /// The first block at or after a random one that has this entry, or that one if the heap has none.
 fn some_block(random: &mut Random, lent: &Lent, wanted: u8) -> u64 {
-    let (start, blocks) = (random.below(blocks(lent)), blocks(lent));
-    let mut in_turn = (start..blocks).chain(0..start);
-    in_turn.find(|block| entry(&lent[Table], *block) == wanted).unwrap_or(start)
+    let start = random.below(lent.blocks());
+    let mut in_turn = (start..lent.blocks()).chain(0..start);
+    in_turn.find(|block| lent.entry(*block) == wanted).unwrap_or(start)
 }
 
 fn some_head(random: &mut Random, lent: &Lent) -> u64 {
@@ -51,7 +23,7 @@ fn some_part(random: &mut Random, lent: &Lent, head: u64) -> u64 {
     if random.percent(25) {
         head
     } else {
-        head + random.below(object_blocks(&lent[Table], head))
+        head + random.below(lent.object_blocks(head))
     }
 }
 
@@ -84,46 +56,50 @@ const SHAPES: [Shape; 7] = [
     Shape::Tree,
 ];
 
-/// A heap with a well-formed table of so many bytes.
-pub fn heap(random: &mut Random, table_bytes: u64) -> Lent {
-    let table = table(random, table_bytes);
-    let pool = random.bytes(64 * table_bytes as usize);
-    let mut lent = Lent::new(good_base(random, table_bytes), &pool, &table);
+/// A heap of this t whose pool and table hold any bytes, with a base that fits.
+pub fn noise(random: &mut Random, t: u64) -> Lent {
+    let (pool, table) = (random.bytes(64 * t as usize), random.bytes(table_bytes(t)));
+    Lent::new(good_base(random, t), t, &pool, &table)
+}
+
+/// A heap of this t with a well-formed table.
+pub fn heap(random: &mut Random, t: u64) -> Lent {
+    let mut lent = noise(random, t);
+    lay_out(random, &mut lent);
     let shape = random.pick(&SHAPES);
     link(random, &mut lent, shape);
     lent
 }
 
-fn table(random: &mut Random, table_bytes: u64) -> Vec<u8> {
-    let blocks = 4 * table_bytes;
+/// Lays out objects and gaps in a table.
+fn lay_out(random: &mut Random, lent: &mut Lent) {
+    let blocks = lent.blocks();
     let long = blocks.div_ceil(3);
     let styles =
         [(1, 0), (1, 2), (3, 3), (9, 1), (9, 20), (long, 2), (blocks, 0), (blocks, blocks), (0, 0)];
     let (longest_object, longest_gap) = random.pick(&styles);
-    let mut table = vec![0; table_bytes as usize];
+    lent[Table].fill(0);
     if longest_object == 0 {
-        return table;
+        return;
     }
     let mut block = random.below(longest_gap + 1);
     while block < blocks {
         let end = blocks.min(block + random.between(1, longest_object));
-        set_entry(&mut table, block, HEAD);
-        (block + 1..end).for_each(|tail| set_entry(&mut table, tail, TAIL));
+        lent.set_object(block..end);
         block = end + random.below(longest_gap + 1);
     }
-    table
 }
 
 /// A base that fits, often the lowest or the highest.
-pub fn good_base(random: &mut Random, table_bytes: u64) -> u64 {
-    let highest = (1 << 32) - 64 * table_bytes;
+fn good_base(random: &mut Random, t: u64) -> u64 {
+    let highest = (1 << 32) - 64 * t;
     let between = 16 * random.between(1, highest / 16);
     random.pick(&[16, 4096, between, highest])
 }
 
 /// Fills the objects' words with pointers to each other.
 fn link(random: &mut Random, lent: &mut Lent, shape: Shape) {
-    let heads = heads(&lent[Table]);
+    let heads = lent.heads();
     let target = |index: usize| heads.get(index).copied();
     for (index, head) in heads.iter().enumerate() {
         let targets = match shape {
@@ -147,7 +123,7 @@ fn link(random: &mut Random, lent: &mut Lent, shape: Shape) {
 
 /// Gives each word of the block's object a value, so many in a hundred of them pointers or nearly so.
 fn fill(random: &mut Random, lent: &mut Lent, head: u64, percent: u64) {
-    for word in 4 * head..4 * (head + object_blocks(&lent[Table], head)) {
+    for word in 4 * head..4 * (head + lent.object_blocks(head)) {
         let value = if random.percent(percent) { word_value(random, lent) } else { 0 };
         lent.set_word(word as usize, value);
     }
@@ -155,7 +131,7 @@ fn fill(random: &mut Random, lent: &mut Lent, head: u64, percent: u64) {
 
 /// Clears an object and puts addresses of the targets' objects at random places in it.
 fn point(random: &mut Random, lent: &mut Lent, head: u64, targets: [Option<u64>; 2]) {
-    let end = head + object_blocks(&lent[Table], head);
+    let end = head + lent.object_blocks(head);
     lent[Pool][16 * head as usize..16 * end as usize].fill(0);
     let middle = random.between(4 * head + 1, 4 * end - 1);
     let places = [random.between(middle, 4 * end - 1), random.between(4 * head, middle - 1)];
@@ -173,11 +149,11 @@ fn address(lent: &Lent, block: u64) -> u32 {
 
 /// Mostly an address of an object; else one that counts for nothing, or any number.
 pub fn word_value(random: &mut Random, lent: &Lent) -> u32 {
-    let any_block = random.below(blocks(lent));
+    let any_block = random.below(lent.blocks());
     match random.below(16) {
         0 => address(lent, any_block),
         1 => address(lent, any_block) + random.between(1, 15) as u32,
-        2 => address(lent, blocks(lent)),
+        2 => address(lent, lent.blocks()),
         3 => (lent.base as u32).wrapping_sub(16),
         4 => address(lent, any_block).swap_bytes(),
         5 => any_block as u32,
@@ -235,8 +211,8 @@ fn bytes(random: &mut Random, lent: &Lent) -> u64 {
 
 /// Any number of bytes, or from a block less than the object has to four blocks more.
 fn new_bytes(random: &mut Random, lent: &Lent, block: u64) -> u64 {
-    if block < blocks(lent) && random.percent(25) {
-        16 * (object_blocks(&lent[Table], block) - 1) + random.below(16 * 5 + 1)
+    if block < lent.blocks() && random.percent(25) {
+        16 * (lent.object_blocks(block) - 1) + random.below(16 * 5 + 1)
     } else {
         bytes(random, lent)
     }
@@ -244,19 +220,19 @@ fn new_bytes(random: &mut Random, lent: &Lent, block: u64) -> u64 {
 
 fn block(random: &mut Random, lent: &Lent) -> u64 {
     match random.below(16) {
-        0 => random.below(blocks(lent)),
-        1 => blocks(lent) + random.below(2),
+        0 => random.below(lent.blocks()),
+        1 => lent.blocks() + random.below(2),
         2 => random.pick(&HUGE).wrapping_add(some_head(random, lent)),
         _ => some_head(random, lent),
     }
 }
 
 fn word(random: &mut Random, lent: &Lent, block: u64) -> u64 {
-    let words = if block < blocks(lent) { 4 * object_blocks(&lent[Table], block) } else { 4 };
+    let words = if block < lent.blocks() { 4 * lent.object_blocks(block) } else { 4 };
     match random.below(16) {
         0 => words,
         1 => words - 1,
-        2 => random.below(4 * blocks(lent)),
+        2 => random.below(4 * lent.blocks()),
         3 => random.pick(&HUGE) + random.below(4),
         _ => random.below(words),
     }
@@ -291,7 +267,7 @@ pub fn good_roots(random: &mut Random, lent: &Lent) -> Vec<u32> {
 
 /// An address of each of so many objects in a hundred.
 fn addresses(random: &mut Random, lent: &Lent, percent: u64) -> Vec<u32> {
-    let mut heads = heads(&lent[Table]);
+    let mut heads = lent.heads();
     heads.retain(|_| random.percent(percent));
     heads.into_iter().map(|head| address(lent, some_part(random, lent, head))).collect()
 }
@@ -342,27 +318,43 @@ pub fn damage(random: &mut Random, lent: &mut Lent) {
 }
 
 fn damage_once(random: &mut Random, lent: &mut Lent) {
-    match random.below(8) {
+    match random.below(12) {
         0 => lent.base = any_base(random, lent),
-        1 => lent[Pool] = Guarded::new(&random_length(random, &lent[Pool], 65)),
-        2 => lent[Table] = Guarded::new(&random_length(random, &lent[Table], 2)),
-        3 => {
-            let table_bytes = random.pick(&[0, 1025, 1026]);
-            lent[Table] = Guarded::zeroed(table_bytes);
-            lent[Pool] = Guarded::zeroed(64 * table_bytes);
+        1 | 2 => lent.t = any_t(random, lent.t),
+        3 => lent[Pool] = Guarded::new(&random_length(random, &lent[Pool], 65)),
+        4 => lent[Table] = Guarded::new(&random_length(random, &lent[Table], 2)),
+        5 => {
+            lent.t = random.pick(&[0, MOST + 1, MOST + 2]);
+            lent[Pool] = Guarded::zeroed(64 * lent.t as usize);
+            lent[Table] = Guarded::zeroed(table_bytes(lent.t));
         }
-        4 if !lent[Table].is_empty() => {
+        6 if lent.fits() => {
             let table = random.bytes(lent[Table].len());
             lent[Table].copy_from_slice(&table);
         }
-        5 if !lent[Table].is_empty() => set_entry(&mut lent[Table], 0, TAIL),
-        6 | 7 if !lent[Table].is_empty() => {
-            let block = random.below(blocks(lent));
+        7 if lent.fits() => lent.set_entry(0, TAIL),
+        8 | 9 if lent.fits() => {
+            let block = random.below(lent.blocks());
             let wrong = random.pick(&[MARK, TAIL, FREE]);
-            set_entry(&mut lent[Table], block, wrong);
+            lent.set_entry(block, wrong);
         }
+        10 | 11 if lent.spare_bits().next().is_some() => set_spare_bits(random, lent),
         _ => lent.base = lent.base.wrapping_add(1),
     }
+}
+
+/// Sets one of the spare bits, or some.
+fn set_spare_bits(random: &mut Random, lent: &mut Lent) {
+    let all: Vec<_> = lent.spare_bits().collect();
+    let times = random.pick(&[1, 1, 1, 8]);
+    (0..times).for_each(|_| lent.set_spare(random.pick(&all), 1));
+}
+
+/// A t that does not fit the heap's lengths, and may be the right one where it is cut or wrapped.
+pub fn any_t(random: &mut Random, right: u64) -> u64 {
+    let far = right.wrapping_add(random.pick(&[1 << 32, 1 << 58, 1 << 63]));
+    let near = right.wrapping_add(random.pick(&[1, right, u64::MAX]));
+    random.pick(&[far, far, near, near, 0, MOST + 1, (1 << 32) + 1, u64::MAX])
 }
 
 /// A base that may fit or not.

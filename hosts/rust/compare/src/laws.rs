@@ -2,7 +2,8 @@
 //! what one or the other keeps, and a second collection at once changes nothing.
 
 use crate::difference::Difference;
-use crate::Buffer::{self, Stack, Table};
+use crate::planes::{FREE, HEAD};
+use crate::Buffer::{self, Stack};
 use crate::{draw, Call, Guarded, Lent, Random, Reply, Subject};
 use std::ops::RangeInclusive;
 
@@ -33,19 +34,19 @@ pub struct Trial<'t> {
     counts: LawCounts,
 }
 
-/// Tries a law on so many heaps, or says where it is first broken.
+/// Tries a law on so many heaps of these sizes, or says where it is first broken.
 pub fn run_law(
     law: Law,
     subject: Subject,
-    table_bytes: RangeInclusive<u64>,
+    sizes: RangeInclusive<u64>,
     seed: u64,
     heaps: u64,
 ) -> Result<LawCounts, String> {
     let random = &mut Random::new(seed);
     let mut counts = LawCounts::default();
     while counts.heaps < heaps {
-        let bytes = random.between(*table_bytes.start(), *table_bytes.end());
-        let heap = draw::heap(random, bytes);
+        let t = random.between(*sizes.start(), *sizes.end());
+        let heap = draw::heap(random, t);
         let mut trial = Trial { subject, random, heap, counts };
         law(&mut trial).map_err(|fault| trial.place(seed, &fault))?;
         counts = trial.counts;
@@ -56,7 +57,7 @@ pub fn run_law(
 
 /// Of two different objects either may be freed first.
 pub fn frees_commute(trial: &mut Trial) -> Result<(), String> {
-    let heads = draw::heads(&trial.heap[Table]);
+    let heads = trial.heap.heads();
     if heads.len() < 2 {
         return Ok(());
     }
@@ -101,7 +102,7 @@ pub fn roots_join(trial: &mut Trial) -> Result<(), String> {
     trial.counts.telling += u64::from(telling);
     trial.count_stacks([&one, &other]);
     let entries = |block: u64| [&one, &other, &joined].map(|outcome| outcome.entry(block));
-    let mut blocks = 0..4 * trial.heap[Table].len() as u64;
+    let mut blocks = 0..trial.heap.blocks();
     match blocks.find(|block| !is_union(entries(*block))) {
         None => Ok(()),
         Some(block) => {
@@ -163,7 +164,7 @@ struct Outcome {
 
 impl Outcome {
     fn entry(&self, block: u64) -> u8 {
-        draw::entry(&self.lent[Table], block)
+        self.lent.entry(block)
     }
 
     fn kept(&self) -> i64 {
@@ -182,8 +183,8 @@ impl Outcome {
 /// Whether the third entry is what the first two leave together: a head if one of them is, and FREE only
 /// if both are.
 fn is_union([one, other, joined]: [u8; 3]) -> bool {
-    let heads = [one, other].contains(&draw::HEAD) == (joined == draw::HEAD);
-    heads && joined == if one == draw::FREE { other } else { one }
+    let heads = [one, other].contains(&HEAD) == (joined == HEAD);
+    heads && joined == if one == FREE { other } else { one }
 }
 
 fn same_reply(call: &Call, one: &Reply, other: &Reply) -> Result<(), String> {

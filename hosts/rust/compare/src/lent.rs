@@ -27,14 +27,15 @@ impl fmt::Display for Buffer {
 #[derive(Clone, Debug)]
 pub struct Lent {
     pub base: u64,
+    pub t: u64,
     /// In the order of [`Buffer::ALL`].
     pub buffers: [Guarded; Buffer::ALL.len()],
 }
 
 impl Lent {
     /// A heap; roots and mark stack are empty.
-    pub fn new(base: u64, pool: &[u8], table: &[u8]) -> Lent {
-        Lent { base, buffers: [pool, table, &[], &[]].map(Guarded::new) }
+    pub fn new(base: u64, t: u64, pool: &[u8], table: &[u8]) -> Lent {
+        Lent { base, t, buffers: [pool, table, &[], &[]].map(Guarded::new) }
     }
 
     /// Puts words into the root list.
@@ -63,12 +64,13 @@ impl IndexMut<Buffer> for Lent {
     }
 }
 
-/// The numbers that are lent, how long each buffer is, and the first table entries.
+/// The numbers that are lent, how long each buffer is, and the first bytes of the table.
 impl fmt::Display for Lent {
     fn fmt(&self, f: &mut fmt::Formatter) -> fmt::Result {
         let lengths = Buffer::ALL.map(|buffer| format!("{buffer} of {} bytes", self[buffer].len()));
         let table = &self[Buffer::Table];
         let shown = &table[..table.len().min(16)];
-        write!(f, "base {}, {}; table begins {shown:?}", self.base, lengths.join(", "))
+        let Lent { base, t, .. } = self;
+        write!(f, "base {base}, t {t}, {}; table begins {shown:02x?}", lengths.join(", "))
     }
 }

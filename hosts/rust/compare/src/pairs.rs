@@ -2,7 +2,8 @@
 //! collection.
 
 use crate::difference::Difference;
-use crate::Buffer::{self, Pool, Stack, Table};
+use crate::planes::FREE;
+use crate::Buffer::{self, Pool, Stack};
 use crate::{draw, second, Call, Guarded, Lent, Random, Reply, Sizes, Subject};
 
 /// What was run: pairs and calls on each side, how many of these were refused, in how many pool bytes
@@ -26,8 +27,8 @@ pub fn run_pairs(
     let mut random = Random::new(seed);
     let mut counts = PairCounts::default();
     for _ in 0..pairs {
-        let table_bytes = random.between(sizes.least, sizes.most);
-        let mut pair = Pair::draw(&mut random, table_bytes);
+        let t = random.between(sizes.least, sizes.most);
+        let mut pair = Pair::draw(&mut random, t);
         counts.different_bytes += pair.different_bytes();
         pair.call(subject, &Call::Collect, &mut counts)?;
         for _ in 0..sizes.calls_per_heap {
@@ -42,23 +43,24 @@ pub fn run_pairs(
 
 struct Pair {
     base: u64,
+    t: u64,
     sides: [Lent; 2],
 }
 
 impl Pair {
-    /// Two heaps that agree in base, table, roots and all that the roots reach.
-    fn draw(random: &mut Random, table_bytes: u64) -> Pair {
-        let mut heap = draw::heap(random, table_bytes);
+    /// Two heaps that agree in base, t, table, roots and all that the roots reach.
+    fn draw(random: &mut Random, t: u64) -> Pair {
+        let mut heap = draw::heap(random, t);
         let roots = draw::good_roots(random, &heap);
         heap.set_roots(&roots);
         let mut collected = heap.clone();
         second(&Call::Collect, &mut collected);
         let mut sides = [heap.clone(), heap];
         for side in &mut sides {
-            refill_free_blocks(random, side, &collected[Table]);
+            refill_free_blocks(random, side, &collected);
             side[Stack] = Guarded::new(&draw::good_stack(random));
         }
-        Pair { base: sides[0].base, sides }
+        Pair { base: sides[0].base, t, sides }
     }
 
     fn different_bytes(&self) -> u64 {
@@ -66,16 +68,19 @@ impl Pair {
         first[Pool].iter().zip(second[Pool].iter()).filter(|(a, b)| a != b).count() as u64
     }
 
-    /// A call for both sides, now and then on another base: the second takes what the first takes, but
-    /// for the heap, and other bytes where they must not matter.
+    /// A call for both sides, now and then with another base or t: the second takes what the first takes,
+    /// but for the heap, and other bytes where they must not matter.
     fn draw_call(&mut self, random: &mut Random) -> Call {
         let [first, second] = &mut self.sides;
-        first.base = self.base;
+        (first.base, first.t) = (self.base, self.t);
         let call = draw::call(random, first);
         if random.percent(5) {
             first.base = draw::any_base(random, first);
         }
-        second.base = first.base;
+        if random.percent(3) {
+            first.t = draw::any_t(random, self.t);
+        }
+        (second.base, second.t) = (first.base, first.t);
         for buffer in Buffer::ALL.into_iter().filter(|buffer| !Buffer::HEAP.contains(buffer)) {
             if let Some(access) = call.access(buffer) {
                 second[buffer] = draw::other(random, access, &first[buffer]);
@@ -129,10 +134,10 @@ impl Pair {
     }
 }
 
-/// Gives every block that is free in `table` new bytes: noise, nothing or pointers.
-fn refill_free_blocks(random: &mut Random, lent: &mut Lent, table: &[u8]) {
+/// Gives every block that is free once collected new bytes: noise, nothing or pointers.
+fn refill_free_blocks(random: &mut Random, lent: &mut Lent, collected: &Lent) {
     let pointers = random.percent(70);
-    for block in (0..4 * table.len() as u64).filter(|block| draw::entry(table, *block) == 0) {
+    for block in (0..lent.blocks()).filter(|block| collected.entry(*block) == FREE) {
         for word in 4 * block..4 * block + 4 {
             let value =
                 if pointers { draw::word_value(random, lent) } else { random.number() as u32 };
@@ -141,11 +146,11 @@ fn refill_free_blocks(random: &mut Random, lent: &mut Lent, table: &[u8]) {
     }
 }
 
-/// The first different byte of an allocated block.
+/// The first different byte of an allocated block. The t with which the call was made may be a wrong one.
 fn live_difference(first: &Lent, second: &Lent) -> Option<Difference> {
     let bytes = |block: &usize| 16 * block..16 * block + 16;
-    let blocks = 0..4 * first[Table].len();
-    let mut allocated = blocks.filter(|block| draw::entry(&first[Table], *block as u64) != 0);
+    let blocks = 0..first[Pool].len() / 16;
+    let mut allocated = blocks.filter(|block| first.entry(*block as u64) != FREE);
     let differ = |block: &usize| first[Pool][bytes(block)] != second[Pool][bytes(block)];
     let block = allocated.find(differ)?;
     Difference::in_bytes(Pool, bytes(&block), [first, second])

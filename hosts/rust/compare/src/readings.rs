@@ -47,19 +47,19 @@ pub fn near_heads(heap: &ListHeap, word: u32) -> u32 {
     losing(heap, word, |object, block| block - object.start >= 300)
 }
 
-/// No head is found in an earlier byte of the table.
+/// No head is found in an earlier byte of the planes.
 pub fn heads_in_a_byte(heap: &ListHeap, word: u32) -> u32 {
-    losing(heap, word, |object, block| block / 4 > object.start / 4)
+    losing(heap, word, |object, block| block / 8 > object.start / 8)
 }
 
-/// No head is found in an earlier eight bytes of the table.
+/// No head is found in an earlier eight bytes of the planes.
 pub fn heads_in_8_bytes(heap: &ListHeap, word: u32) -> u32 {
-    losing(heap, word, |object, block| block / 32 > object.start / 32)
+    losing(heap, word, |object, block| block / 64 > object.start / 64)
 }
 
-/// No head is found in an earlier 64 bytes of the table.
-pub fn heads_in_64_bytes(heap: &ListHeap, word: u32) -> u32 {
-    losing(heap, word, |object, block| block / 256 > object.start / 256)
+/// No head is found before the eight bytes of the planes that are before the block's own.
+pub fn heads_in_16_bytes(heap: &ListHeap, word: u32) -> u32 {
+    losing(heap, word, |object, block| block / 64 > object.start / 64 + 1)
 }
 
 /// A tail leads to the block before the head.

@@ -1,7 +1,9 @@
 //! Situations that a refusal number does not show.
 
 use crate::aligned::{aligned, free_from, large, lowest_start};
-use crate::{object_blocks, Buffer, Call, Lent, Reply};
+use crate::planes::{table_bytes, SpareBit, MOST};
+use crate::Buffer::{Pool, Table};
+use crate::{second, Call, Lent, Reply};
 
 /// A call that was made: on what, and with what reply.
 pub struct Made<'m> {
@@ -13,7 +15,33 @@ pub struct Made<'m> {
 /// Of which call and with which refusal number, what it is called, and whether a call shows it.
 type Situation = (&'static str, u32, &'static str, fn(&Made) -> bool);
 
-pub const SITUATIONS: [Situation; 25] = [
+/// In the place of a call's name.
+const ANY: &str = "any call";
+
+/// What is said to be alone is the one reason of the refusal.
+pub const SITUATIONS: [Situation; 48] = [
+    (ANY, 0, "t is 1", |made| made.before.t == 1),
+    (ANY, 0, "t is odd", |made| made.before.t % 2 == 1),
+    (ANY, 0, "t is even", |made| made.before.t % 2 == 0),
+    (ANY, 1, "t is 0, and the lengths fit", |made| made.has_lengths_of(0)),
+    (ANY, 1, "t is 1,025, and the lengths fit", |made| made.has_lengths_of(MOST + 1)),
+    (ANY, 1, "t is 2^32 + 1, alone", |made| made.has_t_alone((1 << 32) + 1)),
+    (ANY, 1, "t is 2^64 - 1, alone", |made| made.has_t_alone(u64::MAX)),
+    (ANY, 1, "t is one less, alone", |made| made.has_t_alone(made.t_of_pool().wrapping_sub(1))),
+    (ANY, 1, "t is one more, alone", |made| made.has_t_alone(made.t_of_pool() + 1)),
+    (ANY, 1, "a table a byte short, alone", |made| made.has_table_alone(made.table_wanted() - 1)),
+    (ANY, 1, "a table a byte long, alone", |made| made.has_table_alone(made.table_wanted() + 1)),
+    (ANY, 1, "a table of t bytes, alone", |made| made.has_table_alone(made.before.t as i64)),
+    (ANY, 2, "low plane's spare bit 4, alone", |made| made.has_spare_alone(0, 4)),
+    (ANY, 2, "low plane's spare bit 5, alone", |made| made.has_spare_alone(0, 5)),
+    (ANY, 2, "low plane's spare bit 6, alone", |made| made.has_spare_alone(0, 6)),
+    (ANY, 2, "low plane's spare bit 7, alone", |made| made.has_spare_alone(0, 7)),
+    (ANY, 2, "high plane's spare bit 4, alone", |made| made.has_spare_alone(1, 4)),
+    (ANY, 2, "high plane's spare bit 5, alone", |made| made.has_spare_alone(1, 5)),
+    (ANY, 2, "high plane's spare bit 6, alone", |made| made.has_spare_alone(1, 6)),
+    (ANY, 2, "high plane's spare bit 7, alone", |made| made.has_spare_alone(1, 7)),
+    ("init", 0, "low plane's spare bits", |made| made.spares_set().any(|spare| spare.plane == 0)),
+    ("init", 0, "high plane's spare bits", |made| made.spares_set().any(|spare| spare.plane == 1)),
     ("allocate", 0, "over an unaligned run", |made| made.passes_over_a_run()),
     ("allocate", 9, "an unaligned run", |made| made.lowest_run().is_some()),
     ("reallocate", 0, "as many blocks", |made| made.part("change") == 0),
@@ -49,21 +77,72 @@ pub const SITUATIONS: [Situation; 25] = [
     ("collect", 0, "one rescan", |made| made.part("rescans") == 1),
     ("collect", 0, "two or more rescans", |made| made.part("rescans") > 1),
     ("survey", 0, "no free block", |made| made.part("longest") == 0),
-    ("survey", 0, "more than 32 in a row", |made| made.part("longest") > 32),
+    ("survey", 0, "more than 64 in a row", |made| made.part("longest") > 64),
+    ("survey", 0, "the last blocks free, t odd", |made| {
+        made.before.t % 2 == 1 && made.part("longest") == made.free_at_the_end()
+    }),
     ("survey", 0, "none as long is aligned", |made| made.longest_is_unaligned()),
 ];
 
 impl Made<'_> {
     pub fn shows(&self, (call, refusal, _, shown): &Situation) -> bool {
-        self.call.description().name == *call && self.reply.refusal == *refusal && shown(self)
+        let of_call = *call == ANY || *call == self.call.description().name;
+        of_call && self.reply.refusal == *refusal && shown(self)
+    }
+
+    /// Whether the call has this t, and pool and table have its lengths.
+    fn has_lengths_of(&self, t: u64) -> bool {
+        let Made { before, .. } = self;
+        let lengths = || [64 * t as usize, table_bytes(t)];
+        before.t == t && [before[Pool].len(), before[Table].len()] == lengths()
+    }
+
+    /// Whether the call is answered otherwise once what is lent is changed so.
+    fn is_mended(&self, mend: impl FnOnce(&mut Lent)) -> bool {
+        let mut mended = self.before.clone();
+        mend(&mut mended);
+        second(self.call, &mut mended).refusal != self.reply.refusal
+    }
+
+    fn t_of_pool(&self) -> u64 {
+        self.before[Pool].len() as u64 / 64
+    }
+
+    fn has_t_alone(&self, t: u64) -> bool {
+        self.before.t == t && self.is_mended(|lent| lent.t = self.t_of_pool())
+    }
+
+    /// The right length of the table, as far as t is one.
+    fn table_wanted(&self) -> i64 {
+        table_bytes(self.before.t.min(MOST)) as i64
+    }
+
+    fn has_table_alone(&self, length: i64) -> bool {
+        let mut right = self.before[Table].to_vec();
+        right.resize(self.table_wanted() as usize, 0);
+        let wrong = self.before[Table].len() as i64;
+        wrong == length && self.is_mended(|lent| lent.set_table(&right))
+    }
+
+    fn spares_set(&self) -> impl Iterator<Item = SpareBit> + '_ {
+        self.before.spare_bits().filter(|spare| self.before.spare(*spare) == 1)
+    }
+
+    fn has_spare_alone(&self, plane: usize, bit: u32) -> bool {
+        let spare = SpareBit { plane, bit };
+        let alone = self.spares_set().eq([spare]);
+        alone && self.is_mended(|lent| lent.set_spare(spare, 0))
+    }
+
+    /// How many blocks are free in a row up to the last one.
+    fn free_at_the_end(&self) -> i64 {
+        let free = free_from(self.before).into_iter().zip(0..);
+        let mut up_to_the_end = free.filter(|(free, start)| free + start == self.before.blocks());
+        up_to_the_end.next().map_or(0, |(free, _)| free as i64)
     }
 
     fn part(&self, name: &str) -> i64 {
         self.reply.parts[name]
-    }
-
-    fn table(&self) -> &[u8] {
-        &self.before[Buffer::Table]
     }
 
     /// The blocks that are asked for.
@@ -92,7 +171,7 @@ impl Made<'_> {
 
     /// The lowest run of as many blocks as asked for, wherever it begins.
     fn lowest_run(&self) -> Option<u64> {
-        lowest_start(self.table(), self.wanted(), |_| true)
+        lowest_start(self.before, self.wanted(), |_| true)
     }
 
     fn passes_over_a_run(&self) -> bool {
@@ -101,13 +180,13 @@ impl Made<'_> {
 
     /// The blocks of the object that is resized.
     fn had(&self) -> u64 {
-        object_blocks(self.table(), self.block())
+        self.before.object_blocks(self.block())
     }
 
     /// Whether the object and the free blocks after it are as many as asked for.
     fn has_room_in_place(&self) -> bool {
         let end = self.block() + self.had();
-        self.wanted() <= self.had() + free_from(self.table())[end as usize]
+        self.wanted() <= self.had() + free_from(self.before)[end as usize]
     }
 
     /// Whether the object is one that no allocation makes.
@@ -121,22 +200,61 @@ impl Made<'_> {
 
     fn longest_is_unaligned(&self) -> bool {
         let longest = self.part("longest") as u64;
-        lowest_start(self.table(), longest, |start| aligned(start, longest)).is_none()
+        lowest_start(self.before, longest, |start| aligned(start, longest)).is_none()
     }
 }
 
 #[cfg(test)]
 mod tests {
     use super::*;
-    use crate::second;
 
-    fn check(table: &[u8], call: Call, names: &[&str]) {
-        let before = Lent::new(4096, &vec![0; 64 * table.len()], table);
+    /// The situations that a call shows: of any call, or of this one alone.
+    fn shown(before: &Lent, call: Call, of_any: bool) -> Vec<&'static str> {
         let reply = second(&call, &mut before.clone());
-        let made = Made { call: &call, before: &before, reply: &reply };
+        let made = Made { call: &call, before, reply: &reply };
         let shown = SITUATIONS.iter().filter(|situation| made.shows(situation));
-        let shown: Vec<&str> = shown.map(|(_, _, name, _)| *name).collect();
-        assert_eq!(shown, names, "{call:?} on {table:?}");
+        shown.filter(|(call, ..)| (*call == ANY) == of_any).map(|(_, _, name, _)| *name).collect()
+    }
+
+    fn check(numbers: &[u8], call: Call, names: &[&str]) {
+        let before = Lent::of_numbers(4096, numbers);
+        assert_eq!(shown(&before, call, false), names, "{call:?} on {numbers:?}");
+    }
+
+    #[test]
+    fn a_t_that_does_not_fit_is_seen() {
+        let heap = |t, pool, table: usize| Lent::new(4096, t, &vec![0; pool], &vec![0; table]);
+        for (before, names) in [
+            (heap(1, 64, 2), &["t is 1", "t is odd"][..]),
+            (heap(2, 128, 2), &["t is even"]),
+            (heap(0, 0, 0), &["t is 0, and the lengths fit"]),
+            (heap(0, 64, 2), &["t is one less, alone"]),
+            (heap(1025, 64 * 1025, 1026), &["t is 1,025, and the lengths fit"]),
+            (heap(1025, 64, 2), &[]),
+            (heap((1 << 32) + 1, 64, 2), &["t is 2^32 + 1, alone"]),
+            (heap(u64::MAX, 64, 2), &["t is 2^64 - 1, alone"]),
+            (heap(3, 128, 2), &["t is one more, alone"]),
+            (heap(4, 256, 3), &["a table a byte short, alone"]),
+            (heap(4, 256, 5), &["a table a byte long, alone"]),
+            (heap(3, 192, 3), &["a table a byte short, alone", "a table of t bytes, alone"]),
+            (heap(3, 193, 3), &[]),
+        ] {
+            assert_eq!(shown(&before, Call::Init, true), names, "{before}");
+        }
+    }
+
+    #[test]
+    fn spare_bits_are_seen() {
+        for (plane, bit) in [(0, 4), (0, 7), (1, 5), (1, 6)] {
+            let mut before = Lent::of_numbers(4096, &[165, 0, 1]);
+            before.set_spare(SpareBit { plane, bit }, 1);
+            let plane = ["low", "high"][plane];
+            let alone = format!("{plane} plane's spare bit {bit}, alone");
+            assert_eq!(shown(&before, Call::Survey, true), [alone]);
+            assert_eq!(shown(&before, Call::Init, false), [format!("{plane} plane's spare bits")]);
+            before.set_entry(0, 2);
+            assert_eq!(shown(&before, Call::Survey, true), [] as [&str; 0]);
+        }
     }
 
     #[test]
@@ -181,6 +299,12 @@ mod tests {
     #[test]
     fn unaligned_runs_are_seen() {
         check(&[1, 84], Call::Survey, &["none as long is aligned"]);
+        check(
+            &[1, 0, 0],
+            Call::Survey,
+            &["the last blocks free, t odd", "none as long is aligned"],
+        );
+        check(&[1, 0, 64], Call::Survey, &["none as long is aligned"]);
         check(&[0, 85], Call::Survey, &[]);
         check(&[64, 85], Call::Survey, &[]);
         check(&[85, 85], Call::Survey, &["no free block"]);

@@ -18,7 +18,7 @@ pub fn library(call: &Call, lent: &mut Lent) -> Reply {
             // Each buffer has pages of its own, and the answers have their memory.
             unsafe {
                 raw::$call(
-                    lent.base, pool.as_mut_ptr(), pool.len(), table.as_mut_ptr(), table.len()
+                    lent.base, lent.t, pool.as_mut_ptr(), pool.len(), table.as_mut_ptr(), table.len()
                     $(, $argument)* $(, answers.place($answer).cast())*
                 )
             }
@@ -82,7 +82,8 @@ impl Answers<'_> {
     }
 }
 
-/// The library through the safe wrapper.
+/// The library through the safe wrapper, which has no place for a base above 32 bits, or for a t that is
+/// not that of the pool.
 pub fn wrapper(call: &Call, lent: &mut Lent) -> Reply {
     reply(call, on_wrapper(call, lent).map_err(|refusal| refusal.number()))
 }
@@ -91,6 +92,9 @@ fn on_wrapper(call: &Call, lent: &mut Lent) -> Result<Vec<i64>, blockheap::Refus
     let word = u32::try_from(lent.base).map_err(|_| blockheap::Refusal::BadShape)?;
     let (base, at) = (Address::from_word(word), Block::from_number);
     let [pool, table, roots, stack] = &mut lent.buffers;
+    if lent.t != pool.len() as u64 / 64 {
+        return Err(blockheap::Refusal::BadShape);
+    }
     let mut heap = Heap::resume(base, pool, table);
     let placed =
         |placed: blockheap::Placed| vec![placed.block.number() as i64, placed.change.into()];
@@ -141,7 +145,7 @@ pub fn on_list<A>(
 /// What is lent as the plain-list heap takes it: the heap, roots and mark stack.
 fn for_list(lent: &mut Lent) -> (listheap::Lent<'_>, &[u8], &mut [u8]) {
     let [pool, table, roots, stack] = &mut lent.buffers;
-    (listheap::Lent { base: lent.base, pool, table }, roots, stack)
+    (listheap::Lent { base: lent.base, t: lent.t, pool, table }, roots, stack)
 }
 
 /// The plain-list heap on a list that is kept from call to call; only roots and mark stack are lent.

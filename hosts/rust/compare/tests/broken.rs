@@ -3,21 +3,20 @@
 use compare::aligned::{aligned, lowest_start, stays_aligned, unaligned_head};
 use compare::laws::{self, run_law, Law};
 use compare::places::{anywhere, free_run, right_start, search, MayBegin, Places, RIGHT};
+use compare::planes::{table_bytes, SpareBit, FREE};
 use compare::readings::{self, collect_reading, Reading};
 use compare::Buffer::{self, Pool, Roots, Stack, Table};
-use compare::{
-    entry, object_blocks, on_list, run_pairs, run_walks, second, Call, Guarded, Lent, Reply,
-};
+use compare::{on_list, run_pairs, run_walks, second, Call, Guarded, Lent, Reply};
 use compare::{Coverage, Sizes, Subject};
 use listheap::{Collected, ListHeap, Marking, Object, Placed, Refusal};
 use std::os::unix::process::ExitStatusExt;
 use std::process::Command;
 
-const SMALL: Sizes = Sizes { least: 1, most: 16, calls_per_heap: 60 };
+const SMALL: Sizes = Sizes { least: 1, most: 20, calls_per_heap: 60 };
 const LARGE: Sizes = Sizes { least: 65, most: 1024, calls_per_heap: 20 };
-const MOST_CALLS: u64 = 50_000;
+const MOST_CALLS: u64 = 200_000;
 
-/// What tells the heap from a right one within some thousand calls.
+/// What tells the heap from a right one within so many calls.
 fn fault_of(subject: Subject, sizes: Sizes) -> String {
     let outcome = run_walks(subject, sizes, 5, MOST_CALLS, &mut Coverage::default());
     outcome.expect_err("no call told this heap from a right one")
@@ -62,6 +61,17 @@ fn must_be_noticed_anywhere(name: &str, heap: &dyn Fn(Buffer, &Call, &mut Lent) 
         say_noticed(name, &fault);
         let noticed_by = fault.lines().next().unwrap_or_default();
         assert!(noticed_by.contains(&buffer.to_string()), "{buffer} and not {noticed_by}");
+    }
+}
+
+/// The heap that does wrong at one spare bit must be noticed, whichever it is.
+fn must_be_noticed_at_each_spare_bit(
+    name: &str,
+    heap: &dyn Fn(SpareBit, &Call, &mut Lent) -> Reply,
+) {
+    for spare in SpareBit::all() {
+        let fault = fault_of(&|call, lent| heap(spare, call, lent), SMALL);
+        say_noticed(&format!("{name}, {spare:?}"), &fault);
     }
 }
 
@@ -157,8 +167,8 @@ each! { must_be_noticed:
     frees_tails_of_kept_objects
     finds_the_block_before_the_head
     misses_the_lowest_start
-    cuts_runs_at_every_32_blocks
-    surveys_no_last_bytes
+    cuts_runs_at_every_64_blocks
+    surveys_no_last_blocks
     cuts_numbers_to_32_bits
     tests_the_block_before_the_bytes
     takes_any_base
@@ -185,6 +195,34 @@ each! { must_be_noticed:
     stops_at_the_first_run_that_is_long_enough
     refuses_unaligned_objects
     surveys_aligned_runs_alone
+    swaps_the_planes
+    has_the_highest_bit_first
+    has_the_first_block_of_four_last
+    begins_the_high_plane_a_byte_early
+    begins_the_high_plane_a_byte_late
+    has_packed_pairs
+    has_planes_in_turns
+    has_one_plane_alone
+    takes_t_from_the_table
+    takes_t_from_the_pool
+    cuts_t_to_32_bits
+    takes_a_t_of_0
+    takes_a_t_of_1025
+    takes_a_table_of_t_bytes
+    takes_a_longer_table
+    tests_spare_bits_before_the_base
+    surveys_spare_blocks
+}
+
+each! { must_be_noticed_at_each_spare_bit:
+    ignores_a_spare_bit
+    ignores_a_spare_bit_in_a_survey
+    clears_a_spare_bit
+    clears_a_spare_bit_in_a_refusal
+    leaves_a_spare_bit_at_init
+    sets_a_spare_bit_at_init
+    sets_a_spare_bit_behind_an_object
+    refuses_a_spare_bit_at_init
 }
 
 each! { leaves_unaligned_objects:
@@ -202,7 +240,7 @@ each! { keeps_too_few:
 }
 
 each! { keeps_too_few_large_objects:
-    finds_no_head_in_an_earlier_64_bytes
+    finds_no_head_in_an_earlier_16_bytes
     finds_no_head_300_blocks_before
 }
 
@@ -277,17 +315,21 @@ fn an_empty_run_has_reached_nothing() {
     let pairs = Call::DESCRIPTIONS.iter().map(|call| call.refusals.len()).sum();
     assert_eq!(numbers, pairs, "pairs of a call and a refusal number");
     let seen = faults.iter().filter(|fault| fault.contains("never seen")).count();
-    assert_eq!(seen, 33, "situations and kinds of words");
+    assert_eq!(seen, 56, "situations and kinds of words");
 }
 
-/// Whether the heap's lengths fit each other, so that its blocks can be looked at.
-fn in_shape(lent: &Lent) -> bool {
-    lent[Pool].len() == 64 * lent[Table].len()
-}
-
+/// The heads of a heap whose lengths fit.
 fn heads(lent: &Lent) -> Vec<u64> {
-    let blocks = 0..4 * lent[Table].len() as u64;
-    blocks.filter(|block| in_shape(lent) && entry(&lent[Table], *block) == 1).collect()
+    if lent.fits() {
+        lent.heads()
+    } else {
+        vec![]
+    }
+}
+
+/// The free blocks of a heap whose lengths fit.
+fn free_blocks(lent: &Lent) -> Vec<u64> {
+    (0..lent.blocks()).filter(|block| lent.entry(*block) == FREE).collect()
 }
 
 /// A right collection on a pool that was changed for it.
@@ -358,7 +400,7 @@ fn skips_word_zero(call: &Call, lent: &mut Lent) -> Reply {
 fn walks_words_first_to_last(call: &Call, lent: &mut Lent) -> Reply {
     collect_on_changed_pool(call, lent, |lent| {
         for head in heads(lent) {
-            let end = head + object_blocks(&lent[Table], head);
+            let end = head + lent.object_blocks(head);
             let object = &mut lent[Pool][16 * head as usize..16 * end as usize];
             object.reverse();
             object.chunks_exact_mut(4).for_each(<[u8]>::reverse);
@@ -457,8 +499,8 @@ fn finds_no_head_in_an_earlier_8_bytes(call: &Call, lent: &mut Lent) -> Reply {
     collect_by_reading(call, lent, readings::heads_in_8_bytes)
 }
 
-fn finds_no_head_in_an_earlier_64_bytes(call: &Call, lent: &mut Lent) -> Reply {
-    collect_by_reading(call, lent, readings::heads_in_64_bytes)
+fn finds_no_head_in_an_earlier_16_bytes(call: &Call, lent: &mut Lent) -> Reply {
+    collect_by_reading(call, lent, readings::heads_in_16_bytes)
 }
 
 fn finds_no_head_300_blocks_before(call: &Call, lent: &mut Lent) -> Reply {
@@ -646,51 +688,309 @@ fn stops_at_the_first_run_that_is_long_enough(call: &Call, lent: &mut Lent) -> R
 fn refuses_unaligned_objects(call: &Call, lent: &mut Lent) -> Reply {
     let before = lent.clone();
     let reply = second(call, lent);
-    if reply.refusal == 1 || *call == Call::Init || unaligned_head(&before[Table]).is_none() {
+    if reply.refusal == 1 || *call == Call::Init || unaligned_head(&before).is_none() {
         return reply;
     }
     *lent = before;
     Reply::refused(call, Refusal::Table.number())
 }
 
-/// The longest run of free blocks that lies within one of the parts of a table.
-fn longest_in_parts(table: &[u8], part_bytes: usize) -> i64 {
-    let free_runs = |part: &[u8]| {
-        let blocks = 0..4 * part.len() as u64;
-        let free: Vec<bool> = blocks.map(|block| entry(part, block) == 0).collect();
-        free.split(|free| !free).map(<[bool]>::len).max().unwrap_or(0)
-    };
-    table.chunks(part_bytes).map(free_runs).max().unwrap_or(0) as i64
+/// The longest run of `true`.
+fn longest_run(free: &[bool]) -> i64 {
+    free.split(|free| !free).map(<[bool]>::len).max().unwrap_or(0) as i64
 }
 
-fn survey_by(call: &Call, lent: &mut Lent, longest: impl Fn(&[u8]) -> i64) -> Reply {
+/// A right survey but for the longest run, which is made of which blocks are free.
+fn survey_by(call: &Call, lent: &mut Lent, longest: impl Fn(&Lent, &[bool]) -> i64) -> Reply {
     let mut reply = second(call, lent);
     if let (0, Call::Survey) = (reply.refusal, call) {
-        reply.parts.insert("longest", longest(&lent[Table]));
+        let free: Vec<bool> = (0..lent.blocks()).map(|block| lent.entry(block) == FREE).collect();
+        reply.parts.insert("longest", longest(lent, &free));
     }
     reply
 }
 
-fn cuts_runs_at_every_32_blocks(call: &Call, lent: &mut Lent) -> Reply {
-    survey_by(call, lent, |table| longest_in_parts(table, 8))
+fn cuts_runs_at_every_64_blocks(call: &Call, lent: &mut Lent) -> Reply {
+    survey_by(call, lent, |_, free| free.chunks(64).map(longest_run).max().unwrap_or(0))
 }
 
-/// Those after the last whole eight.
-fn surveys_no_last_bytes(call: &Call, lent: &mut Lent) -> Reply {
-    survey_by(call, lent, |table| {
-        let whole = &table[..table.len() / 8 * 8];
-        longest_in_parts(whole, whole.len().max(1))
-    })
+/// Those after the last whole 64.
+fn surveys_no_last_blocks(call: &Call, lent: &mut Lent) -> Reply {
+    survey_by(call, lent, |_, free| longest_run(&free[..free.len() / 64 * 64]))
 }
 
 fn surveys_aligned_runs_alone(call: &Call, lent: &mut Lent) -> Reply {
-    survey_by(call, lent, |table| {
-        let longest = longest_in_parts(table, table.len()) as u64;
+    survey_by(call, lent, |lent, free| {
+        let longest = longest_run(free) as u64;
         let found = (0..=longest)
             .rev()
-            .find(|blocks| lowest_start(table, *blocks, |start| aligned(start, *blocks)).is_some());
+            .find(|blocks| lowest_start(lent, *blocks, |start| aligned(start, *blocks)).is_some());
         found.unwrap_or(0) as i64
     })
+}
+
+/// Where t is odd it takes the spare bits for four free blocks more.
+fn surveys_spare_blocks(call: &Call, lent: &mut Lent) -> Reply {
+    survey_by(call, lent, |lent, free| {
+        let spare = vec![true; 4 * (lent.t % 2) as usize];
+        longest_run(&[free, &spare].concat())
+    })
+}
+
+/// A heap that has its entries elsewhere in the table: a right one is handed the planes that `read` makes of
+/// the table, and if it accepts, `write` puts its planes into the table.
+fn on_other_planes(
+    call: &Call,
+    lent: &mut Lent,
+    read: impl Fn(&[u8]) -> Vec<u8>,
+    write: impl Fn(&[u8], &mut [u8]),
+) -> Reply {
+    if !lent.fits() {
+        return second(call, lent);
+    }
+    let mut table = lent[Table].to_vec();
+    lent.set_table(&read(&table));
+    let reply = second(call, lent);
+    if reply.refusal == 0 {
+        write(&lent[Table], &mut table);
+    }
+    lent.set_table(&table);
+    reply
+}
+
+/// The same where reading and writing put each byte of the planes so.
+fn on_mapped_bytes(call: &Call, lent: &mut Lent, byte: impl Fn(u8) -> u8) -> Reply {
+    let mapped = |table: &[u8]| table.iter().map(|other| byte(*other)).collect::<Vec<u8>>();
+    on_other_planes(call, lent, mapped, |planes, table| table.copy_from_slice(&mapped(planes)))
+}
+
+fn swaps_the_planes(call: &Call, lent: &mut Lent) -> Reply {
+    let swapped = |table: &[u8]| {
+        let (low, high) = table.split_at(table.len() / 2);
+        [high, low].concat()
+    };
+    on_other_planes(call, lent, swapped, |planes, table| table.copy_from_slice(&swapped(planes)))
+}
+
+fn has_the_highest_bit_first(call: &Call, lent: &mut Lent) -> Reply {
+    on_mapped_bytes(call, lent, u8::reverse_bits)
+}
+
+/// Within the four bits of each half of a byte, so that spare bits stay where they are.
+fn has_the_first_block_of_four_last(call: &Call, lent: &mut Lent) -> Reply {
+    on_mapped_bytes(call, lent, |byte| byte.reverse_bits().rotate_left(4))
+}
+
+/// A heap whose high plane begins at another byte than the right one.
+fn with_high_plane_at(call: &Call, lent: &mut Lent, begin: usize) -> Reply {
+    let plane = lent[Table].len() / 2;
+    let read = |table: &[u8]| {
+        let high = table[begin..].iter().copied().chain([0]).take(plane);
+        table[..plane].iter().copied().chain(high).collect()
+    };
+    on_other_planes(call, lent, read, |planes, table| {
+        let (low, high) = planes.split_at(plane);
+        table[..plane].copy_from_slice(low);
+        table[begin..].iter_mut().zip(high).for_each(|(byte, high)| *byte = *high);
+    })
+}
+
+/// Where t is odd: half of t is rounded down.
+fn begins_the_high_plane_a_byte_early(call: &Call, lent: &mut Lent) -> Reply {
+    match lent.t {
+        t if lent.fits() => with_high_plane_at(call, lent, t as usize / 2),
+        _ => second(call, lent),
+    }
+}
+
+/// Where t is even: half of t is always rounded up.
+fn begins_the_high_plane_a_byte_late(call: &Call, lent: &mut Lent) -> Reply {
+    match lent.t {
+        t if lent.fits() => with_high_plane_at(call, lent, t as usize / 2 + 1),
+        _ => second(call, lent),
+    }
+}
+
+/// As before there were planes: the two bits of a block together, in the first t bytes.
+fn has_packed_pairs(call: &Call, lent: &mut Lent) -> Reply {
+    let t = lent.t;
+    let read = |table: &[u8]| Lent::of_numbers(0, &table[..t as usize])[Table].to_vec();
+    on_other_planes(call, lent, read, |planes, table| {
+        let numbers = Lent::new(0, t, &[], planes).numbers();
+        table[..t as usize].copy_from_slice(&numbers);
+    })
+}
+
+/// A byte of the low plane, the same byte of the high plane, and so on.
+fn has_planes_in_turns(call: &Call, lent: &mut Lent) -> Reply {
+    let of = |table: &[u8], first: usize| -> Vec<u8> {
+        table.iter().copied().skip(first).step_by(2).collect()
+    };
+    let read = |table: &[u8]| [of(table, 0), of(table, 1)].concat();
+    on_other_planes(call, lent, read, |planes, table| {
+        let (low, high) = planes.split_at(planes.len() / 2);
+        for (pair, (low, high)) in table.chunks_exact_mut(2).zip(low.iter().zip(high)) {
+            pair.copy_from_slice(&[*low, *high]);
+        }
+    })
+}
+
+/// It writes the low plane and forgets the high one.
+fn has_one_plane_alone(call: &Call, lent: &mut Lent) -> Reply {
+    on_other_planes(call, lent, <[u8]>::to_vec, |planes, table| {
+        let plane = planes.len() / 2;
+        table[..plane].copy_from_slice(&planes[..plane]);
+    })
+}
+
+/// A right heap that is handed another t.
+fn with_t(call: &Call, lent: &mut Lent, t: u64) -> Reply {
+    let given = std::mem::replace(&mut lent.t, t);
+    let reply = second(call, lent);
+    lent.t = given;
+    reply
+}
+
+fn takes_t_from_the_table(call: &Call, lent: &mut Lent) -> Reply {
+    with_t(call, lent, lent[Table].len() as u64)
+}
+
+fn takes_t_from_the_pool(call: &Call, lent: &mut Lent) -> Reply {
+    with_t(call, lent, lent[Pool].len() as u64 / 64)
+}
+
+fn cuts_t_to_32_bits(call: &Call, lent: &mut Lent) -> Reply {
+    with_t(call, lent, u64::from(lent.t as u32))
+}
+
+/// An init that accepts this t too, if the lengths are those that go with it.
+fn init_taking(call: &Call, lent: &mut Lent, t: u64) -> Reply {
+    let lengths = [64 * t as usize, table_bytes(t)];
+    let given = [lent[Pool].len(), lent[Table].len()];
+    if *call == Call::Init && lent.t == t && given == lengths {
+        lent[Table].fill(0);
+        return Reply::accepted(call, &[]);
+    }
+    second(call, lent)
+}
+
+fn takes_a_t_of_0(call: &Call, lent: &mut Lent) -> Reply {
+    init_taking(call, lent, 0)
+}
+
+fn takes_a_t_of_1025(call: &Call, lent: &mut Lent) -> Reply {
+    init_taking(call, lent, 1025)
+}
+
+/// A right heap that is handed a table of the right length, cut or with zeros behind it.
+fn with_resized_table(call: &Call, lent: &mut Lent, length: usize) -> Reply {
+    let mut table = lent[Table].to_vec();
+    let mut resized = table.clone();
+    resized.resize(length, 0);
+    lent.set_table(&resized);
+    let reply = second(call, lent);
+    table.iter_mut().zip(&lent[Table][..]).for_each(|(byte, new)| *byte = *new);
+    lent.set_table(&table);
+    reply
+}
+
+/// As long as the packed table was, where t is odd.
+fn takes_a_table_of_t_bytes(call: &Call, lent: &mut Lent) -> Reply {
+    match lent[Table].len() {
+        length if length as u64 == lent.t => with_resized_table(call, lent, table_bytes(lent.t)),
+        _ => second(call, lent),
+    }
+}
+
+fn takes_a_longer_table(call: &Call, lent: &mut Lent) -> Reply {
+    match lent[Table].len() {
+        length if length as u64 > lent.t => with_resized_table(call, lent, table_bytes(lent.t)),
+        _ => second(call, lent),
+    }
+}
+
+/// And so refuses some calls by 2 that are to be refused by 1.
+fn tests_spare_bits_before_the_base(call: &Call, lent: &mut Lent) -> Reply {
+    let spare = lent.spare_bits().any(|spare| lent.spare(spare) == 1);
+    if spare && *call != Call::Init {
+        return Reply::refused(call, Refusal::Table.number());
+    }
+    second(call, lent)
+}
+
+/// Whether the heap has this spare bit, and it is set.
+fn is_set(lent: &Lent, spare: SpareBit) -> bool {
+    lent.spare_bits().any(|other| other == spare && lent.spare(spare) == 1)
+}
+
+/// A right heap to which this spare bit is 0. Answers also what the bit was.
+fn without_spare_bit(spare: SpareBit, call: &Call, lent: &mut Lent) -> (Reply, bool) {
+    let set = is_set(lent, spare);
+    if set {
+        lent.set_spare(spare, 0);
+    }
+    (second(call, lent), set)
+}
+
+fn ignores_a_spare_bit(spare: SpareBit, call: &Call, lent: &mut Lent) -> Reply {
+    let (reply, set) = without_spare_bit(spare, call, lent);
+    if set && *call != Call::Init {
+        lent.set_spare(spare, 1);
+    }
+    reply
+}
+
+fn ignores_a_spare_bit_in_a_survey(spare: SpareBit, call: &Call, lent: &mut Lent) -> Reply {
+    match call {
+        Call::Survey => ignores_a_spare_bit(spare, call, lent),
+        _ => second(call, lent),
+    }
+}
+
+fn clears_a_spare_bit(spare: SpareBit, call: &Call, lent: &mut Lent) -> Reply {
+    without_spare_bit(spare, call, lent).0
+}
+
+fn clears_a_spare_bit_in_a_refusal(spare: SpareBit, call: &Call, lent: &mut Lent) -> Reply {
+    let reply = second(call, lent);
+    if is_set(lent, spare) {
+        lent.set_spare(spare, 0);
+    }
+    reply
+}
+
+fn leaves_a_spare_bit_at_init(spare: SpareBit, call: &Call, lent: &mut Lent) -> Reply {
+    let set = is_set(lent, spare);
+    let reply = second(call, lent);
+    if let (0, Call::Init, true) = (reply.refusal, call, set) {
+        lent.set_spare(spare, 1);
+    }
+    reply
+}
+
+fn sets_a_spare_bit_at_init(spare: SpareBit, call: &Call, lent: &mut Lent) -> Reply {
+    let reply = second(call, lent);
+    if let (0, Call::Init, 1) = (reply.refusal, call, lent.t % 2) {
+        lent.set_spare(spare, 1);
+    }
+    reply
+}
+
+/// Where an object that is made or grown ends with the last block.
+fn sets_a_spare_bit_behind_an_object(spare: SpareBit, call: &Call, lent: &mut Lent) -> Reply {
+    let reply = second(call, lent);
+    let grown = reply.refusal == 0 && reply.parts.get("change").is_some_and(|change| *change > 0);
+    if grown && lent.t % 2 == 1 && lent.entry(lent.blocks() - 1) != FREE {
+        lent.set_spare(spare, 1);
+    }
+    reply
+}
+
+fn refuses_a_spare_bit_at_init(spare: SpareBit, call: &Call, lent: &mut Lent) -> Reply {
+    if *call == Call::Init && is_set(lent, spare) {
+        return Reply::refused(call, Refusal::Table.number());
+    }
+    second(call, lent)
 }
 
 fn cuts_numbers_to_32_bits(call: &Call, lent: &mut Lent) -> Reply {
@@ -796,9 +1096,8 @@ fn reads_past_a_buffer(buffer: &[u8]) -> *const u8 {
 
 fn follows_words_in_free_blocks(call: &Call, lent: &mut Lent) -> Reply {
     let roots = lent[Roots].clone();
-    if *call == Call::Collect && in_shape(lent) {
-        let blocks = 0..4 * lent[Table].len() as u64;
-        let free = blocks.filter(|block| entry(&lent[Table], *block) == 0);
+    if *call == Call::Collect && lent.fits() {
+        let free = free_blocks(lent).into_iter();
         let words = free.flat_map(|block| &lent[Pool][16 * block as usize..][..16]);
         let heard: Vec<u8> = lent[Roots].iter().chain(words).copied().take(4 * 4096).collect();
         lent[Roots] = Guarded::new(&heard);
@@ -814,8 +1113,8 @@ fn refuses_every_call(call: &Call, _: &mut Lent) -> Reply {
 }
 
 /// A right free whose answer counts further blocks with the object's own.
-fn free_counting(call: &Call, lent: &mut Lent, more: impl Fn(&[u8], u64) -> usize) -> Reply {
-    let before = lent[Table].clone();
+fn free_counting(call: &Call, lent: &mut Lent, more: impl Fn(&Lent, u64) -> usize) -> Reply {
+    let before = lent.clone();
     let mut reply = second(call, lent);
     if let (0, Call::Free { block }) = (reply.refusal, *call) {
         *reply.parts.get_mut("change").expect("a change") -= more(&before, block) as i64;
@@ -824,25 +1123,25 @@ fn free_counting(call: &Call, lent: &mut Lent, more: impl Fn(&[u8], u64) -> usiz
 }
 
 fn counts_free_blocks_before_the_object(call: &Call, lent: &mut Lent) -> Reply {
-    free_counting(call, lent, |table, block| {
-        (0..block).rev().take_while(|k| entry(table, *k) == 0).count()
+    free_counting(call, lent, |before, block| {
+        (0..block).rev().take_while(|k| before.entry(*k) == FREE).count()
     })
 }
 
 fn counts_free_blocks_behind_the_object(call: &Call, lent: &mut Lent) -> Reply {
-    free_counting(call, lent, |table, block| {
-        let behind = block + object_blocks(table, block)..4 * table.len() as u64;
-        behind.take_while(|k| entry(table, *k) == 0).count()
+    free_counting(call, lent, |before, block| {
+        let behind = block + before.object_blocks(block)..before.blocks();
+        behind.take_while(|k| before.entry(*k) == FREE).count()
     })
 }
 
 /// Leaves the table, whatever it answers.
 fn frees_nothing_behind_a_free_block(call: &Call, lent: &mut Lent) -> Reply {
-    let before = lent[Table].clone();
+    let before = lent.clone();
     let reply = second(call, lent);
     match (reply.refusal, *call) {
-        (0, Call::Free { block: block @ 1.. }) if entry(&before, block - 1) == 0 => {
-            lent[Table] = before;
+        (0, Call::Free { block: block @ 1.. }) if before.entry(block - 1) == FREE => {
+            *lent = before;
         }
         _ => {}
     }
@@ -910,10 +1209,7 @@ fn answers_the_objects_before(call: &Call, lent: &mut Lent) -> Reply {
 }
 
 fn answers_the_free_blocks(call: &Call, lent: &mut Lent) -> Reply {
-    collect_answering(call, lent, "change", |_, after| {
-        let free = (0..4 * after[Table].len() as u64).filter(|k| entry(&after[Table], *k) == 0);
-        -(free.count() as i64)
-    })
+    collect_answering(call, lent, "change", |_, after| -(free_blocks(after).len() as i64))
 }
 
 /// Frees it after a right collection, whose answer stays.
@@ -934,9 +1230,9 @@ fn loses_the_object_of_the_last_root(call: &Call, lent: &mut Lent) -> Reply {
 fn counts_collections_in_a_free_block(call: &Call, lent: &mut Lent) -> Reply {
     let reply = second(call, lent);
     if let (0, Call::Collect) = (reply.refusal, call) {
-        let free = (0..4 * lent[Table].len()).find(|k| entry(&lent[Table], *k as u64) == 0);
-        if let Some(block) = free {
-            lent[Pool][16 * block] = lent[Pool][16 * block].wrapping_add(1);
+        if let Some(block) = free_blocks(lent).first() {
+            let byte = &mut lent[Pool][16 * *block as usize];
+            *byte = byte.wrapping_add(1);
         }
     }
     reply

@@ -11,13 +11,8 @@ fn pairs_wanted() -> u64 {
 fn pairs_agree(sizes: Sizes, seed: u64, pairs: u64) {
     let counts = run_pairs(&library, sizes, seed, pairs).unwrap_or_else(|fault| panic!("{fault}"));
     println!(
-        "tables of {} to {} bytes: {} pairs with {} different bytes answer {} calls alike ({} refused)",
-        sizes.least,
-        sizes.most,
-        counts.pairs,
-        counts.different_bytes,
-        counts.calls,
-        counts.refused
+        "t from {} to {}: {} pairs with {} different bytes answer {} calls alike ({} refused)",
+        sizes.least, sizes.most, counts.pairs, counts.different_bytes, counts.calls, counts.refused
     );
     assert!(counts.different_bytes > 0 && counts.refused > 0 && counts.different_rescans > 0);
 }

@@ -1,5 +1,6 @@
 //! The checked examples of the rules, on the library, its wrapper and the plain-list heap.
-//! Base 4,096 throughout, and eight blocks up to example 16; tables in decimal.
+//! Base 4,096 throughout, and eight blocks up to example 16. Decimal numbers spell the entries of a table,
+//! four to a number; beside them stand the bytes of its two planes.
 
 use compare::Buffer::{Pool, Stack, Table};
 use compare::{library, second, wrapper, Call, Guarded, Lent, Reply, Subject};
@@ -13,21 +14,27 @@ struct Example<'s> {
 }
 
 impl Example<'_> {
-    fn from<const T: usize>(&mut self, table: [u8; T]) -> &mut Self {
-        self.lent = Lent::new(BASE, &vec![0; 64 * T], &table);
+    fn from<const T: usize>(&mut self, numbers: [u8; T]) -> &mut Self {
+        self.lent = Lent::of_numbers(BASE, &numbers);
+        self
+    }
+
+    /// The bytes of the table.
+    fn planes<const N: usize>(&mut self, bytes: [u8; N]) -> &mut Self {
+        assert_eq!(self.lent[Table][..], bytes, "the planes of {:?}", self.lent.numbers());
         self
     }
 
     /// The heap of examples 9 to 11: word 0 of block 4 leads to block 0.
     fn linked(&mut self, roots: &[u32], stack_entries: usize) -> &mut Self {
-        self.from([165, 169]).lent.set_word(16, 4096);
+        self.from([165, 169]).planes([0x13, 0xEC]).lent.set_word(16, 4096);
         self.lends(roots, stack_entries)
     }
 
     /// The heap of example 16: word 0 of block 6 leads to block 2, which is the third of its object, and
     /// word 0 of that object is given.
     fn linked_by_tails(&mut self, word: u32, root: u32, stack_entries: usize) -> &mut Self {
-        self.from([169, 25]).lent.set_word(24, 4128);
+        self.from([169, 25]).planes([0x51, 0x2E]).lent.set_word(24, 4128);
         self.lent.set_word(0, word);
         self.lends(&[root], stack_entries)
     }
@@ -47,11 +54,11 @@ impl Example<'_> {
         &mut self,
         call: Call,
         parts: [i64; N],
-        table: [u8; T],
+        numbers: [u8; T],
     ) -> &mut Self {
         let expected = Reply::accepted(&call, &parts);
         assert_eq!((self.subject)(&call, &mut self.lent), expected, "{call:?}");
-        assert_eq!(self.lent[Table][..], table, "the table after {call:?}");
+        assert_eq!(self.lent.numbers(), numbers, "the entries after {call:?}");
         self
     }
 
@@ -66,7 +73,7 @@ impl Example<'_> {
 
 fn on_every_heap(example: impl Fn(&mut Example)) {
     for subject in [&library as Subject, &wrapper, &second] {
-        example(&mut Example { subject, lent: Lent::new(BASE, &[0; 128], &[0; 2]) });
+        example(&mut Example { subject, lent: Lent::empty(BASE, 2) });
     }
 }
 
@@ -89,90 +96,97 @@ fn load(block: u64, word: u64) -> Call {
 #[test]
 fn example_01_allocate_one_byte() {
     on_every_heap(|heap| {
-        heap.from([0, 0]).gives(allocate(1), [0, 1], [1, 0]);
+        heap.from([0, 0]).planes([0x00, 0x00]);
+        heap.gives(allocate(1), [0, 1], [1, 0]).planes([0x01, 0x00]);
     });
 }
 
 #[test]
 fn example_02_allocate_more() {
     on_every_heap(|heap| {
-        heap.from([1, 0]).gives(allocate(33), [1, 3], [165, 0]);
+        heap.from([1, 0]).planes([0x01, 0x00]);
+        heap.gives(allocate(33), [1, 3], [165, 0]).planes([0x03, 0x0C]);
     });
 }
 
 #[test]
 fn example_03_allocate_the_rest() {
     on_every_heap(|heap| {
-        heap.from([165, 0]).gives(allocate(64), [4, 4], [165, 169]);
+        heap.from([165, 0]).planes([0x03, 0x0C]);
+        heap.gives(allocate(64), [4, 4], [165, 169]).planes([0x13, 0xEC]);
     });
 }
 
 #[test]
 fn example_04_no_room() {
     on_every_heap(|heap| {
-        heap.from([165, 169]).refuses(allocate(1), 9);
+        heap.from([165, 169]).refuses(allocate(1), 9).planes([0x13, 0xEC]);
     });
 }
 
 #[test]
 fn example_05_free() {
     on_every_heap(|heap| {
-        heap.from([165, 169]).gives(free(1), [-3], [1, 169]);
-        heap.from([165, 169]).refuses(free(5), 7).refuses(free(8), 6);
+        heap.from([165, 169]).gives(free(1), [-3], [1, 169]).planes([0x11, 0xE0]);
+        heap.from([165, 169]).refuses(free(5), 7).refuses(free(8), 6).planes([0x13, 0xEC]);
     });
 }
 
 #[test]
 fn example_06_shrink() {
     on_every_heap(|heap| {
-        heap.from([1, 169]).gives(reallocate(4, 16), [4, -3], [1, 1]);
+        heap.from([1, 169]).planes([0x11, 0xE0]);
+        heap.gives(reallocate(4, 16), [4, -3], [1, 1]).planes([0x11, 0x00]);
     });
 }
 
 #[test]
 fn example_07_grow_in_place() {
     on_every_heap(|heap| {
-        heap.from([1, 1]).gives(reallocate(0, 64), [0, 3], [169, 1]);
-        heap.from([1, 1]).refuses(reallocate(0, 65), 9);
+        heap.from([1, 1]).planes([0x11, 0x00]);
+        heap.gives(reallocate(0, 64), [0, 3], [169, 1]).planes([0x11, 0x0E]);
+        heap.from([1, 1]).refuses(reallocate(0, 65), 9).planes([0x11, 0x00]);
     });
 }
 
 #[test]
 fn example_08_move() {
     on_every_heap(|heap| {
-        heap.from([5, 0]).gives(reallocate(0, 17), [2, 1], [148, 0]);
+        heap.from([5, 0]).planes([0x03, 0x00]);
+        heap.gives(reallocate(0, 17), [2, 1], [148, 0]).planes([0x06, 0x08]);
     });
 }
 
 #[test]
 fn example_09_collect() {
     on_every_heap(|heap| {
-        heap.linked(&[4160], 64).gives(Call::Collect, [2, 0, -3], [1, 169]);
+        heap.linked(&[4160], 64).gives(Call::Collect, [2, 0, -3], [1, 169]).planes([0x11, 0xE0]);
         assert!(heap.lent[Stack].iter().all(|byte| *byte == 0), "the mark stack is zero");
-        heap.linked(&[4160], 0).gives(Call::Collect, [2, 1, -3], [1, 169]);
+        heap.linked(&[4160], 0).gives(Call::Collect, [2, 1, -3], [1, 169]).planes([0x11, 0xE0]);
     });
 }
 
 #[test]
 fn example_10_collect_without_roots() {
     on_every_heap(|heap| {
-        heap.linked(&[], 64).gives(Call::Collect, [0, 0, -8], [0, 0]);
+        heap.linked(&[], 64).gives(Call::Collect, [0, 0, -8], [0, 0]).planes([0x00, 0x00]);
     });
 }
 
 #[test]
 fn example_11_roots_at_a_tail_and_inside_a_block() {
     on_every_heap(|heap| {
-        heap.linked(&[4128], 64).gives(Call::Collect, [1, 0, -5], [164, 0]);
-        heap.linked(&[4097], 64).gives(Call::Collect, [0, 0, -8], [0, 0]);
+        heap.linked(&[4128], 64).gives(Call::Collect, [1, 0, -5], [164, 0]).planes([0x02, 0x0C]);
+        heap.linked(&[4097], 64).gives(Call::Collect, [0, 0, -8], [0, 0]).planes([0x00, 0x00]);
     });
 }
 
 #[test]
 fn example_12_ill_formed_tables() {
     on_every_heap(|heap| {
-        for table in [[2, 0], [3, 0], [8, 0]] {
-            heap.from(table).refuses(allocate(1), 2).refuses(allocate(0), 2);
+        for (first, planes) in [(2, [0x00, 0x01]), (3, [0x01, 0x01]), (8, [0x00, 0x02])] {
+            heap.from([first, 0]).planes(planes);
+            heap.refuses(allocate(1), 2).refuses(allocate(0), 2).planes(planes);
         }
     });
 }
@@ -181,8 +195,8 @@ fn example_12_ill_formed_tables() {
 fn example_13_bases() {
     on_every_heap(|heap| {
         heap.from([0, 0]).based(4_294_967_168).gives(allocate(1), [0, 1], [1, 0]);
-        heap.based(4_294_967_184).refuses(allocate(1), 1);
-        heap.based(0).refuses(allocate(1), 1);
+        heap.based(4_294_967_184).refuses(allocate(1), 1).planes([0x01, 0x00]);
+        heap.based(0).refuses(allocate(1), 1).planes([0x01, 0x00]);
     });
 }
 
@@ -190,14 +204,14 @@ fn example_13_bases() {
 fn example_14_last_word() {
     on_every_heap(|heap| {
         heap.from([165, 169]).lent.set_word(31, 77);
-        heap.gives(load(4, 15), [77], [165, 169]).refuses(load(4, 16), 8);
+        heap.gives(load(4, 15), [77], [165, 169]).refuses(load(4, 16), 8).planes([0x13, 0xEC]);
     });
 }
 
 #[test]
 fn example_15_zero_bytes_first() {
     on_every_heap(|heap| {
-        heap.from([165, 169]).refuses(reallocate(8, 0), 5);
+        heap.from([165, 169]).refuses(reallocate(8, 0), 5).planes([0x13, 0xEC]);
     });
 }
 
@@ -205,21 +219,26 @@ fn example_15_zero_bytes_first() {
 fn example_16_a_chain_through_tails() {
     on_every_heap(|heap| {
         heap.linked_by_tails(4176, 4192, 64).gives(Call::Collect, [3, 0, 0], [169, 25]);
+        heap.planes([0x51, 0x2E]);
         heap.linked_by_tails(4176, 4192, 0).gives(Call::Collect, [3, 2, 0], [169, 25]);
+        heap.planes([0x51, 0x2E]);
         heap.linked_by_tails(4184, 4192, 64).gives(Call::Collect, [2, 0, -2], [169, 16]);
+        heap.planes([0x41, 0x0E]);
         heap.linked_by_tails(4176, 4208, 64).gives(Call::Collect, [0, 0, -7], [0, 0]);
+        heap.planes([0x00, 0x00]);
     });
 }
 
 #[test]
 fn example_17_large_objects_are_aligned() {
     on_every_heap(|heap| {
-        heap.from([1, 0, 0]).gives(allocate(64), [4, 4], [1, 169, 0]);
-        heap.gives(allocate(48), [1, 3], [165, 169, 0]);
+        heap.from([1, 0, 0]).planes([0x01, 0x00, 0x00, 0x00]);
+        heap.gives(allocate(64), [4, 4], [1, 169, 0]).planes([0x11, 0x00, 0xE0, 0x00]);
+        heap.gives(allocate(48), [1, 3], [165, 169, 0]).planes([0x13, 0x00, 0xEC, 0x00]);
         let old: Vec<u8> = (1..=48).collect();
         heap.lent[Pool][16..64].copy_from_slice(&old);
         heap.lent[Pool][128..192].fill(0xEE);
-        heap.gives(reallocate(1, 64), [8, 1], [1, 169, 169]);
+        heap.gives(reallocate(1, 64), [8, 1], [1, 169, 169]).planes([0x11, 0x01, 0xE0, 0x0E]);
         assert_eq!(heap.lent[Pool][128..176], old, "the old bytes");
         assert_eq!(heap.lent[Pool][176..192], [0; 16], "the added bytes");
     });
@@ -228,18 +247,21 @@ fn example_17_large_objects_are_aligned() {
 #[test]
 fn example_18_an_unaligned_object_of_an_old_table() {
     on_every_heap(|heap| {
-        heap.from([165, 2, 0]).gives(reallocate(1, 33), [1, -1], [165, 0, 0]);
+        heap.from([165, 2, 0]).planes([0x03, 0x00, 0x1C, 0x00]);
+        heap.gives(reallocate(1, 33), [1, -1], [165, 0, 0]).planes([0x03, 0x00, 0x0C, 0x00]);
         heap.from([165, 2, 0]).gives(reallocate(1, 64), [1, 0], [165, 2, 0]);
-        heap.refuses(reallocate(1, 65), 9);
+        heap.refuses(reallocate(1, 65), 9).planes([0x03, 0x00, 0x1C, 0x00]);
         heap.from([165, 2, 0, 0]).gives(reallocate(1, 65), [8, 1], [1, 0, 169, 2]);
+        heap.planes([0x01, 0x01, 0x00, 0x1E]);
     });
 }
 
 #[test]
 fn example_19_a_free_run_that_is_not_aligned() {
     on_every_heap(|heap| {
-        heap.from([165, 86]).gives(free(1), [-4], [1, 84]);
+        heap.from([165, 86]).planes([0xE3, 0x1C]);
+        heap.gives(free(1), [-4], [1, 84]).planes([0xE1, 0x00]);
         heap.gives(Call::Survey, [4, 4, 4], [1, 84]).refuses(allocate(64), 9);
-        heap.gives(allocate(48), [1, 3], [165, 84]);
+        heap.gives(allocate(48), [1, 3], [165, 84]).planes([0xE3, 0x0C]);
     });
 }

@@ -56,15 +56,16 @@ impl Heap {
         self.objects.iter().map(|object| object.len() as i64).sum()
     }
 
+    /// The low plane has the heads, the high one the tails.
     fn table(&self) -> Vec<u8> {
-        let mut table = vec![0; self.blocks / 4];
+        let mut planes = [(); 2].map(|()| vec![0; self.blocks.div_ceil(8)]);
         for object in &self.objects {
             for block in object.clone() {
-                let entry = if block == object.start { 1 } else { 2 };
-                table[block / 4] |= entry << (2 * (block % 4));
+                let plane = usize::from(block > object.start);
+                planes[plane][block / 8] |= 1 << (block % 8);
             }
         }
-        table
+        planes.concat()
     }
 
     /// Each of the words is the one root in turn.
@@ -109,7 +110,8 @@ impl Heap {
     }
 
     fn lent(&self) -> Lent {
-        let mut lent = Lent::new(BASE.into(), &vec![0; 16 * self.blocks], &self.table());
+        let (t, pool) = (self.blocks as u64 / 4, vec![0; 16 * self.blocks]);
+        let mut lent = Lent::new(BASE.into(), t, &pool, &self.table());
         lent[Stack] = Guarded::zeroed(4);
         lent
     }
@@ -147,9 +149,9 @@ fn objects_at(borders: &[usize]) -> impl Iterator<Item = Range<usize>> + '_ {
     borders.iter().flat_map(move |start| ends(*start).map(move |end| *start..end))
 }
 
-/// Every block, in every heap of so many table bytes with an object anywhere.
-fn in_heaps_of(subject: Subject, table_bytes: usize) {
-    let blocks = 4 * table_bytes;
+/// Every block, in every heap of this t with an object anywhere.
+fn in_heaps_of(subject: Subject, t: usize) {
+    let blocks = 4 * t;
     let borders: Vec<usize> = (0..=blocks).collect();
     for object in objects_at(&borders) {
         blocks_lead_to_their_objects(subject, blocks, &object, 0..blocks);
@@ -158,26 +160,26 @@ fn in_heaps_of(subject: Subject, table_bytes: usize) {
 
 #[test]
 fn in_small_heaps_every_block_leads_to_its_object() {
-    for table_bytes in [1, 2, 3, 7, 8, 9, 16, 17] {
-        in_heaps_of(&library, table_bytes);
+    for t in [1, 2, 3, 7, 8, 9, 16, 17] {
+        in_heaps_of(&library, t);
     }
     in_heaps_of(&second, 9);
 }
 
 #[test]
-fn every_block_leads_to_an_object_around_borders_of_4_32_and_256_blocks() {
-    let borders = [0, 1, 3, 4, 5, 31, 32, 33, 63, 64, 65, 255, 256, 257, 287, 288, 511, 512, 513];
+fn every_block_leads_to_an_object_around_borders_of_8_64_and_128_blocks() {
+    let borders = [0, 1, 3, 4, 5, 7, 8, 9, 63, 64, 65, 127, 128, 129, 191, 192, 255, 256, 257];
     for object in objects_at(&borders) {
-        blocks_lead_to_their_objects(&library, 520, &object, 0..520);
+        blocks_lead_to_their_objects(&library, 260, &object, 0..260);
     }
 }
 
 #[test]
 fn in_the_largest_heap_blocks_lead_to_objects_of_any_size() {
     let borders = [0, 1, 255, 256, 257, 2047, 2048, 3840, 4095, 4096];
-    let around_every_32 = (0..4096).filter(|block| matches!(block % 32, 0 | 1 | 31));
+    let around_every_64 = (0..4096).filter(|block| matches!(block % 64, 0 | 1 | 31 | 63));
     for object in objects_at(&borders) {
-        blocks_lead_to_their_objects(&library, 4096, &object, around_every_32.clone());
+        blocks_lead_to_their_objects(&library, 4096, &object, around_every_64.clone());
     }
 }
 

@@ -10,10 +10,10 @@ const HEAPS: u64 = 10_000;
 /// Tries the law on small heaps and on heaps of all sizes. On many of them it must say something.
 fn holds(law: Law, seed: u64) -> [LawCounts; 2] {
     let heaps = wanted("BLOCKHEAP_HEAPS", HEAPS);
-    [(1..=16, heaps), (17..=1024, heaps / 20)].map(|(table_bytes, heaps)| {
-        let counts = run_law(law, &library, table_bytes.clone(), seed, heaps)
+    [(1..=16, heaps), (17..=1024, heaps / 20)].map(|(sizes, heaps)| {
+        let counts = run_law(law, &library, sizes.clone(), seed, heaps)
             .unwrap_or_else(|fault| panic!("{fault}"));
-        println!("tables of {table_bytes:?} bytes: {counts:?}");
+        println!("t in {sizes:?}: {counts:?}");
         assert!(counts.telling > heaps / 20, "{counts:?}");
         counts
     })
@@ -64,7 +64,7 @@ impl Sample<'_> {
     }
 
     fn fresh(&mut self) -> &mut Self {
-        self.lent = Lent::new(Sample::address(0).into(), &[0; 192], &[165, 25, 153]);
+        self.lent = Lent::of_numbers(Sample::address(0).into(), &[165, 25, 153]);
         for (word, head) in [(23, E), (32, D), (4, A), (40, F)] {
             self.lent.set_word(word, Sample::address(head));
         }
@@ -95,14 +95,15 @@ impl Sample<'_> {
         self
     }
 
-    fn leaves(&mut self, table: [u8; 3]) {
-        assert_eq!(self.lent[Table][..], table);
+    /// The numbers spell the entries, four to a number.
+    fn leaves(&mut self, numbers: [u8; 3]) {
+        assert_eq!(self.lent[Table][..], Lent::of_numbers(16, &numbers)[Table][..]);
     }
 }
 
 fn on_every_heap(run: impl Fn(&mut Sample)) {
     for subject in [&library as Subject, &wrapper, &second] {
-        run(Sample { subject, lent: Lent::new(16, &[], &[]) }.fresh());
+        run(Sample { subject, lent: Lent::empty(16, 0) }.fresh());
     }
 }
 

@@ -1,17 +1,13 @@
 //! From an accepted init on, the library answers as a list of objects that is never read back from
 //! pool or table would.
 
-use compare::{draw_call, library, on_list, second_on_list, Call, Lent, Random};
+use compare::{draw_call, library, noise, on_list, second_on_list, Call, Lent, Random};
 use listheap::ListHeap;
 
-const BASE: u64 = 4096;
-
-fn library_and_list_agree(seed: u64, table_bytes: usize, calls: usize) {
+fn library_and_list_agree(seed: u64, t: u64, calls: usize) {
     let mut random = Random::new(seed);
-    let pool = random.bytes(64 * table_bytes);
-    let table = random.bytes(table_bytes);
-    let mut lent = Lent::new(BASE, &pool, &table);
-    let mut list = ListHeap::empty(BASE, 4 * table_bytes as u64);
+    let mut lent = noise(&mut random, t);
+    let mut list = ListHeap::empty(lent.base, 4 * t);
     let mut used = 0;
     assert_eq!(library(&Call::Init, &mut lent).refusal, 0);
     for number in 0..calls {
@@ -42,11 +38,12 @@ fn read_back(lent: &mut Lent) -> ListHeap {
 #[test]
 fn the_library_answers_as_a_plain_list_on_small_heaps() {
     for seed in 0..40 {
-        library_and_list_agree(seed, 1 + seed as usize % 16, 500);
+        library_and_list_agree(seed, 1 + seed % 16, 500);
     }
 }
 
 #[test]
-fn the_library_answers_as_a_plain_list_on_the_largest_heap() {
+fn the_library_answers_as_a_plain_list_on_the_largest_heaps() {
+    library_and_list_agree(76, 1023, 3000);
     library_and_list_agree(77, 1024, 3000);
 }

@@ -25,7 +25,7 @@ fn run_all_sizes(name: &str, subject: Subject, seed: u64, calls: u64) -> Coverag
         run_walks(subject, sizes, seed, calls * share / 100, &mut coverage)
             .unwrap_or_else(|fault| panic!("{name}: {fault}"));
         println!(
-            "{name}: tables of {:>4} to {:>4} bytes: {:>7} calls agree ({:.1} s)",
+            "{name}: t from {:>4} to {:>4}: {:>7} calls agree ({:.1} s)",
             sizes.least,
             sizes.most,
             coverage.calls() - before,
