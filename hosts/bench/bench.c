@@ -109,15 +109,15 @@ static void only_heads(void)
     roots_len = 0;
 }
 
-/* An object in each block but for one hole in every 32 blocks, longer by a block each time as long as there is
- * room for it: of many patterns tried, the one whose survey takes the library longest. */
+/* An object in each block but for one hole in every 64 blocks, longer by a block each time as long as there is
+ * room for it: the longest hole so far is found anew in each 64 blocks. */
 static void fill_with_rising_holes(void)
 {
     int32_t change;
     only_heads();
     for (size_t block = 0; block < blocks; block++) {
-        size_t place = block % 32, hole = 1 + block / 32;
-        if (place >= 1 && place <= hole && place <= 30)
+        size_t place = block % 64, hole = 1 + block / 64;
+        if (place >= 1 && place <= hole && place <= 62)
             must(blockheap_free(HEAP, block, &change));
     }
 }
@@ -302,7 +302,8 @@ static const struct work {
     {"reallocate", "give a random object of such a heap a new size of 1 to 48 bytes", fill, reallocate},
     {"load and store", "read a word of a random object of such a heap, and write it", fill, load_and_store},
     {"survey", "count used blocks, objects and the longest free run of such a heap", fill, survey},
-    {"survey, rising holes", "the same of the worst heap known", fill_with_rising_holes, survey},
+    {"survey, rising holes", "the same of a heap with a hole in every 64 blocks, each longer than the one before",
+     fill_with_rising_holes, survey},
     {"no room: 3 blocks, holes of 2", "allocate 3 blocks, which is refused: no hole has more than 2", holes_of_2,
      find_no_room},
     {"no room: 4 blocks, holes of 3", "the same with 4, which must be aligned, and 3", holes_of_3, find_no_room},
