@@ -1,5 +1,5 @@
 // Runs the worked examples on heaps of 8, 12 and 16 blocks. A line for each call: the table before it, its arguments, what it answered, and the
-// table after it.
+// table after it. A table is the bytes of its low plane, a bar, and those of its high plane.
 mod print;
 
 use memory::Address;
@@ -8,13 +8,18 @@ use memory::Bytes;
 
 const BASE: u64 = 4096;
 
+// The t of a heap with this pool.
+fn size(pool: &[u8]) -> usize {
+    pool.len() / 64
+}
+
 fn init(example: u64, base: u64) {
     let pool = [0u8; 128];
-    let mut table = [1u8; 2];
+    let mut table = [17u8, 0];
     print::begin(example, &table);
     print::text(b" init at base ");
     print::number(base);
-    let refusal = heap::init(Address::of_number(base), &pool, &mut table);
+    let refusal = heap::init(Address::of_number(base), size(&pool), &pool, &mut table);
     print::refusal(refusal);
     print::end(&table);
 }
@@ -23,8 +28,10 @@ fn allocate(example: u64, pool: &mut [u8], table: &mut [u8], bytes: u64) {
     print::begin(example, &*table);
     print::text(b" allocate ");
     print::bytes(bytes);
+    let t = size(&*pool);
     let r = heap::allocate(
         Address::of_number(BASE),
+        t,
         &mut *pool,
         &mut *table,
         Bytes::of_number(bytes),
@@ -41,6 +48,7 @@ fn free(example: u64, pool: &[u8], table: &mut [u8], k: u64) {
     print::number(k);
     let r = heap::free(
         Address::of_number(BASE),
+        size(pool),
         pool,
         &mut *table,
         Block::of_number(k),
@@ -56,8 +64,10 @@ fn reallocate(example: u64, pool: &mut [u8], table: &mut [u8], k: u64, bytes: u6
     print::number(k);
     print::text(b" to ");
     print::bytes(bytes);
+    let t = size(&*pool);
     let r = heap::reallocate(
         Address::of_number(BASE),
+        t,
         &mut *pool,
         &mut *table,
         Block::of_number(k),
@@ -72,7 +82,7 @@ fn reallocate(example: u64, pool: &mut [u8], table: &mut [u8], k: u64, bytes: u6
 fn survey(example: u64, pool: &[u8], table: &[u8]) {
     print::begin(example, table);
     print::text(b" survey");
-    let r = heap::survey(Address::of_number(BASE), pool, table);
+    let r = heap::survey(Address::of_number(BASE), size(pool), pool, table);
     print::refusal(r.refusal);
     print::part(b"used", r.used);
     print::part(b"objects", r.objects);
@@ -88,6 +98,7 @@ fn load(example: u64, pool: &[u8], table: &[u8], k: u64, i: usize) {
     print::number(k);
     let r = heap::load(
         Address::of_number(BASE),
+        size(pool),
         pool,
         table,
         Block::of_number(k),
@@ -106,8 +117,10 @@ fn store(example: u64, pool: &mut [u8], table: &[u8], k: u64, i: usize, w: u32) 
     print::number(i as u64);
     print::text(b" of block ");
     print::number(k);
+    let t = size(&*pool);
     let refusal = heap::store(
         Address::of_number(BASE),
+        t,
         &mut *pool,
         table,
         Block::of_number(k),
@@ -124,7 +137,14 @@ fn collect(example: u64, pool: &[u8], table: &mut [u8], roots: &[u8], stack: &mu
     print::root(roots);
     print::text(b" with a stack of ");
     print::number((stack.len() / 4) as u64);
-    let r = collector::collect(Address::of_number(BASE), pool, &mut *table, roots, stack);
+    let r = collector::collect(
+        Address::of_number(BASE),
+        size(pool),
+        pool,
+        &mut *table,
+        roots,
+        stack,
+    );
     print::refusal(r.refusal);
     print::part(b"kept", r.kept);
     print::part(b"rescans", r.rescans);
@@ -135,9 +155,10 @@ fn collect(example: u64, pool: &[u8], table: &mut [u8], roots: &[u8], stack: &mu
 // The heap of examples 9 to 11, where word 0 of block 4 leads to block 0, collected from these roots with this mark stack.
 fn collect_linked(example: u64, roots: &[u8], stack: &mut [u8]) {
     let mut pool = [0u8; 128];
-    let mut table = [165u8, 169];
+    let mut table = [19u8, 236];
     heap::store(
         Address::of_number(BASE),
+        2,
         &mut pool,
         &table,
         Block::of_number(4),
@@ -168,7 +189,7 @@ fn examples_1_to_7() {
 // An object that has to move.
 fn example_8() {
     let mut pool = [0u8; 128];
-    let mut table = [5u8, 0];
+    let mut table = [3u8, 0];
     reallocate(8, &mut pool, &mut table, 0, 17);
 }
 
@@ -191,9 +212,9 @@ fn examples_9_to_11() {
 }
 
 // A table that is not well-formed.
-fn example_12(first: u8) {
+fn example_12(low: u8, high: u8) {
     let mut pool = [0u8; 128];
-    let mut table = [first, 0];
+    let mut table = [low, high];
     allocate(12, &mut pool, &mut table, 1);
     allocate(12, &mut pool, &mut table, 0);
 }
@@ -201,7 +222,7 @@ fn example_12(first: u8) {
 // The last word of an object and the one after it, and a request that two refusals fit.
 fn examples_14_and_15() {
     let mut pool = [0u8; 128];
-    let mut table = [165u8, 169];
+    let mut table = [19u8, 236];
     store(14, &mut pool, &table, 4, 15, 77);
     load(14, &pool, &table, 4, 15);
     load(14, &pool, &table, 4, 16);
@@ -214,7 +235,7 @@ fn example_16() {
     let mut stack = [238u8; 256];
     let mut no_stack = [0u8; 0];
     let mut pool = [0u8; 128];
-    let mut table = [169u8, 25];
+    let mut table = [81u8, 46];
     store(16, &mut pool, &table, 6, 0, 4128);
     store(16, &mut pool, &table, 0, 0, 4176);
     collect(16, &pool, &mut table, &root, &mut stack);
@@ -224,7 +245,7 @@ fn example_16() {
 // Four blocks pass by block 1, three get it, and growing to four they move.
 fn example_17() {
     let mut pool = [0u8; 192];
-    let mut table = [1u8, 0, 0];
+    let mut table = [1u8, 0, 0, 0];
     allocate(17, &mut pool, &mut table, 64);
     allocate(17, &mut pool, &mut table, 48);
     reallocate(17, &mut pool, &mut table, 1, 64);
@@ -233,19 +254,19 @@ fn example_17() {
 // Four blocks at block 1, as an old table may hold them: to as many and to fewer they stay, to more they are refused or move.
 fn example_18() {
     let mut pool = [0u8; 192];
-    let mut table = [165u8, 2, 0];
+    let mut table = [3u8, 0, 28, 0];
     reallocate(18, &mut pool, &mut table, 1, 64);
     reallocate(18, &mut pool, &mut table, 1, 65);
     reallocate(18, &mut pool, &mut table, 1, 33);
     let mut larger_pool = [0u8; 256];
-    let mut larger_table = [165u8, 2, 0, 0];
+    let mut larger_table = [3u8, 0, 28, 0];
     reallocate(18, &mut larger_pool, &mut larger_table, 1, 65);
 }
 
 // Freed, they are the longest run, and yet no start for four blocks.
 fn example_19() {
     let mut pool = [0u8; 128];
-    let mut table = [165u8, 86];
+    let mut table = [227u8, 28];
     free(19, &pool, &mut table, 1);
     survey(19, &pool, &table);
     allocate(19, &mut pool, &mut table, 64);
@@ -256,9 +277,9 @@ fn main() {
     examples_1_to_7();
     example_8();
     examples_9_to_11();
-    example_12(2);
-    example_12(3);
-    example_12(8);
+    example_12(0, 1);
+    example_12(1, 1);
+    example_12(0, 2);
     init(13, 4294967168);
     init(13, 4294967184);
     init(13, 0);

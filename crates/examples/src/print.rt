@@ -18,11 +18,11 @@ pub fn bytes(n: u64) {
 }
 
 // The example's number, and the table before its call.
-pub fn begin(example: u64, entries: &[u8]) {
+pub fn begin(example: u64, planes: &[u8]) {
     text(b"example ");
     number(example);
     text(b": ");
-    table(entries);
+    table(planes);
 }
 
 // The first word of the roots.
@@ -71,21 +71,28 @@ pub fn part(name: &[u8], n: u32) {
 }
 
 // The table after the call.
-pub fn end(entries: &[u8]) {
+pub fn end(planes: &[u8]) {
     text(b", table ");
-    table(entries);
+    table(planes);
     text(b"\n");
 }
 
-// Its bytes.
-fn table(entries: &[u8]) {
+// Its bytes, those of the low plane first.
+fn table(planes: &[u8]) {
     let mut i = 0;
-    while i < entries.len() {
-        if i != 0 {
-            text(b",");
-        }
-        byte(entries[i]);
+    while i < planes.len() {
+        border(i, planes.len() / 2);
+        byte(planes[i]);
         i += 1;
+    }
+}
+
+// What stands before byte i: a bar where the high plane begins, a comma between the bytes of a plane.
+fn border(i: usize, high: usize) {
+    if i == high {
+        text(b"|");
+    } else if i != 0 {
+        text(b",");
     }
 }
 

@@ -7,19 +7,16 @@ use Rattle.examples.proofs.print.table.Statement.{statement}
 use Rattle.examples.proofs.print.table.Tie as tie
 
 abbrev Inv-loop : tie.InvT-loop
-Inv-loop entries i₀ t3 i = i ≤ length entries
+Inv-loop planes i₀ i = i ≤ length planes
 
 abbrev μ-loop : tie.MeasureT-loop
-μ-loop entries i₀ t3 i = length entries - i
+μ-loop planes i₀ i = length planes - i
 
 loop-holds : tie.Need-loop-holds Inv-loop μ-loop
 loop-holds c = search needs
 
-slice-aggregate-text : tie.Need-slice-aggregate-text Inv-loop μ-loop
-slice-aggregate-text c = search needs
-
-text-requires : tie.Need-text-requires Inv-loop μ-loop
-text-requires c κs = tt
+border-requires : tie.Need-border-requires Inv-loop μ-loop
+border-requires c κs = tt
 
 shared-slice-read-byte : tie.Need-shared-slice-read-byte Inv-loop μ-loop
 shared-slice-read-byte c = search needs
@@ -46,8 +43,7 @@ table-spec =
     Inv-loop
     μ-loop
     loop-holds
-    slice-aggregate-text
-    text-requires
+    border-requires
     shared-slice-read-byte
     byte-requires
     add-i
