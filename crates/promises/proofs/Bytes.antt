@@ -4,7 +4,7 @@ use mathlib.Core.Path.{_≡_, refl, ap, sym, _∙_}
 use mathlib.Core.Logic.{_≢_, _⊎_, inl, inr, ⊎-elim}
 use mathlib.Core.Bool.{Bool, true, false, not}
 use mathlib.Core.List.{List, [], _∷_}
-use Prim.Native.Nat.{ℕ, zero, suc, _*_}
+use Prim.Native.Nat.{ℕ, zero, suc, _+_, _*_}
 use native.Mathlib.Decide.{ℕ-discrete}
 use native.Mathlib.Omega.{arith}
 use lib.Dec.{eqb}
@@ -21,8 +21,8 @@ use Rattle.rules.specs.Memory.{Memory, memory, heapIn, lengthsFit, doneIn, Resu
 use Rattle.rules.specs.Meaning.{AllBytes, Shape, Accepted}
 use Rattle.rules.proofs.Refusals.{true-not-false, both-left, both-right, not-true, not-false}
 use Rattle.rules.proofs.Memory.{tests-passed, perform-accepted, passes-in, accepted-sound, Performed, acted, left, performed, packed-faithful, follows-accepted, follows-sound, sound-next}
-use Rattle.rules.proofs.Planes.{length-entriesIn, planes-faithful}
-use Rattle.rules.proofs.Agreement.{in-planes, in-packed, planes-agree}
+use Rattle.rules.proofs.Planes.{length-entriesIn, getD-entriesIn, entryIn-byte, planes-faithful}
+use Rattle.rules.proofs.Agreement.{in-planes, in-packed, planes-agree, call-in-planes, run-in-planes}
 use Rattle.promises.specs.Conditions.{Condition, First, when, ofInit, ofAllocate, ofFree, ofReallocate, ofCollect, ofSurvey, ofWord}
 use Rattle.promises.specs.Bytes.{OnBytes, AsPacked}
 use Rattle.promises.proofs.Checked.{init-checked, acts}
@@ -192,10 +192,11 @@ on-bytes = record {
   packed-faithful = packed-faithful;
   shape-in-bytes = shape-in-bytes;
   one-t = one-t;
+  entry-in-bytes = λ t table i j h l. getD-entriesIn t table (8 * i + j) FREE l ∙ entryIn-byte t table i j h;
   spare-in-bytes = spare-in-bytes;
   clean-after = clean-after;
   init-zero = init-zero;
 }
 
 pub as-packed : AsPacked
-as-packed = record { planes-agree = planes-agree; in-planes = in-planes; in-packed = in-packed }
+as-packed = record { planes-agree = planes-agree; in-planes = in-planes; in-packed = in-packed; call-in-planes = call-in-planes; run-in-planes = run-in-planes }

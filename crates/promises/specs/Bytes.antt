@@ -4,14 +4,16 @@ use mathlib.Core.Path.{_≡_}
 use mathlib.Core.Logic.{_≢_, _↔_, _⊎_}
 use mathlib.Core.Bool.{true, false}
 use mathlib.Core.List.{List, [], _∷_}
-use Prim.Native.Nat.{ℕ, _-_, _*_, _%_, _<_}
+use Prim.Native.Nat.{ℕ, _+_, _-_, _*_, _%_, _<_}
 use lib.ListN.{length, getD, replicate}
-use Rattle.rules.specs.Entries.{entriesOf, tableOf}
+use Rattle.rules.specs.Bits.{bitOf}
+use Rattle.rules.specs.Entries.{tableOf}
+use Rattle.rules.specs.Tables.{entryAt}
 use Rattle.rules.specs.Outcomes.{Outcome, onlyRefusal}
 use Rattle.rules.specs.Runs.{Call, Init, Survey, Load, Store, step}
 use Rattle.rules.specs.Forms.{Form, packed, Faithful}
-use Rattle.rules.specs.Planes.{planeBytes, entriesIn, spareFree, planesOf, planes, heapAt}
-use Rattle.rules.specs.Agreement.{HoldSame, FormsAgree}
+use Rattle.rules.specs.Planes.{planeBytes, entriesIn, spareFree, planes, heapAt}
+use Rattle.rules.specs.Agreement.{HoldSame, FormsAgree, inPlanes, CallInPlanes, RunInPlanes}
 use Rattle.rules.specs.Memory.{Memory, memory, heapIn, lengthsFit, Sound, doneIn, Result, result, AcceptedIn, stackFor, readsTable, perform}
 use Rattle.rules.specs.Meaning.{AllBytes, Shape, ShapeInBytes, Accepted}
 use Rattle.promises.specs.Conditions.{First, when}
@@ -53,6 +55,9 @@ pub record OnBytes : Type 0 where
   -- so memory has one t: two calls on it that are both not refused by 1 were given the same, and any other t is refused by 1
   pub one-t : (t t′ : ℕ) (c c′ : Call) (stack stack′ : List ℕ) (m : Memory) → perform (planes t) c stack m .answer .refusal ≢ 1
       → perform (planes t′) c′ stack′ m .answer .refusal ≢ 1 → t ≡ t′
+  -- the entry of block 8i + j has bit j of byte i of each plane
+  pub entry-in-bytes : (t : ℕ) (table : List ℕ) (i j : ℕ) → j < 8 → 8 * i + j < 4 * t
+      → entryAt (entriesIn t table) (8 * i + j) ≡ bitOf (getD table i 0) j + 2 * bitOf (getD table (planeBytes t + i) 0) j
   -- the spare bits are the upper four of the last byte of each plane, where t is odd
   pub spare-in-bytes : (t : ℕ) (table : List ℕ) → AllBytes table
       → (spareFree t table ≡ true) ↔ (t % 2 ≡ 1 → (getD table (planeBytes t - 1) 0 < 16) × (getD table (2 * planeBytes t - 1) 0 < 16))
@@ -67,5 +72,8 @@ pub record OnBytes : Type 0 where
 pub record AsPacked : Type 0 where
   pub planes-agree : (t : ℕ) → FormsAgree packed (planes t)
   -- each has its counterpart in the other form: a packed table of t bytes, and two planes that are as their form asks
-  pub in-planes : (t : ℕ) (m : Memory) → length (m .table) ≡ t → HoldSame packed (planes t) m (memory (m .pool) (planesOf t (entriesOf (m .table))))
+  pub in-planes : (t : ℕ) (m : Memory) → length (m .table) ≡ t → HoldSame packed (planes t) m (inPlanes t m)
   pub in-packed : (t : ℕ) (m : Memory) → Sound (planes t) m → HoldSame packed (planes t) (memory (m .pool) (tableOf (entriesIn t (m .table)))) m
+  -- so a call, and a list of calls, on the planes of a packed table gives what it gives on that table, in planes, byte by byte
+  pub call-in-planes : CallInPlanes
+  pub run-in-planes : RunInPlanes

@@ -5,7 +5,9 @@ use mathlib.Core.List.{List}
 use Prim.Native.Nat.{ℕ, _<_}
 use lib.ListN.{length, set}
 use Rattle.rules.specs.Tables.{entryAt}
-use Rattle.rules.specs.Forms.{Form}
+use Rattle.rules.specs.Entries.{entriesOf}
+use Rattle.rules.specs.Forms.{Form, packed}
+use Rattle.rules.specs.Planes.{planesOf, planes}
 use Rattle.rules.specs.Runs.{Call, Turn}
 use Rattle.rules.specs.Memory.{Memory, memory, Sound, Result, perform, afterIn, answersIn, filledIn}
 
@@ -23,9 +25,15 @@ pub record HoldSame (f g : Form) (m m′ : Memory) : Type 0 where
   pub blocks : length (f .read (m .table)) ≡ length (g .read (m′ .table))
   pub reading : (k : ℕ) → entryAt (f .read (m .table)) k ≡ entryAt (g .read (m′ .table)) k
 
+-- what is read after an entry is written: that entry, and the others as before
+abbrev pub ReadsBack : Form → Memory → ℕ → ℕ → Type 0
+ReadsBack f m k e = f .read (withEntry f m k e .table) ≡ set (f .read (m .table)) k e
+
 -- an entry that is written in both is read from both, and nothing else is changed: they hold the same again
 abbrev pub WritingAgrees : Form → Form → Type 0
-WritingAgrees f g = (m m′ : Memory) (k e : ℕ) → HoldSame f g m m′ → k < length (f .read (m .table)) → e < 4 → HoldSame f g (withEntry f m k e) (withEntry g m′ k e)
+WritingAgrees f g =
+    (m m′ : Memory) (k e : ℕ) → HoldSame f g m m′ → k < length (f .read (m .table)) → e < 4
+    → ReadsBack f m k e × ReadsBack g m′ k e × HoldSame f g (withEntry f m k e) (withEntry g m′ k e)
 
 -- two results are alike: the same answer, mark stack and filled bytes, and memories that hold the same
 pub record Alike (f g : Form) (r r′ : Result) : Type 0 where
@@ -49,3 +57,23 @@ pub record FormsAgree (f g : Form) : Type 0 where
   pub writing : WritingAgrees f g
   pub calls : CallsAlike f g
   pub runs : RunsAlike f g
+
+-- ---- a packed table of t bytes, in planes
+
+-- the memory with the same entries in planes
+abbrev pub inPlanes : ℕ → Memory → Memory
+inPlanes t m = memory (m .pool) (planesOf t (entriesOf (m .table)))
+
+-- the result with its memory in planes
+abbrev pub resultInPlanes : ℕ → Result → Result
+resultInPlanes t r = record { answer = r .answer; memory = inPlanes t (r .memory); stack = r .stack; filled = r .filled }
+
+-- Every call on the planes gives what it gives on the packed table, in planes, byte by byte.
+abbrev pub CallInPlanes : Type 0
+CallInPlanes = (t : ℕ) (c : Call) (stack : List ℕ) (m : Memory) → length (m .table) ≡ t → perform (planes t) c stack (inPlanes t m) ≡ resultInPlanes t (perform packed c stack m)
+
+-- And so does every list of calls.
+abbrev pub RunInPlanes : Type 0
+RunInPlanes =
+    (t : ℕ) (ts : List Turn) (m : Memory) → length (m .table) ≡ t
+    → (answersIn (planes t) ts (inPlanes t m) ≡ answersIn packed ts m) × (afterIn (planes t) ts (inPlanes t m) ≡ inPlanes t (afterIn packed ts m))
