@@ -21,7 +21,7 @@ pub record Form : Type 0 where
 -- The packed form: two bits for each block, four blocks to a byte. It is that of heap images, and of no lent table (Planes). Every length is one of it, and every bit is one
 -- of an entry
 abbrev pub packed : Form
-packed = record { fits = λ t. true; clean = λ t. true; read = entriesOf; write = tableOf }
+packed = record { fits = λ table. true; clean = λ table. true; read = entriesOf; write = tableOf }
 
 -- the entries are numbers that two bits hold
 abbrev pub Small : List ℕ → Type 0
@@ -30,11 +30,11 @@ Small es = (k : ℕ) → entryAt es k < 4
 -- what a form has to satisfy: bytes and entries say the same
 pub record Faithful (f : Form) : Type 0 where
   -- entries have two bits
-  pub small : (t : List ℕ) → Small (f .read t)
+  pub small : (table : List ℕ) → Small (f .read table)
   -- bytes that are as the form asks are those that their entries are written as
-  pub write-read : (t : List ℕ) → AllBytes t → f .fits t ≡ true → f .clean t ≡ true → f .write (f .read t) ≡ t
+  pub write-read : (table : List ℕ) → AllBytes table → f .fits table ≡ true → f .clean table ≡ true → f .write (f .read table) ≡ table
   -- as many entries as a table has that fits are written as bytes that fit and are clean, and are read from them again
-  pub read-write : (t es : List ℕ) → f .fits t ≡ true → length es ≡ length (f .read t) → Small es → f .read (f .write es) ≡ es
-  pub write-fits : (t es : List ℕ) → f .fits t ≡ true → length es ≡ length (f .read t) → f .fits (f .write es) ≡ true
-  pub write-long : (t es : List ℕ) → f .fits t ≡ true → length es ≡ length (f .read t) → length (f .write es) ≡ length t
-  pub write-clean : (t es : List ℕ) → f .fits t ≡ true → length es ≡ length (f .read t) → f .clean (f .write es) ≡ true
+  pub read-write : (table es : List ℕ) → f .fits table ≡ true → length es ≡ length (f .read table) → Small es → f .read (f .write es) ≡ es
+  pub write-fits : (table es : List ℕ) → f .fits table ≡ true → length es ≡ length (f .read table) → f .fits (f .write es) ≡ true
+  pub write-long : (table es : List ℕ) → f .fits table ≡ true → length es ≡ length (f .read table) → length (f .write es) ≡ length table
+  pub write-clean : (table es : List ℕ) → f .fits table ≡ true → length es ≡ length (f .read table) → f .clean (f .write es) ≡ true
