@@ -1,4 +1,4 @@
--- Bits of the FREE blocks of 64, and of the 64 after them.
+-- Bits of the FREE blocks of 64.
 -- Assumes nothing.
 use mathlib.Core.Path.{_≡_, refl, sym, ap, _∙_}
 use mathlib.Core.Bool.{Bool, true, false}
@@ -20,7 +20,7 @@ use Rattle.rules.proofs.Bits.{bitOf-lt, bitOf-zero, bitOf-above, bitOf-and, bit
 use Rattle.rules.proofs.Planes.{neither-bit}
 use Rattle.entries.specs.Groups.{InGroup}
 use Rattle.freeruns.specs.Rows.{FreeIn, Row}
-use Rattle.freeruns.proofs.Rows.{ALL, set-lt, low-bit, high-bit}
+use Rattle.freeruns.proofs.Rows.{ALL, set-lt}
 
 -- ---- entries, read with HEADs past the end of the table
 
@@ -110,24 +110,6 @@ module _ (es : List ℕ) (i low high : ℕ) (hl : low < 2 ^ 64) (hh : high < 2 ^
           let z : bitOf (2 ^ left - 1) j ≡ 0 = bitOf-above (2 ^ left - 1) j (omega (arith, ones-lt left, pow-mono {i = left} {j = j} (omega arith))) in
           let none : min (bitOf free j) (bitOf (2 ^ left - 1) j) ≡ 0 = omega (arith, z) in
           none ∙ past-end es i j (omega arith)
-
--- ---- 64 blocks and the 64 after them
-
-module _ (es : List ℕ) (i bits next : ℕ) (small : bits < 2 ^ 64) (holds : FreeIn es i bits) (holds-next : FreeIn es (i + 1) next) where
-  both-free : (j : ℕ) → j < 128 → bitOf (bits + 2 ^ 64 * next) j ≡ pick (isFree (getD es (64 * i + j) HEAD)) 1 0
-  both-free j h = go (decLt j 64)
-    where
-      go : Dec (j < 64) → bitOf (bits + 2 ^ 64 * next) j ≡ pick (isFree (getD es (64 * i + j) HEAD)) 1 0
-      go (yes l) = low-bit bits next j small l ∙ holds j l
-      go (no l) =
-          let e : 64 * (i + 1) + (j - 64) ≡ 64 * i + j = omega arith in
-          high-bit bits next j small (omega arith) ∙ rw e at (holds-next (j - 64) (omega arith))
-
-  -- where a run starts, a row does
-  pub run-rows : (b c j : ℕ) → c ≤ b → c ≤ 64 → j < 64 → Run es b (64 * i + j) → Row (bits + 2 ^ 64 * next) c j
-  run-rows b c j h few l r d m =
-      both-free (j + d) (omega arith)
-      ∙ free-set (getD es (64 * i + (j + d)) HEAD) (run-free es b (64 * i + j) (64 * i + (j + d)) r (omega arith) (omega arith))
 
 -- ---- rows of bits are runs
 

@@ -7,7 +7,7 @@ use native.Mathlib.Nat.{lt-of-lt-of-le, pow-suc, pow-succ', one-le-pow, div-div-
 use native.Mathlib.Omega.{arith}
 use lib.Dec.{eqb, eqb→eq}
 use lib.ListN.{length, getD, set}
-use lib.Bits.{bitAnd, bitOr, and-step, or-step, and-shr, or-shr, and-mask, shifted-half, shifted-even}
+use lib.Bits.{bitAnd, bitOr, or-add-and, and-le-l, and-le-r, and-step, or-step, and-shr, or-shr, and-mask, shifted-half, shifted-even}
 use lib.Count.{leadingZeros, leading-top}
 use lib.Pow.{pow-add, pow-mono, high, low}
 use lib.Seq.{getD-set-same, getD-set-other}
@@ -65,6 +65,10 @@ bitOf-and a b j = rw (and-shr a b j, and-step (a / 2 ^ j) (b / 2 ^ j)) (least-bi
 pub bitOf-or : (a b j : ℕ) → bitOf (bitOr a b) j ≡ max (bitOf a j) (bitOf b j)
 unfolding bitOf
 bitOf-or a b j = rw (or-shr a b j, or-step (a / 2 ^ j) (b / 2 ^ j)) (most-bit _ (a / 2 ^ j) (b / 2 ^ j))
+
+-- two numbers joined are 0 only if both are
+pub or-none : (a b : ℕ) → bitOr a b ≡ 0 → (a ≡ 0) × (b ≡ 0)
+or-none a b z = omega (arith, or-add-and a b, and-le-l a b, and-le-r a b)
 
 -- a shift down
 pub bitOf-shr : (a s j : ℕ) → bitOf (a / 2 ^ s) j ≡ bitOf a (s + j)
@@ -172,10 +176,6 @@ bitOf-byte bit small =
     (omega (arith, s 0, s 1, s 2, s 3, s 4, s 5, s 6, s 7)) (omega (arith, s 0, s 1, s 2, s 3, s 4, s 5, s 6, s 7))
     (omega (arith, s 0, s 1, s 2, s 3, s 4, s 5, s 6, s 7)) (omega (arith, s 0, s 1, s 2, s 3, s 4, s 5, s 6, s 7))
     (omega (arith, s 0, s 1, s 2, s 3, s 4, s 5, s 6, s 7)) (omega (arith, s 0, s 1, s 2, s 3, s 4, s 5, s 6, s 7))
-
-pub byteOf-lt : (bit : ℕ → ℕ) → ((j : ℕ) → bit j < 2) → byteOf bit < 256
-unfolding byteOf
-byteOf-lt bit s = omega (arith, s 0, s 1, s 2, s 3, s 4, s 5, s 6, s 7)
 
 pub byteOf-same : (f g : ℕ → ℕ) → ((j : ℕ) → j < 8 → f j ≡ g j) → byteOf f ≡ byteOf g
 unfolding byteOf

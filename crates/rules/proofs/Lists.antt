@@ -4,10 +4,9 @@ use mathlib.Core.Path.{_≡_, refl, sym, ap, _∙_}
 use mathlib.Core.Bool.{Bool, true, false}
 use mathlib.Core.List.{List, [], _∷_, _++_}
 use Prim.Native.Nat.{ℕ, zero, suc, _+_, _≤_, _<_}
-use native.Mathlib.Numerals.{add-one}
 use native.Mathlib.Decide.{ℕ-discrete, decLt}
 use native.Mathlib.Omega.{arith}
-use lib.ListN.{length, getD, set, replicate, length-set, length-replicate}
+use lib.ListN.{length, getD, set, replicate, length-set}
 use lib.Seq.{sets, getD-set-same, getD-set-other}
 use Rattle.rules.specs.Tests.{pick, count, leading, tabulate}
 
@@ -63,12 +62,6 @@ sets-snoc l at vs v = sets-append l at vs (v ∷ [])
 pub replicate-snoc : (n v : ℕ) → replicate (suc n) v ≡ replicate n v ++ (v ∷ [])
 replicate-snoc zero v = refl
 replicate-snoc (suc n) v = ap (λ (l : List ℕ). v ∷ l) (replicate-snoc n v)
-
--- one more of the same value, as a loop's turn stores it
-pub sets-more : (l : List ℕ) (at n v : ℕ) → sets l at (replicate (n + 1) v) ≡ set (sets l at (replicate n v)) (at + n) v
-sets-more l at n v =
-    let e : length (replicate n v) ≡ n = length-replicate n v in
-    rw (add-one, replicate-snoc n v, sets-snoc l at (replicate n v) v, e)
 
 -- ---- how many elements pass a test
 

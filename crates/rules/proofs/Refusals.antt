@@ -96,9 +96,6 @@ first-less (t ∷ ts) us r p e = go (t .holds) e (first-less ts us r p)
 pub refused-first : (ts us : List Test) {r : ℕ} → r ≡ firstOf ts → (r ≡ 0 → ⊥) → r ≡ firstOf (ts ++ us)
 refused-first ts us {r} e ne = sym (first-less ts us r (omega arith) (sym e))
 
-pub refused-next : (ts us : List Test) {r n : ℕ} → numbered ts ≡ true → r ≡ firstOf ts → r ≡ 0 → n ≡ firstOf us → n ≡ firstOf (ts ++ us)
-refused-next ts us {r} {n} k e z h = h ∙ sym (first-more ts us k (sym e ∙ z))
-
 -- ---- what a call leaves
 
 pub refuses : (r : ℕ) (h : Heap) (stack : List ℕ) (acted : Outcome) {n : ℕ} → n ≡ r → 0 < r

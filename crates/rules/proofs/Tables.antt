@@ -309,14 +309,6 @@ pub none-first : (es : List ℕ) (b : ℕ) → 0 < b → ((s : ℕ) → Fits es 
 unfolding Lowest
 none-first es b h nowhere = first-is es b none h nowhere
 
--- no blocks that could hold a block that is not FREE may start
-pub fits-skip : (es : List ℕ) (b s i : ℕ) → ((q : ℕ) → q < s → Fits es b q → ⊥) → i < b → entryAt es (s + i) ≢ FREE → (q : ℕ) → q < s + i + 1 → Fits es b q → ⊥
-fits-skip es b s i lower h taken q l r = go (decLt q s)
-  where
-    go : Dec (q < s) → ⊥
-    go (yes below) = lower q below r
-    go (no above) = let e : q + (s + i - q) ≡ s + i = omega arith in taken (rw e at (r .run .free (s + i - q) (omega arith)))
-
 -- ---- more blocks in place
 
 module _ (es : List ℕ) (k b c : ℕ) where

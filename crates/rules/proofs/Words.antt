@@ -2,7 +2,7 @@
 -- Assumes nothing.
 use mathlib.Core.Path.{_≡_, refl, sym, _∙_}
 use mathlib.Core.Logic.{_≢_}
-use mathlib.Core.List.{List, [], _∷_, _++_}
+use mathlib.Core.List.{List, _++_}
 use Prim.Native.Nat.{ℕ, _+_, _*_, _-_, _/_, _%_, _^_, _≤_, _<_}
 use native.Mathlib.Nat.{div-div-eq-div-mul}
 use native.Mathlib.Decide.{decLt}
@@ -28,20 +28,6 @@ number-bytesOf w h =
     let g : w / 65536 ≡ 256 * (w / 16777216) + w / 65536 % 256 = rw (div-div-eq-div-mul w 65536 256) at (split-off (w / 65536)) in
     let top : w / 16777216 % 256 ≡ w / 16777216 = omega arith in
     rw top (sum-up w (w / 256) (w / 65536) (w / 16777216) (w % 256) (w / 256 % 256) (w / 65536 % 256) (split-off w) f g)
-
--- the bytes of the number in four bytes are those
-pub bytesOf-number : (a b c d : ℕ) → a < 256 → b < 256 → c < 256 → d < 256 → bytesOf (number a b c d) ≡ a ∷ b ∷ c ∷ d ∷ []
-unfolding number bytesOf
-bytesOf-number a b c d ha hb hc hd =
-    let w : ℕ = a + 256 * b + 65536 * c + 16777216 * d in
-    let q : w / 256 ≡ b + 256 * c + 65536 * d = omega arith in
-    let r : w / 65536 ≡ c + 256 * d = omega arith in
-    let t : w / 16777216 ≡ d = omega arith in
-    let e0 : w % 256 ≡ a = omega arith in
-    let e1 : (b + 256 * c + 65536 * d) % 256 ≡ b = omega arith in
-    let e2 : (c + 256 * d) % 256 ≡ c = omega arith in
-    let e3 : d % 256 ≡ d = omega arith in
-    rw (e0, q, e1, r, e2, t, e3)
 
 pub length-bytesOf : (w : ℕ) → length (bytesOf w) ≡ 4
 unfolding bytesOf

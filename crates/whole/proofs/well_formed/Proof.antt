@@ -6,7 +6,7 @@ use mathlib.Core.List.{List, _∷_}
 use Prim.Native.Nat.{ℕ, zero, suc, _+_, _-_, _*_, _/_, _%_, _≤_, _<_, min}
 use native.Mathlib.Decide.{decLt}
 use native.Mathlib.Omega.{arith}
-use lib.Bits.{bitAnd, bitOr, or-lt, or-add-and, or-zero-l, and-le-l, and-le-r}
+use lib.Bits.{bitAnd, bitOr, or-lt, or-zero-l, and-le-l}
 use lib.Dec.{eqb}
 use lib.ListN.{length, getD}
 use borrow.Author.Needs.{needs}
@@ -19,7 +19,7 @@ use Rattle.rules.specs.Planes.{entriesIn}
 use Rattle.rules.proofs.Refusals.{true-not-false}
 use Rattle.rules.proofs.Lists.{one}
 use Rattle.rules.proofs.Tables.{entry-outside, may-at, may-all}
-use Rattle.rules.proofs.Bits.{bitOf-lt, bitOf-first, bitOf-suc, bitOf-zero, bitOf-and, bitOf-or, bitOf-not, bitOf-mod, bitOf-shl, bitOf-below, bits-same}
+use Rattle.rules.proofs.Bits.{or-none, bitOf-lt, bitOf-first, bitOf-suc, bitOf-zero, bitOf-and, bitOf-or, bitOf-not, bitOf-mod, bitOf-shl, bitOf-below, bits-same}
 use Rattle.rules.proofs.Planes.{length-entriesIn, room-entries, entry-clean}
 use Rattle.whole.proofs.Lanes.{two-bits, used-bit}
 use Rattle.whole.proofs.Places.{entry-in}
@@ -74,9 +74,6 @@ found-end es bad before i all f = go (wellFormed es) refl
     go false w = ne-eqb bad 0 (λ z. true-not-false (may-all FREE es (λ k h. f .sound z k (omega arith))) w)
 
 -- ---- a turn
-
-or-none : (a b : ℕ) → bitOr a b ≡ 0 → (a ≡ 0) × (b ≡ 0)
-or-none a b z = (omega (arith, or-add-and a b, and-le-r a b), omega (arith, or-add-and a b, and-le-l a b))
 
 none-or : (a b : ℕ) → a ≡ 0 → b ≡ 0 → bitOr a b ≡ 0
 none-or a b p q = rw (p, q) (or-zero-l 0)
