@@ -51,7 +51,7 @@
  *   low bit       0      1      0      1
  *   high bit      0      0      1      1
  *
- * MARK is what a collection works with. No call leaves one in a table.
+ * MARK is what a collection works with. No accepted call leaves one.
  *
  * Where t is odd, the upper four bits of the last byte of each plane are of no
  * block. These spare bits must be 0, and are 0 after every accepted call.
