@@ -129,7 +129,7 @@ pool-size (Load base k i) stack h other = sized base h (first-not _ _ _ (load-re
 pool-size (Store base k i w) stack h other = sized base h (first-not _ _ _ (store-refusal base h k i w) other)
 
 -- so 64 for each of t
-pool-of : (t : ℕ) (c : Call) (stack : List ℕ) (m : Memory) → perform (planes t) c stack m .answer .refusal ≢ 1 → length (m .pool) ≡ 64 * t
+pub pool-of : (t : ℕ) (c : Call) (stack : List ℕ) (m : Memory) → perform (planes t) c stack m .answer .refusal ≢ 1 → length (m .pool) ≡ 64 * t
 pool-of t c stack m other =
     let own : step c stack (heapIn (planes t) m) .answer .refusal ≢ 1 = λ e. first-not _ _ _ (number (planes t) c stack m) other (inl e) in
     omega (arith, pool-size c stack (heapIn (planes t) m) own, length-entriesIn t (m .table))

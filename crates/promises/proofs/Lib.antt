@@ -9,6 +9,7 @@ pub mod Storing
 pub mod Collecting
 pub mod Planes
 pub mod Bytes
+pub mod OtherT
 pub mod Promised
 pub mod Determined
 pub mod Whole

@@ -23,20 +23,23 @@ use Rattle.rules.specs.Refusals.{firstOf, goodShape, wholeWords}
 use Rattle.rules.specs.Reach.{Reachable, root, edge}
 use Rattle.rules.specs.Marking.{pushed, visitTo, visit, walkWords, walk, drainFor, drain, trace, rootTo, markRoot, markRoots, passBlock, passFrom, pass, rescanFor, rescan, markAll, sweptEntry, freeingAfter, sweepFrom, sweep}
 use Rattle.rules.specs.Calls.{blocksFor, taken, placing, init, allocate, freed, free, shrunk, grown, moved, movesTo, wayToGrow, wayTo, along, reallocate, collecting, collect, survey, load, store}
-use Rattle.rules.specs.Runs.{Call, Init, Allocate, Free, Reallocate, Collect, Survey, step}
+use Rattle.rules.specs.Runs.{Call, Init, Allocate, Free, Reallocate, Collect, Survey, Load, Store, step, answers}
 use Rattle.rules.specs.Planes.{planeBytes, entryIn, entriesIn, spare, spareFree, planes}
-use Rattle.rules.specs.Memory.{memory, Sound, result, AcceptedIn, perform}
+use Rattle.rules.specs.Memory.{memory, Sound, result, AcceptedIn, perform, afterIn}
 use Rattle.rules.proofs.Planes.{length-entriesIn}
+use Rattle.rules.proofs.Memory.{answers-in}
 use Rattle.rules.proofs.Tables.{first-lowest, longest-says, le-run, well-says, extent-of}
 use Rattle.rules.proofs.Pointers.{into-used}
 use Rattle.rules.proofs.Marking.{head-inside}
 use Rattle.promises.specs.Conditions.{First, RoomAfter, ofAllocate, ofFree, ofReallocate, ofCollect, ofWord}
 use Rattle.promises.specs.Promises.{Object, blocksOf, Surveyed}
+use Rattle.promises.specs.OtherT.{TurnAt, turnAt, afterAt, answersAt, ofT, othersRefused}
 use Rattle.promises.specs.Samples.{sampleBase, sampleTable, samplePool, sampleHeap, sampleMemory, sampleRoots, sampleStack}
 use Rattle.promises.proofs.Promised.{promises}
 use Rattle.promises.proofs.Bytes.{on-bytes}
+use Rattle.promises.proofs.OtherT.{other-t-is-refused}
 use Rattle.promises.proofs.Determined.{start-one, surveyed-one}
-use Rattle.promises.proofs.Observed.{Sums, allocate-number, free-number, reallocate-number, collect-number, store-number, refusals-alike, init-shape, init-bad-shape, target-one, lead-one, allocate-loads, free-loads, reallocate-loads, store-loads, collect-loads, new-zero, new-beyond, again-kept, again-zero, again-beyond, allocate-sums, free-sums, reallocate-sums, collect-sums, init-none-used, collect-less, free-again, allocate-survey, allocate-short, reallocate-survey, equal-then}
+use Rattle.promises.proofs.Observed.{Sums, allocate-number, free-number, reallocate-number, collect-number, store-number, refusals-alike, init-shape, init-bad-shape, target-one, lead-one, allocate-loads, free-loads, reallocate-loads, store-loads, collect-loads, new-zero, new-beyond, again-kept, again-zero, again-beyond, allocate-sums, free-sums, reallocate-sums, collect-sums, init-none-used, collect-less, free-again, allocate-survey, allocate-short, reallocate-survey, equal-then, store-answer}
 
 -- ---- what is computed
 
@@ -280,6 +283,30 @@ stored-other = promises .stored base h 2 11 4294967295 (computed .stores) .other
 
 pub stored-beside : load base (store base h 2 11 4294967295 .heap) 7 3 .answer ≡ loaded 2596069104
 stored-beside = store-loads base h good 2 11 4294967295 (computed .stores) 7 (computed .heads .2) (λ e. omega arith) 3 ∙ computed .last-7
+
+-- ---- calls that are given another t
+
+-- after the store a free with a t of 4, which has as many table bytes, and an init with the largest t: the word is still there
+abbrev turns : List TurnAt
+turns = turnAt 3 (Store base 2 11 4294967295) [] ∷ turnAt 4 (Free base 2) [] ∷ turnAt 18446744073709551615 (Init base) [] ∷ turnAt 3 (Load base 2 11) [] ∷ []
+
+pub turns-answers : answersAt turns sampleMemory ≡ onlyRefusal 0 ∷ onlyRefusal 1 ∷ onlyRefusal 1 ∷ loaded 4294967295 ∷ []
+unfolding ofT othersRefused answers step
+turns-answers =
+    other-t-is-refused .answers 3 sampleMemory turns (computed .shape .size)
+    ∙ ap (othersRefused 3 turns)
+    (answers-in (planes 3) (on-bytes .planes-faithful 3) (ofT 3 turns) sampleMemory (computed .sound)
+    ∙ ap (λ (a : Answer). a ∷ load base (store base h 2 11 4294967295 .heap) 2 11 .answer ∷ []) (store-answer base h 2 11 4294967295 (computed .stores))
+    ∙ ap (λ (a : Answer). onlyRefusal 0 ∷ a ∷ []) stored-back)
+
+-- the two alone leave every byte
+pub turns-bytes : afterAt (turnAt 4 (Free base 2) [] ∷ turnAt 18446744073709551615 (Init base) [] ∷ []) sampleMemory ≡ sampleMemory
+unfolding ofT afterIn
+turns-bytes = other-t-is-refused .bytes 3 sampleMemory (turnAt 4 (Free base 2) [] ∷ turnAt 18446744073709551615 (Init base) [] ∷ []) (computed .shape .size)
+
+-- and 1 comes before 4, which a mark stack of 65 entries is: it stays as it is
+pub turns-stack : perform (planes 4) (Collect base sampleRoots) (sampleStack 260) sampleMemory ≡ result (onlyRefusal 1) sampleMemory (sampleStack 260)
+turns-stack = other-t-is-refused .one-call 3 4 (Collect base sampleRoots) (sampleStack 260) sampleMemory (computed .shape .size) (λ e. omega (arith, e))
 
 -- ---- survey, and room
 

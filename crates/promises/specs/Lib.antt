@@ -3,4 +3,5 @@ pub mod Promises
 pub mod Bytes
 pub mod Determined
 pub mod Alignment
+pub mod OtherT
 pub mod Samples

@@ -1,0 +1,57 @@
+-- Calls that are given another t than the heap's. A pool of 64 * t bytes is a heap's with this t alone: every call that is given another is refused by 1, and the calls around it
+-- do not notice. So what is said of lists of calls that are all given one t says as much of lists in which each call is given any t.
+-- Assumes nothing.
+use mathlib.Core.Path.{_≡_}
+use mathlib.Core.Logic.{_≢_}
+use mathlib.Core.List.{List, [], _∷_}
+use Prim.Native.Nat.{ℕ, _*_}
+use lib.Dec.{eqb}
+use lib.ListN.{length}
+use Rattle.rules.specs.Tests.{pick}
+use Rattle.rules.specs.Outcomes.{Answer, onlyRefusal}
+use Rattle.rules.specs.Runs.{Call, Turn}
+use Rattle.rules.specs.Planes.{planes}
+use Rattle.rules.specs.Memory.{Memory, Result, result, stackFor, perform, turnIn, afterIn, answersIn}
+
+-- a call, the mark stack that is lent to it, and the t that it is given
+pub record TurnAt : Type 0 where
+  pub t : ℕ
+  pub turn : Turn
+
+abbrev pub turnAt : ℕ → Call → List ℕ → TurnAt
+turnAt t c stack = record { t = t; turn = record { call = c; stack = stack } }
+
+-- the call with its own t
+abbrev pub performAt : TurnAt → Memory → Result
+performAt x m = turnIn (planes (x .t)) (x .turn) m
+
+-- the memory after the calls
+unfoldable pub afterAt : List TurnAt → Memory → Memory
+afterAt [] m = m
+afterAt (x ∷ xs) m = afterAt xs (performAt x m .memory)
+
+-- the answers, in order
+unfoldable pub answersAt : List TurnAt → Memory → List Answer
+answersAt [] m = []
+answersAt (x ∷ xs) m = performAt x m .answer ∷ answersAt xs (performAt x m .memory)
+
+-- the calls that are given this t, in order
+unfoldable pub ofT : ℕ → List TurnAt → List Turn
+ofT t [] = []
+ofT t (x ∷ xs) = pick (eqb (x .t) t) (x .turn ∷ ofT t xs) (ofT t xs)
+
+-- what was answered to the calls that are given this t, each at its place, and refusal 1 at the place of every other
+unfoldable pub othersRefused : ℕ → List TurnAt → List Answer → List Answer
+othersRefused t [] given = []
+othersRefused t (x ∷ xs) [] = onlyRefusal 1 ∷ othersRefused t xs []
+othersRefused t (x ∷ xs) (a ∷ given) = pick (eqb (x .t) t) (a ∷ othersRefused t xs given) (onlyRefusal 1 ∷ othersRefused t xs (a ∷ given))
+
+pub record OtherTIsRefused : Type 0 where
+  -- a call that is given another t is refused by 1, whatever the table holds and however long it is, and leaves every byte
+  pub one-call : (t t′ : ℕ) (c : Call) (stack : List ℕ) (m : Memory) → length (m .pool) ≡ 64 * t → t′ ≢ t
+      → perform (planes t′) c stack m ≡ result (onlyRefusal 1) m (stackFor c stack)
+  -- In a list of calls the others are answered as if such calls were not there, and leave the same bytes. With this every statement over lists of calls at one t, such as
+  -- Noninterference and AnswersAsList, says as much of lists in which calls are given any t: it holds of those that are given the heap's, and the rest are refused.
+  pub answers : (t : ℕ) (m : Memory) (xs : List TurnAt) → length (m .pool) ≡ 64 * t
+      → answersAt xs m ≡ othersRefused t xs (answersIn (planes t) (ofT t xs) m)
+  pub bytes : (t : ℕ) (m : Memory) (xs : List TurnAt) → length (m .pool) ≡ 64 * t → afterAt xs m ≡ afterIn (planes t) (ofT t xs) m
