@@ -9,6 +9,7 @@ use Rattle.promises.proofs.Promised.{promises}
 use Rattle.promises.proofs.Determined.{determined}
 use Rattle.promises.proofs.Whole.{whole}
 use Rattle.promises.proofs.Alignment.{new-objects-aligned, aligned-from-init}
+use Rattle.promises.proofs.OtherT.{other-t-is-refused}
 use Rattle.algebra.proofs.Algebra.{frees-commute, roots-are-a-set, roots-join, collect-idempotent}
 use Rattle.runs.proofs.Noninterference.{noninterference}
 use Rattle.plain.proofs.Refinement.{answers-as-list}
@@ -30,6 +31,7 @@ guarantees = record {
   entry-points = entry-points;
   on-bytes = on-bytes;
   as-packed = as-packed;
+  other-t-is-refused = other-t-is-refused;
   promises = promises;
   determined = determined;
   whole = whole;

@@ -13,6 +13,7 @@ use Rattle.promises.specs.Bytes.{OnBytes, AsPacked}
 use Rattle.promises.specs.Promises.{Promises}
 use Rattle.promises.specs.Determined.{Determined, Whole}
 use Rattle.promises.specs.Alignment.{NewObjectsAligned, AlignedFromInit}
+use Rattle.promises.specs.OtherT.{OtherTIsRefused}
 use Rattle.algebra.specs.Algebra.{FreesCommute, RootsAreASet, RootsJoin, CollectIdempotent}
 use Rattle.runs.specs.Noninterference.{Noninterference}
 use Rattle.plain.specs.Refines.{AnswersAsList, ListKeepsReachable, UsedIsSum}
@@ -35,6 +36,9 @@ pub record Guarantees : Type 2 where
   pub on-bytes : OnBytes
   -- Every call answers as it does on a packed table, and leaves the same entries.
   pub as-packed : AsPacked
+  -- A call that is given another t than the heap's is refused by 1 and leaves every byte, and in a list of calls the others are answered as if it were not there: so the
+  -- statements over lists of calls at one t hold of lists in which calls are given any t.
+  pub other-t-is-refused : OtherTIsRefused
   -- Each call of the rules: by which number it is refused, that it then changes nothing, and what it does otherwise.
   pub promises : Promises
   -- That leaves one outcome: the same answer, the same entries and the same bytes; and no call changes the size of the heap.
