@@ -1,5 +1,5 @@
 // The allocation table: two bit planes for 4t blocks, the low bits of all entries and then their high bits, eight blocks to a byte.
-// Only this crate and `whole` know how entries lie in bytes.
+// Only this crate and `whole` know where an entry's bits lie.
 ghost use mathlib.Core.Path.{_≡_};
 ghost use mathlib.Core.List.{List};
 ghost use Prim.Native.Nat.{ℕ, _+_, _*_, _≤_, _<_};
@@ -46,12 +46,12 @@ pub fn fits(t: usize, table: &[u8]) -> bool
     table.len() == 2 * plane_bytes(t)
 }
 
-// Bit j of a byte.
+// Bit j of a byte. Of a wider number the compiler tests it in one step.
 fn bit(b: u8, j: usize) -> u8
     requires { ⌜ j < 8 ⌝ }
     ensures { λ r. ⌜ r ≡ bitOf b j ⌝ }
 {
-    (b >> j) & 1
+    ((b as u32 >> j) & 1) as u8
 }
 
 // The entry of block k.
