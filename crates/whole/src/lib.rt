@@ -1,7 +1,7 @@
 // The whole table at once: a byte of both planes in a turn, which is eight blocks, or eight bytes, and no early exit. Beside `entries` only this crate
 // knows how entries lie in bytes.
 ghost use mathlib.Core.Path.{_≡_};
-ghost use Prim.Native.Nat.{ℕ, _+_, _*_, _≤_, _<_};
+ghost use Prim.Native.Nat.{_+_, _*_, _≤_, _<_};
 ghost use lib.ListN.{length};
 ghost use Rattle.rules.specs.Tables.{used, objects, wellFormed};
 ghost use Rattle.rules.specs.Marking.{sweep as sweepOf};
