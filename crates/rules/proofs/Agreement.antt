@@ -15,7 +15,7 @@ use Rattle.rules.specs.Runs.{Call, step}
 use Rattle.rules.specs.Memory.{Memory, memory, heapIn, Sound, Result, turnIn, perform, afterIn, answersIn, filledIn}
 use Rattle.rules.specs.Planes.{planeBytes, entriesIn, planesOf, planes}
 use Rattle.rules.specs.Agreement.{inPlanes, resultInPlanes, CallInPlanes, RunInPlanes, withEntry, HoldSame, WritingAgrees, CallsAlike, RunsAlike, FormsAgree}
-use Rattle.rules.proofs.Memory.{Written, kept-by, after-written, follows-sound, sound-next, packed-faithful, packed-sound, none-filled, table-fits}
+use Rattle.rules.proofs.Memory.{Written, kept-by, after-written, follows-sound, sound-next, packed-faithful, packed-sound, table-fits}
 use Rattle.rules.proofs.Sizes.{small-set}
 use Rattle.rules.proofs.Entries.{length-entriesOf, entriesOf-lt, entriesOf-tableOf}
 use Rattle.rules.proofs.Planes.{length-entriesIn, length-planesOf, read-planes, planes-clean, planes-faithful}
@@ -64,7 +64,7 @@ module _ (f g : Form) (faithful : Faithful f) (faithful′ : Faithful g) where
       record {
         answer = x .answer ∙ ap (λ (o : Outcome). o .answer) o ∙ sym (y .answer);
         stack = x .stack ∙ ap (λ (o : Outcome). o .stack) o ∙ sym (y .stack);
-        filled = none-filled f c stack m ∙ sym (none-filled g c stack m′);
+        filled = x .filled ∙ ap (λ (o : Outcome). o .filled) o ∙ sym (y .filled);
         memory =
             hold-same (perform f c stack m .memory) (perform g c stack m′ .memory) (sound-next f faithful c stack m (h .sound)) (sound-next g faithful′ c stack m′ (h .sound′))
             (ap (λ (h : Heap). h .pool) left) (ap (λ (h : Heap). h .entries) left);

@@ -74,13 +74,13 @@ entries-byte a b c d ha hb hc hd j hj =
     four (λ (j : ℕ). (a + 4 * b + 16 * c + 64 * d) / 4 ^ j % 4 ≡ getD (a ∷ b ∷ c ∷ d ∷ []) j 0) (omega arith) (omega arith) (omega arith) (omega arith) j hj
 
 -- four entries to a byte
-pub length-tableOf : (es : List ℕ) → length es % 4 ≡ 0 → 4 * length (tableOf es) ≡ length es
+pub length-tableOf : (es : List ℕ) → length (tableOf es) ≡ length es / 4
 unfolding tableOf
-length-tableOf [] m = refl
-length-tableOf (a ∷ []) m = absurd (omega arith)
-length-tableOf (a ∷ b ∷ []) m = absurd (omega arith)
-length-tableOf (a ∷ b ∷ c ∷ []) m = absurd (omega arith)
-length-tableOf (a ∷ b ∷ c ∷ d ∷ es) m = let r = length-tableOf es (omega arith) in omega arith
+length-tableOf [] = refl
+length-tableOf (a ∷ []) = omega arith
+length-tableOf (a ∷ b ∷ []) = omega arith
+length-tableOf (a ∷ b ∷ c ∷ []) = omega arith
+length-tableOf (a ∷ b ∷ c ∷ d ∷ es) = let r = length-tableOf es in omega arith
 
 pub entriesOf-tableOf : (es : List ℕ) → length es % 4 ≡ 0 → ((k : ℕ) → getD es k 0 < 4) → entriesOf (tableOf es) ≡ es
 unfolding entriesOf tableOf

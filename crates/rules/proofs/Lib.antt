@@ -14,6 +14,7 @@ pub mod Marks
 pub mod Matching
 pub mod Pointers
 pub mod Pools
+pub mod Images
 pub mod Twice
 pub mod Used
 pub mod Sizes

@@ -12,9 +12,9 @@ use Rattle.rules.specs.Tests.{pick, both, either}
 use Rattle.rules.specs.Forms.{Form, packed, Faithful}
 use Rattle.rules.specs.Outcomes.{Heap, Answer, Outcome, onlyRefusal, leavesWith, unlessRefused}
 use Rattle.rules.specs.Refusals.{Test, firstOf}
-use Rattle.rules.specs.Calls.{init, placing, allocate, free, Way, stay, shrink, grow, move, noWay, along, reallocate, collecting, collect, survey, load, store}
-use Rattle.rules.specs.Runs.{Call, Init, Allocate, Free, Reallocate, Collect, Survey, Load, Store, step, Turn, after, answers}
-use Rattle.rules.specs.Memory.{Memory, lengthsFit, SameBeside, Sound, heapIn, holding, doneIn, Result, result, AcceptedIn, stackFor, readsTable, testsIn, orRefused, perform, turnIn, afterIn, answersIn}
+use Rattle.rules.specs.Calls.{init, placing, allocate, free, Way, stay, shrink, grow, move, noWay, along, reallocate, collecting, collect, survey, load, store, writeImage}
+use Rattle.rules.specs.Runs.{Call, Init, Allocate, Free, Reallocate, Collect, Survey, Load, Store, WriteImage, step, Turn, after, answers, fillings}
+use Rattle.rules.specs.Memory.{Memory, lengthsFit, SameBeside, Sound, heapIn, holding, doneIn, Result, result, AcceptedIn, stackFor, readsTable, testsIn, orRefused, perform, turnIn, afterIn, answersIn, filledIn}
 use Rattle.rules.specs.Meaning.{AllBytes}
 use Rattle.rules.proofs.Entries.{length-entriesOf, length-tableOf, entriesOf-lt, tableOf-entriesOf, entriesOf-tableOf}
 use Rattle.rules.proofs.Refusals.{both-false, both-left, both-right, not-false, numbered, first-more, first-less}
@@ -40,7 +40,7 @@ ended-along (move s) h k b c = accepted refl
 ended-along noWay h k b c = refused 8 refl
 
 pub step-ended : (c : Call) (stack : List ℕ) (h : Heap) → Ended h (stackFor c stack) (step c stack h)
-unfolding step init allocate free reallocate collect survey load store placing collecting
+unfolding step init allocate free reallocate collect survey load store writeImage placing collecting
 step-ended (Init base) stack h = ended-unless _ h [] (accepted refl)
 step-ended (Allocate base bytes) stack h = ended-unless _ h [] (accepted refl)
 step-ended (Free base k) stack h = ended-unless _ h [] (accepted refl)
@@ -49,6 +49,7 @@ step-ended (Collect base roots) stack h = ended-unless _ h stack (accepted refl)
 step-ended (Survey base) stack h = ended-unless _ h [] (accepted refl)
 step-ended (Load base k i) stack h = ended-unless _ h [] (accepted refl)
 step-ended (Store base k i w) stack h = ended-unless _ h [] (accepted refl)
+step-ended (WriteImage base roots room) stack h = ended-unless _ h [] (accepted refl)
 
 -- ---- the tests on memory
 
@@ -151,7 +152,7 @@ packed-faithful = record {
   write-read = λ t bytes _ _. tableOf-entriesOf t bytes;
   read-write = λ t es _ long small. entriesOf-tableOf es (omega (arith, long, length-entriesOf t)) small;
   write-fits = λ t es _ _. refl;
-  write-long = λ t es _ long. omega (arith, long, length-entriesOf t, length-tableOf es (omega (arith, long, length-entriesOf t)));
+  write-long = λ t es _ long. omega (arith, long, length-entriesOf t, length-tableOf es);
   write-clean = λ t es _ _. refl;
 }
 
@@ -164,6 +165,7 @@ pub record Follows (f : Form) (r : Result) (o : Outcome) : Type 0 where
   pub answer : r .answer ≡ o .answer
   pub heap : heapIn f (r .memory) ≡ o .heap
   pub stack : r .stack ≡ o .stack
+  pub filled : r .filled ≡ o .filled
   -- if it is accepted, the table is as the form asks, and is what its entries are written as
   pub sound : AcceptedIn r → Sound f (r .memory)
   pub written : AcceptedIn r → Written f (r .memory)
@@ -190,11 +192,12 @@ module _ (f : Form) (faithful : Faithful f) (c : Call) (stack : List ℕ) (m : M
             answer = refl;
             heap = rw back refl;
             stack = refl;
+            filled = refl;
             sound = λ _. record { fits = still-fit f faithful c m (there .heap) fits (kept .long); clean = faithful .write-clean (m .table) _ (table-fits f m fits) (kept .long) };
             written = λ _. rw back refl;
           })
       go (refused r q) =
-          rw (perform-refused f c stack m fits clean r q, q) (record { answer = refl; heap = refl; stack = refl; sound = λ z. absurd (omega arith); written = λ z. absurd (omega arith) })
+          rw (perform-refused f c stack m fits clean r q, q) (record { answer = refl; heap = refl; stack = refl; filled = refl; sound = λ z. absurd (omega arith); written = λ z. absurd (omega arith) })
 
 -- an accepted call does, whether or not the table was clean before
 pub follows-accepted : (f : Form) → Faithful f → (c : Call) (stack : List ℕ) (m : Memory) → AcceptedIn (perform f c stack m)
@@ -218,18 +221,6 @@ performed f c stack m = go (firstOf (testsIn f c m (o .answer .refusal))) refl
         → Performed m (stackFor c stack) (orRefused n m (stackFor c stack) (doneIn f c stack m))
     go zero e = acted (tests-passed f c m (o .answer .refusal) e .own)
     go (suc r) e = left r refl
-
--- no call fills one
-pub none-filled : (f : Form) (c : Call) (stack : List ℕ) (m : Memory) → perform f c stack m .filled ≡ []
-unfolding perform orRefused
-none-filled f c stack m = go (firstOf (testsIn f c m (o .answer .refusal)))
-  where
-    o : Outcome
-    o = step c stack (heapIn f m)
-
-    go : (n : ℕ) → orRefused n m (stackFor c stack) (doneIn f c stack m) .filled ≡ []
-    go zero = refl
-    go (suc r) = refl
 
 -- ---- lists of calls
 
@@ -260,6 +251,13 @@ module _ (f : Form) (faithful : Faithful f) where
   answers-in (t ∷ ts) m s =
       let x = follows-sound (t .call) (t .stack) m s in
       rw (x .answer, answers-in ts (turnIn f t m .memory) (sound-next (t .call) (t .stack) m s), x .heap)
+
+  pub filled-in : (ts : List Turn) (m : Memory) → Sound f m → filledIn f ts m ≡ fillings ts (heapIn f m)
+  unfolding filledIn fillings
+  filled-in [] m s = refl
+  filled-in (t ∷ ts) m s =
+      let x = follows-sound (t .call) (t .stack) m s in
+      rw (x .filled, filled-in ts (turnIn f t m .memory) (sound-next (t .call) (t .stack) m s), x .heap)
 
   pub after-in : (ts : List Turn) (m : Memory) → Sound f m → heapIn f (afterIn f ts m) ≡ after ts (heapIn f m)
   unfolding afterIn after

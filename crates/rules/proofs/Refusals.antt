@@ -12,7 +12,7 @@ use Rattle.rules.specs.Tests.{pick, both}
 use Rattle.rules.specs.Pointers.{addressOf, goodBase}
 use Rattle.rules.specs.Entries.{HEAD}
 use Rattle.rules.specs.Tables.{entryAt, wellFormed}
-use Rattle.rules.specs.Outcomes.{Heap, Outcome, onlyRefusal, unlessRefused}
+use Rattle.rules.specs.Outcomes.{Heap, Outcome, onlyRefusal, leavesWith, unlessRefused}
 use Rattle.rules.specs.Refusals.{Test, firstOf, goodShape, wholeWords, goodLists, badShape, illFormed, firstTests, heapTests, nameTests, noBytes, outside, noHead}
 use Rattle.rules.specs.Meaning.{Shape, Passed, Named, Accepted}
 
@@ -99,7 +99,7 @@ refused-first ts us {r} e ne = sym (first-less ts us r (omega arith) (sym e))
 -- ---- what a call leaves
 
 pub refuses : (r : ℕ) (h : Heap) (stack : List ℕ) (acted : Outcome) {n : ℕ} → n ≡ r → 0 < r
-    → unlessRefused n h stack acted ≡ record { answer = onlyRefusal r; heap = h; stack = stack }
+    → unlessRefused n h stack acted ≡ leavesWith (onlyRefusal r) h stack
 unfolding unlessRefused
 refuses zero h stack acted e p = absurd (omega arith)
 refuses (suc r) h stack acted e p = rw e

@@ -15,8 +15,8 @@ use Rattle.rules.specs.Tables.{entryAt, placed, released, extended}
 use Rattle.rules.specs.Forms.{Small}
 use Rattle.rules.specs.Outcomes.{Heap, Answer, Outcome, onlyRefusal, leavesWith, unlessRefused}
 use Rattle.rules.specs.Marking.{Context, State, state, walk, trace, markRoot, markRoots, passBlock, pass, markAll, sweptEntry, freeingAfter, sweepFrom, sweep}
-use Rattle.rules.specs.Calls.{init, taken, placing, allocate, freed, free, Way, stay, shrink, grow, move, noWay, shrunk, grown, moved, along, reallocate, collecting, collect, survey, load, store}
-use Rattle.rules.specs.Runs.{Call, Init, Allocate, Free, Reallocate, Collect, Survey, Load, Store, step}
+use Rattle.rules.specs.Calls.{init, taken, placing, allocate, freed, free, Way, stay, shrink, grow, move, noWay, shrunk, grown, moved, along, reallocate, collecting, collect, survey, load, store, writeImage}
+use Rattle.rules.specs.Runs.{Call, Init, Allocate, Free, Reallocate, Collect, Survey, Load, Store, WriteImage, step}
 use Rattle.rules.proofs.Words.{length-withWord}
 use Rattle.rules.proofs.Pools.{cleared-length, moved-length}
 use Rattle.rules.proofs.Marking.{Rooted, idle, takes, rooted, Passed, skips, walks, passed, drain-keeps, pass-keeps, rescan-keeps, Sane, sane-start, sane-pop, sane-walk, sweep-length}
@@ -139,7 +139,7 @@ keeps-along (move s) h k b c =
 keeps-along noWay h k b c = keeps-all h _ []
 
 pub step-keeps : (c : Call) (stack : List ℕ) (h : Heap) → Keeps h (step c stack h)
-unfolding step init allocate free reallocate collect survey load store placing taken freed collecting sweep
+unfolding step init allocate free reallocate collect survey load store writeImage placing taken freed collecting sweep
 step-keeps (Init base) stack h =
     keeps-unless _ h []
     (record { entries = record { long = length-replicate {A = ℕ} (length (h .entries)) FREE; small = λ s. small-all (length (h .entries)) FREE (omega arith) }; bytes = refl })
@@ -152,3 +152,4 @@ step-keeps (Collect base roots) stack h =
 step-keeps (Survey base) stack h = keeps-unless _ h [] (keeps-all h _ [])
 step-keeps (Load base k i) stack h = keeps-unless _ h [] (keeps-all h _ [])
 step-keeps (Store base k i w) stack h = keeps-unless _ h [] (record { entries = kept-same (h .entries); bytes = length-withWord (h .pool) (4 * k + i) w })
+step-keeps (WriteImage base roots room) stack h = keeps-unless _ h [] (record { entries = kept-same (h .entries); bytes = refl })

@@ -1,7 +1,8 @@
--- Each call but a collection, made on two pools that match under one table: the same answer, the same table, and pools that match again.
+-- Each call but a collection, made on two pools that match under one table: the same answer, the same table, the same bytes in a buffer, and pools that match again.
 -- Whether a call is refused is told by the table, the lengths and the arguments alone.
 -- Assumes nothing.
 use mathlib.Core.Path.{_≡_, refl, ap, _∙_}
+use mathlib.Core.Logic.{_≢_}
 use mathlib.Core.List.{List, [], _∷_, _++_}
 use Prim.Native.Nat.{ℕ, zero, suc, _+_, _*_, _-_, _/_, _<_}
 use native.Mathlib.Omega.{arith}
@@ -12,14 +13,16 @@ use borrow.Author.Tests.{leb-false}
 use Rattle.rules.specs.Words.{bytesOf, wordAt, withWord}
 use Rattle.rules.specs.Entries.{FREE}
 use Rattle.rules.specs.Tables.{entryAt, blockCount, placed, released}
-use Rattle.rules.specs.Outcomes.{Heap, Outcome, onlyRefusal, loaded, unlessRefused, clearedBlocks}
+use Rattle.rules.specs.Outcomes.{Heap, Outcome, onlyRefusal, loaded, leavesWith, unlessRefused, clearedBlocks}
 use Rattle.rules.specs.Refusals.{firstOf, goodShape, noWord, wordTests}
-use Rattle.rules.specs.Calls.{blocksFor, init, taken, placing, allocate, freed, free, Way, stay, shrink, grow, move, noWay, shrunk, grown, moved, wayTo, along, reallocate, survey, load, store}
+use Rattle.rules.specs.Calls.{blocksFor, init, taken, placing, allocate, freed, free, Way, stay, shrink, grow, move, noWay, shrunk, grown, moved, wayTo, along, reallocate, survey, load, store, writeImage}
 use Rattle.rules.proofs.Tables.{extent-of, extent-used}
 use Rattle.rules.proofs.Changes.{placed-out, extended-out}
 use Rattle.rules.specs.Meaning.{Passed, Named}
 use Rattle.rules.proofs.Refusals.{first-none, passed, asked, named-object, named-resize, after-names}
 use Rattle.rules.proofs.Calls.{blocks-some}
+use Rattle.rules.specs.Images.{blockBytes, imageOf}
+use Rattle.rules.proofs.Images.{used-same}
 use Rattle.rules.proofs.Matching.{SameByte, Matching, match-run, match-cleared, match-fewer, match-same}
 
 abbrev pub heap : List ℕ → List ℕ → Heap
@@ -29,11 +32,12 @@ heap pool es = record { pool = pool; entries = es }
 pub record Twin (x y : Outcome) : Type 0 where
   pub answer : x .answer ≡ y .answer
   pub table : x .heap .entries ≡ y .heap .entries
+  pub filled : x .filled ≡ y .filled
   pub match : Matching (x .heap .entries) (x .heap .pool) (y .heap .pool)
 
 -- the same refusal number: both calls are refused by it, or both act
 pub unless-both : (R : Outcome → Outcome → Type 0) (n : ℕ) {h h′ : Heap} {lent lent′ : List ℕ} {x y : Outcome}
-    → ((r : ℕ) → R (record { answer = onlyRefusal r; heap = h; stack = lent }) (record { answer = onlyRefusal r; heap = h′; stack = lent′ }))
+    → ((r : ℕ) → R (leavesWith (onlyRefusal r) h lent) (leavesWith (onlyRefusal r) h′ lent′))
     → (n ≡ 0 → R x y) → R (unlessRefused n h lent x) (unlessRefused n h′ lent′ y)
 unfolding unlessRefused
 unless-both R zero refused acted = acted refl
@@ -79,21 +83,21 @@ module _ (base : ℕ) (es p q : List ℕ) (a : Matching es p q) where
   shape : goodShape base h ≡ goodShape base h′
   shape = shape-same base es p q (a .long)
 
-  refused : (r : ℕ) → Twin (record { answer = onlyRefusal r; heap = h; stack = [] }) (record { answer = onlyRefusal r; heap = h′; stack = [] })
-  refused r = record { answer = refl; table = refl; match = a }
+  refused : (r : ℕ) → Twin (leavesWith (onlyRefusal r) h []) (leavesWith (onlyRefusal r) h′ [])
+  refused r = record { answer = refl; table = refl; filled = refl; match = a }
 
   pub twin-init : Twin (init base h) (init base h′)
   unfolding init
   twin-init =
       rw shape
       (unless-both Twin _ refused
-      (λ z. record { answer = refl; table = refl; match = match-fewer _ a (λ k e. all-free (length es) k) }))
+      (λ z. record { answer = refl; table = refl; filled = refl; match = match-fewer _ a (λ k e. all-free (length es) k) }))
 
   -- a new object: all its blocks are cleared in both pools
   twin-taken : (s b : ℕ) → 0 < b → Twin (placing h s (taken h s b)) (placing h′ s (taken h′ s b))
   unfolding placing taken
   twin-taken s b some-block =
-      record { answer = refl; table = refl; match = match-cleared _ s _ a (λ k. placed-out es s b k some-block) }
+      record { answer = refl; table = refl; filled = refl; match = match-cleared _ s _ a (λ k. placed-out es s b k some-block) }
 
   pub twin-allocate : (bytes : ℕ) → Twin (allocate base h bytes) (allocate base h′ bytes)
   unfolding allocate
@@ -105,7 +109,7 @@ module _ (base : ℕ) (es p q : List ℕ) (a : Matching es p q) where
   twin-free k =
       rw shape
       (unless-both Twin _ refused
-      (λ z. record { answer = refl; table = refl; match = match-fewer _ a (released-free es k (blockCount es k)) }))
+      (λ z. record { answer = refl; table = refl; filled = refl; match = match-fewer _ a (released-free es k (blockCount es k)) }))
 
   -- the bytes of an object are the same in both pools
   object-same : (k : ℕ) → Named h′ k → take (16 * blockCount es k) (drop (16 * k) p) ≡ take (16 * blockCount es k) (drop (16 * k) q)
@@ -126,14 +130,15 @@ module _ (base : ℕ) (es p q : List ℕ) (a : Matching es p q) where
   twin-along : (way : Way) (k c : ℕ) → 0 < c → Passed base h′ → Named h′ k
       → Twin (along way h k (blockCount es k) c) (along way h′ k (blockCount es k) c)
   unfolding along placing shrunk grown moved clearedBlocks
-  twin-along stay k c some-block g m = record { answer = refl; table = refl; match = a }
+  twin-along stay k c some-block g m = record { answer = refl; table = refl; filled = refl; match = a }
   twin-along shrink k c some-block g m =
-      record { answer = refl; table = refl; match = match-fewer _ a (released-free es (k + c) (blockCount es k - c)) }
+      record { answer = refl; table = refl; filled = refl; match = match-fewer _ a (released-free es (k + c) (blockCount es k - c)) }
   twin-along grow k c some-block g m =
       let b = blockCount es k in
       record {
         answer = refl;
         table = refl;
+        filled = refl;
         match = match-cleared _ (k + b) (c - b) a (extended-out es (k + b) (c - b));
       }
   twin-along (move s) k c some-block g m =
@@ -145,11 +150,12 @@ module _ (base : ℕ) (es p q : List ℕ) (a : Matching es p q) where
       record {
         answer = refl;
         table = refl;
+        filled = refl;
         match = rw (object-same k m)
             (match-fewer _ (match-run (placed es s c) s c (part ++ rest) a (omega (arith, length-append part rest, length-replicate {A = ℕ} (16 * (c - b)) 0)) (λ i. placed-out es s c i some-block))
             (released-free (placed es s c) k b));
       }
-  twin-along noWay k c some-block g m = record { answer = refl; table = refl; match = a }
+  twin-along noWay k c some-block g m = record { answer = refl; table = refl; filled = refl; match = a }
 
   pub twin-reallocate : (k bytes : ℕ) → Twin (reallocate base h k bytes) (reallocate base h′ k bytes)
   unfolding reallocate
@@ -165,14 +171,14 @@ module _ (base : ℕ) (es p q : List ℕ) (a : Matching es p q) where
   unfolding survey
   twin-survey =
       rw shape
-      (unless-both Twin _ refused (λ z. record { answer = refl; table = refl; match = a }))
+      (unless-both Twin _ refused (λ z. record { answer = refl; table = refl; filled = refl; match = a }))
 
   pub twin-store : (k i w : ℕ) → Twin (store base h k i w) (store base h′ k i w)
   unfolding store withWord
   twin-store k i w =
       rw shape
       (unless-both Twin _ refused
-      (λ z. record { answer = refl; table = refl; match = match-same (4 * (4 * k + i)) (bytesOf w) a }))
+      (λ z. record { answer = refl; table = refl; filled = refl; match = match-same (4 * (4 * k + i)) (bytesOf w) a }))
 
   -- a word of an object lies in its blocks
   word-same : (k i : ℕ) → Named h′ k → i < 4 * blockCount es k → wordAt p (4 * k + i) ≡ wordAt q (4 * k + i)
@@ -189,4 +195,26 @@ module _ (base : ℕ) (es p q : List ℕ) (a : Matching es p q) where
   twin-load k i =
       rw shape
       (unless-both Twin _ refused
-      (λ z. record { answer = ap loaded (word-same k i (named-object base h′ k _ z) (word-inside base h′ k i z)); table = refl; match = a }))
+      (λ z. record { answer = ap loaded (word-same k i (named-object base h′ k _ z) (word-inside base h′ k i z)); table = refl; filled = refl; match = a }))
+
+  -- the bytes of a used block are the same in both pools
+  block-same : (k : ℕ) → entryAt es k ≢ FREE → blockBytes p k ≡ blockBytes q k
+  unfolding blockBytes
+  block-same k u =
+      ext-getD 0 (take 16 (drop (16 * k) p)) (take 16 (drop (16 * k) q)) (simp (length-take, length-drop, a .long))
+      (λ i l. go i (omega (arith, length-take 16 (drop (16 * k) p))))
+    where
+      go : (i : ℕ) → i < 16 → getD (take 16 (drop (16 * k) p)) i 0 ≡ getD (take 16 (drop (16 * k) q)) i 0
+      go i l =
+          let e : (16 * k + i) / 16 ≡ k = omega arith in
+          rw (getD-take 16 (drop (16 * k) p), getD-drop, getD-take 16 (drop (16 * k) q), getD-drop) (a .bytes (16 * k + i) (rw e u))
+
+  image-same : (roots : List ℕ) → imageOf base h roots ≡ imageOf base h′ roots
+  unfolding imageOf
+  image-same roots = rw (used-same p q 0 es (λ i u. let here : 0 + i ≡ i = omega arith in rw here (block-same i u)))
+
+  pub twin-image : (roots : List ℕ) (room : ℕ) → Twin (writeImage base h roots room) (writeImage base h′ roots room)
+  unfolding writeImage
+  twin-image roots room =
+      rw (shape, image-same roots)
+      (unless-both Twin _ refused (λ z. record { answer = refl; table = refl; filled = refl; match = a }))

@@ -1,4 +1,4 @@
--- The eight calls. Each is one outcome for every input: the tests that concern its arguments in rising order, then the act.
+-- The nine calls. Each is one outcome for every input: the tests that concern its arguments in rising order, then the act.
 -- Assumes nothing.
 use mathlib.Core.Bool.{Bool, true, false}
 use mathlib.Core.List.{List, [], _∷_, _++_}
@@ -11,9 +11,10 @@ use Rattle.rules.specs.Tests.{pick, isNone, orElse}
 use Rattle.rules.specs.Words.{wordAt, withWord, wordsOf}
 use Rattle.rules.specs.Entries.{FREE}
 use Rattle.rules.specs.Tables.{blockCount, firstFit, growsInPlace, placed, released, extended, used, objects, longest}
-use Rattle.rules.specs.Outcomes.{Heap, Outcome, changeFrom, onlyRefusal, placedAt, collectedTo, surveyed, loaded, leaves, unlessRefused, clearedBlocks}
-use Rattle.rules.specs.Refusals.{Test, firstOf, noRoom, initTests, heapTests, requestTests, objectTests, resizeTests, wordTests, collectionTests}
+use Rattle.rules.specs.Outcomes.{Heap, Outcome, changeFrom, onlyRefusal, placedAt, collectedTo, surveyed, loaded, writtenTo, leaves, fills, unlessRefused, clearedBlocks}
+use Rattle.rules.specs.Refusals.{Test, firstOf, noRoom, initTests, heapTests, requestTests, objectTests, resizeTests, wordTests, shortBuffer, rootTests, collectionTests}
 use Rattle.rules.specs.Marking.{Marked, markAll, sweep}
+use Rattle.rules.specs.Images.{imageOf}
 
 -- how many blocks hold a number of bytes
 unfoldable pub blocksFor : ℕ → ℕ
@@ -123,6 +124,7 @@ collecting h stack m =
       answer = collectedTo (objects after) (m .rescans) (changeFrom (h .entries) after);
       heap = record { pool = h .pool; entries = after };
       stack = replicate (length stack) 0;
+      filled = [];
     }
 
 unfoldable pub collect : ℕ → Heap → List ℕ → List ℕ → Outcome
@@ -147,3 +149,12 @@ unfoldable pub store : ℕ → Heap → ℕ → ℕ → ℕ → Outcome
 store base h k i w =
     unlessRefused (firstOf (wordTests base h k i)) h []
     (leaves (onlyRefusal 0) (record { pool = withWord (h .pool) (4 * k + i) w; entries = h .entries }))
+
+-- Write an image: of the heap and these roots, into a buffer of `room` bytes. 10 if it is too short. The heap is as it was
+abbrev pub imageTests : ℕ → Heap → List ℕ → ℕ → List Test
+imageTests base h roots room = rootTests base h roots ++ shortBuffer room (imageOf base h roots) ∷ []
+
+unfoldable pub writeImage : ℕ → Heap → List ℕ → ℕ → Outcome
+writeImage base h roots room =
+    unlessRefused (firstOf (imageTests base h roots room)) h []
+    (fills (writtenTo (length (imageOf base h roots))) h (imageOf base h roots))

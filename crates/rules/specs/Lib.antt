@@ -6,6 +6,7 @@ pub mod Tables
 pub mod Pointers
 pub mod Outcomes
 pub mod Refusals
+pub mod Images
 pub mod Marking
 pub mod Reach
 pub mod Calls

@@ -4,14 +4,15 @@
 -- Assumes nothing.
 use mathlib.Core.Path.{_≡_}
 use mathlib.Core.Bool.{Bool, true, false, not}
-use mathlib.Core.List.{List, [], _∷_}
+use mathlib.Core.List.{List, [], _∷_, _++_}
 use Prim.Native.Nat.{ℕ, zero, suc}
 use lib.Dec.{eqb}
+use lib.ListN.{length, drop}
 use Rattle.rules.specs.Tests.{both, either}
 use Rattle.rules.specs.Forms.{Form}
 use Rattle.rules.specs.Outcomes.{Heap, Answer, Outcome, onlyRefusal}
 use Rattle.rules.specs.Refusals.{Test, test, firstOf}
-use Rattle.rules.specs.Runs.{Call, Init, Allocate, Free, Reallocate, Collect, Survey, Load, Store, step, Turn}
+use Rattle.rules.specs.Runs.{Call, Init, Allocate, Free, Reallocate, Collect, Survey, Load, Store, WriteImage, step, Turn}
 
 -- what is lent to every call. A table or record that is lent beside these is one more field
 pub record Memory : Type 0 where
@@ -48,11 +49,15 @@ pub record Result : Type 0 where
   pub memory : Memory
   -- the mark stack; only a collection takes one
   pub stack : List ℕ
-  -- what the call wrote, from the front on, into a buffer that was lent for it to fill. None of the eight calls takes one
+  -- what the call wrote, from the front on, into a buffer that was lent for it to fill: an image
   pub filled : List ℕ
 
 abbrev pub result : Answer → Memory → List ℕ → Result
 result a m stack = record { answer = a; memory = m; stack = stack; filled = [] }
+
+-- the same, of a call that was lent a buffer to fill, with all of the buffer: what the call wrote, and behind it what was there
+abbrev pub withBuffer : List ℕ → Result → Result
+withBuffer buffer r = record { answer = r .answer; memory = r .memory; stack = r .stack; filled = r .filled ++ drop (length (r .filled)) buffer }
 
 -- the call is accepted
 abbrev pub AcceptedIn : Result → Type 0
@@ -68,6 +73,7 @@ stackFor (Collect base roots) stack = stack
 stackFor (Survey base) stack = []
 stackFor (Load base k i) stack = []
 stackFor (Store base k i w) stack = []
+stackFor (WriteImage base roots room) stack = []
 
 -- whether the call reads the table: init only fills it, and does not test what it held
 abbrev pub readsTable : Call → Bool
@@ -79,6 +85,7 @@ readsTable (Collect base roots) = true
 readsTable (Survey base) = true
 readsTable (Load base k i) = true
 readsTable (Store base k i w) = true
+readsTable (WriteImage base roots room) = true
 
 -- The tests of a call on lent memory, where the call on the heap in it is refused by r, or not if r is 0: those that come first, which are 1 and 2 with what the form
 -- adds to them, then the call's own. What is tested last comes after these.
@@ -98,7 +105,7 @@ orRefused (suc r) m stack done = result (onlyRefusal (suc r)) m stack
 abbrev pub doneIn : Form → Call → List ℕ → Memory → Result
 doneIn f c stack m =
     let o : Outcome = step c stack (heapIn f m) in
-    result (o .answer) (holding f c m (o .heap)) (o .stack)
+    record { answer = o .answer; memory = holding f c m (o .heap); stack = o .stack; filled = o .filled }
 
 -- a call on lent memory, with the mark stack that is lent for it
 unfoldable pub perform : Form → Call → List ℕ → Memory → Result

@@ -28,28 +28,36 @@ pub record Answer : Type 0 where
   pub objects : ℕ
   pub longest : ℕ
   pub value : ℕ
+  pub length : ℕ
 
--- the answer, and what the lent memory then holds. A call that takes no mark stack has an empty one
+-- the answer, and what the lent memory then holds
 pub record Outcome : Type 0 where
   pub answer : Answer
   pub heap : Heap
+  -- the mark stack; a call that takes none has an empty one
   pub stack : List ℕ
+  -- what the call wrote, from the front on, into a buffer that was lent for it to fill; nothing if it takes none
+  pub filled : List ℕ
 
 -- the answer of a call that answers a block and the change
 abbrev pub placement : ℕ → ℕ → ℤ → Answer
-placement r k d = record { refusal = r; block = k; change = d; kept = 0; rescans = 0; used = 0; objects = 0; longest = 0; value = 0 }
+placement r k d = record { refusal = r; block = k; change = d; kept = 0; rescans = 0; used = 0; objects = 0; longest = 0; value = 0; length = 0 }
 
 -- of a collection: the kept objects, the rescans and the change
 abbrev pub collection : ℕ → ℕ → ℕ → ℤ → Answer
-collection r n s d = record { refusal = r; block = 0; change = d; kept = n; rescans = s; used = 0; objects = 0; longest = 0; value = 0 }
+collection r n s d = record { refusal = r; block = 0; change = d; kept = n; rescans = s; used = 0; objects = 0; longest = 0; value = 0; length = 0 }
 
 -- of a survey: used blocks, objects, the longest free run
 abbrev pub findings : ℕ → ℕ → ℕ → ℕ → Answer
-findings r u n l = record { refusal = r; block = 0; change = pos 0; kept = 0; rescans = 0; used = u; objects = n; longest = l; value = 0 }
+findings r u n l = record { refusal = r; block = 0; change = pos 0; kept = 0; rescans = 0; used = u; objects = n; longest = l; value = 0; length = 0 }
 
 -- of a load: the word
 abbrev pub reading : ℕ → ℕ → Answer
-reading r w = record { refusal = r; block = 0; change = pos 0; kept = 0; rescans = 0; used = 0; objects = 0; longest = 0; value = w }
+reading r w = record { refusal = r; block = 0; change = pos 0; kept = 0; rescans = 0; used = 0; objects = 0; longest = 0; value = w; length = 0 }
+
+-- of an image that was written: its length
+abbrev pub writing : ℕ → ℕ → Answer
+writing r n = record { refusal = r; block = 0; change = pos 0; kept = 0; rescans = 0; used = 0; objects = 0; longest = 0; value = 0; length = n }
 
 -- only a refusal number, all other parts zero
 abbrev pub onlyRefusal : ℕ → Answer
@@ -72,13 +80,20 @@ surveyed u n l = findings 0 u n l
 abbrev pub loaded : ℕ → Answer
 loaded w = reading 0 w
 
+abbrev pub writtenTo : ℕ → Answer
+writtenTo n = writing 0 n
+
 -- a call leaves this
 abbrev pub leavesWith : Answer → Heap → List ℕ → Outcome
-leavesWith a h stack = record { answer = a; heap = h; stack = stack }
+leavesWith a h stack = record { answer = a; heap = h; stack = stack; filled = [] }
 
 -- and this, if it takes no mark stack
 abbrev pub leaves : Answer → Heap → Outcome
 leaves a h = leavesWith a h []
+
+-- and this, if it writes so many bytes into a buffer
+abbrev pub fills : Answer → Heap → List ℕ → Outcome
+fills a h bytes = record { answer = a; heap = h; stack = []; filled = bytes }
 
 -- on a refusal nothing but the number is answered and nothing is changed; else the call acts
 unfoldable pub unlessRefused : ℕ → Heap → List ℕ → Outcome → Outcome

@@ -1,5 +1,5 @@
 -- The refusal numbers: the test behind each, and the tests of the calls in rising order. The first that holds gives the answer.
--- Calls that can run out of room test 9 after these.
+-- Calls that can run out of room test 9 or 10 after these.
 -- Assumes nothing.
 use mathlib.Core.Bool.{Bool, not}
 use mathlib.Core.List.{List, [], _∷_, _++_}
@@ -30,9 +30,12 @@ goodShape base h =
     both (both (leb 1 (length (h .entries))) (leb (length (h .entries)) 4096))
     (both (eqb (length (h .pool)) (16 * length (h .entries))) (goodBase base (length (h .entries))))
 
--- 1, of a collection: also that roots and mark stack are whole words
+-- 1, of a call that takes roots: also that they are whole words, and so the mark stack of a collection
 unfoldable pub wholeWords : List ℕ → Bool
 wholeWords bs = eqb (length bs % 4) 0
+
+abbrev pub goodRoots : ℕ → Heap → List ℕ → Bool
+goodRoots base h roots = both (goodShape base h) (wholeWords roots)
 
 abbrev pub goodLists : ℕ → Heap → List ℕ → List ℕ → Bool
 goodLists base h roots stack = both (goodShape base h) (both (wholeWords roots) (wholeWords stack))
@@ -73,6 +76,10 @@ noWord h k i = test 8 (leb (4 * blockCount (h .entries) k) i)
 abbrev pub noRoom : Bool → Test
 noRoom b = test 9 b
 
+-- 10: the buffer, of so many bytes, is shorter than what is to be written into it
+abbrev pub shortBuffer : ℕ → List ℕ → Test
+shortBuffer room bytes = test 10 (ltb room (length bytes))
+
 -- ---- the tests of the calls, in rising order
 
 -- of init: 1
@@ -106,6 +113,10 @@ resizeTests base h k bytes = heapTests base h ++ noBytes bytes ∷ nameTests h k
 -- of a word of an object: 1 2 6 7 8
 abbrev pub wordTests : ℕ → Heap → ℕ → ℕ → List Test
 wordTests base h k i = heapTests base h ++ nameTests h k ++ noWord h k i ∷ []
+
+-- of a root list: 1 2 3
+abbrev pub rootTests : ℕ → Heap → List ℕ → List Test
+rootTests base h roots = firstTests (goodRoots base h roots) h ++ manyRoots roots ∷ []
 
 -- of a collection: 1 2 3 4
 abbrev pub collectionTests : ℕ → Heap → List ℕ → List ℕ → List Test

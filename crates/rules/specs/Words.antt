@@ -14,6 +14,10 @@ number a b c d = a + 256 * b + 65536 * c + 16777216 * d
 unfoldable pub bytesOf : ℕ → List ℕ
 bytesOf w = w % 256 ∷ w / 256 % 256 ∷ w / 65536 % 256 ∷ w / 16777216 % 256 ∷ []
 
+-- the two lowest bytes of a number, the lowest first
+unfoldable pub twoBytesOf : ℕ → List ℕ
+twoBytesOf n = n % 256 ∷ n / 256 % 256 ∷ []
+
 -- word i of a list of bytes
 unfoldable pub wordAt : List ℕ → ℕ → ℕ
 wordAt bs i = number (getD bs (4 * i) 0) (getD bs (4 * i + 1) 0) (getD bs (4 * i + 2) 0) (getD bs (4 * i + 3) 0)
