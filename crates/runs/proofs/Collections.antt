@@ -55,7 +55,7 @@ module _ (base : ℕ) (roots es p q stack stack′ : List ℕ) (well : wellForme
 
   same-acted : Agree base (wordsOf roots) h h′ → Matching left p q → Same (Collect base roots) stack stack′ (acted base h roots stack) (acted base h′ roots stack′)
   unfolding collecting collected
-  same-acted a match = record { answer = answer (ℕ-discrete (length stack) (length stack′)); table = table; match = match }
+  same-acted a match = record { answer = answer (ℕ-discrete (length stack) (length stack′)); filled = refl; table = table; match = match }
     where
       table : left ≡ collected base h′ (wordsOf roots) (length stack′ / 4)
       table = collected-alike base h h′ (wordsOf roots) well (agree-words a) (length stack / 4) (length stack′ / 4)
@@ -70,7 +70,7 @@ pub same-collect : (base : ℕ) (roots es p q stack stack′ : List ℕ) → Mat
     → Same (Collect base roots) stack stack′ (collect base (heap p es) roots stack) (collect base (heap q es) roots stack′)
 same-collect base roots es p q stack stack′ match s =
     rw (collect-from base g roots stack, collect-from base g′ roots stack′, shape-same base es p q (match .long), stacks-whole s, stacks-short s)
-    (unless-both (Same (Collect base roots) stack stack′) _ (λ r. record { answer = equal refl; table = refl; match = match })
+    (unless-both (Same (Collect base roots) stack stack′) _ (λ r. record { answer = equal refl; filled = refl; table = refl; match = match })
     (λ z. let well = tests-ask base g′ roots stack′ z .passed .well in
     same-acted base roots es p q stack stack′ well (used-agree base (wordsOf roots) g g′ well refl used)
     (match-sets _ 0 [] match (λ i u. inl (λ f. u (collected-used base g (wordsOf roots) (length stack / 4) well (i / 16) u ∙ f))))))

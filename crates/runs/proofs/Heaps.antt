@@ -1,7 +1,7 @@
 -- Noninterference of heaps, whose tables are lists of entries: the first collection leaves pools that match in every allocated block, and every
 -- call keeps this.
 -- Assumes nothing.
-use mathlib.Core.Path.{_≡_, subst}
+use mathlib.Core.Path.{_≡_, refl, subst}
 use mathlib.Core.Logic.{_≢_}
 use mathlib.Core.List.{List, _∷_}
 use Prim.Native.Nat.{ℕ, _+_, _*_, _/_, _<_}
@@ -12,10 +12,10 @@ use Rattle.rules.specs.Entries.{FREE}
 use Rattle.rules.specs.Tables.{entryAt}
 use Rattle.rules.specs.Forms.{Small}
 use Rattle.rules.specs.Outcomes.{Heap}
-use Rattle.rules.specs.Runs.{Call, Init, Allocate, Free, Reallocate, Collect, Survey, Load, Store, step, Turn, after, answers}
+use Rattle.rules.specs.Runs.{Call, Init, Allocate, Free, Reallocate, Collect, Survey, Load, Store, WriteImage, step, Turn, after, answers, fillings}
 use Rattle.rules.specs.Meaning.{Accepted}
 use Rattle.rules.proofs.Matching.{Matching}
-use Rattle.rules.proofs.Twice.{heap, twin-init, twin-allocate, twin-free, twin-reallocate, twin-survey, twin-load, twin-store}
+use Rattle.rules.proofs.Twice.{heap, twin-init, twin-allocate, twin-free, twin-reallocate, twin-survey, twin-load, twin-store, twin-image}
 use Rattle.keeping.specs.Keeping.{Agree}
 use Rattle.runs.specs.Noninterference.{SameStacks, turn, Alike, done, next, SameAnswers}
 use Rattle.runs.proofs.Same.{Same, same-twin}
@@ -28,6 +28,7 @@ SameUsed h h′ = (k : ℕ) → entryAt (h .entries) k ≢ FREE → (j : ℕ) �
 -- the calls ts on the heap h and the calls us on the heap h′ do not tell the heaps apart
 pub record SameHeaps (ts us : List Turn) (h h′ : Heap) : Type 0 where
   pub same-answers : SameAnswers ts us (answers ts h) (answers us h′)
+  pub same-fillings : fillings ts h ≡ fillings us h′
   pub same-entries : after ts h .entries ≡ after us h′ .entries
   pub same-used : SameUsed (after ts h) (after us h′)
 
@@ -43,6 +44,7 @@ same-step (Collect base roots) es p q stack stack′ m s = same-collect base roo
 same-step (Survey base) es p q stack stack′ m s = same-twin (Survey base) stack stack′ (twin-survey base es p q m)
 same-step (Load base k i) es p q stack stack′ m s = same-twin (Load base k i) stack stack′ (twin-load base es p q m k i)
 same-step (Store base k i w) es p q stack stack′ m s = same-twin (Store base k i w) stack stack′ (twin-store base es p q m k i w)
+same-step (WriteImage base roots room) es p q stack stack′ m s = same-twin (WriteImage base roots room) stack stack′ (twin-image base es p q m roots room)
 
 -- the same, where the tables are equal
 same-call : (call : Call) (h h′ : Heap) (stack stack′ : List ℕ) → h .entries ≡ h′ .entries → Matching (h .entries) (h .pool) (h′ .pool) → SameStacks stack stack′
@@ -54,16 +56,17 @@ same-call call h h′ stack stack′ t m s =
 -- a call that is the same, and then calls that are
 same-next : (call : Call) (h h′ : Heap) (stack stack′ : List ℕ) (ts us : List Turn) → Same call stack stack′ (step call stack h) (step call stack′ h′)
     → SameHeaps ts us (step call stack h .heap) (step call stack′ h′ .heap) → SameHeaps (turn call stack ∷ ts) (turn call stack′ ∷ us) h h′
-unfolding after answers
+unfolding after answers fillings
 same-next call h h′ stack stack′ ts us x rest =
-    record { same-answers = next (x .answer) (rest .same-answers); same-entries = rest .same-entries; same-used = rest .same-used }
+    record { same-answers = next (x .answer) (rest .same-answers); same-fillings = rw (x .filled, rest .same-fillings); same-entries = rest .same-entries; same-used = rest .same-used }
 
 -- every list of calls on pools that match
 same-calls : {ts us : List Turn} → Alike ts us → (h h′ : Heap) → h .entries ≡ h′ .entries → Matching (h .entries) (h .pool) (h′ .pool) → SameHeaps ts us h h′
-unfolding after answers
+unfolding after answers fillings
 same-calls done h h′ t m =
     record {
       same-answers = done;
+      same-fillings = refl;
       same-entries = t;
       same-used = λ k u j l. let e : (16 * k + j) / 16 ≡ k = omega arith in m .bytes (16 * k + j) (rw e u);
     }

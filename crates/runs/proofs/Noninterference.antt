@@ -6,17 +6,10 @@ use mathlib.Core.List.{List, _∷_}
 use Rattle.rules.specs.Forms.{Form, Faithful}
 use Rattle.rules.specs.Outcomes.{Heap}
 use Rattle.rules.specs.Runs.{Collect, Turn, after}
-use Rattle.rules.specs.Memory.{Memory, heapIn, Sound, AcceptedIn, perform, turnIn, afterIn, filledIn}
-use Rattle.rules.proofs.Memory.{Written, follows-sound, answers-in, after-in, after-written, accepted-sound, refusal-in, none-filled}
-use Rattle.runs.specs.Noninterference.{Alike, done, next, Indistinct, Noninterference}
+use Rattle.rules.specs.Memory.{Memory, heapIn, Sound, AcceptedIn, perform, turnIn, afterIn}
+use Rattle.rules.proofs.Memory.{Written, follows-sound, answers-in, filled-in, after-in, after-written, accepted-sound, refusal-in}
+use Rattle.runs.specs.Noninterference.{Indistinct, Noninterference}
 use Rattle.runs.proofs.Heaps.{SameUsed, SameHeaps, heaps-same}
-
--- the buffers, as no call fills any
-buffers-same : (f : Form) {ts us : List Turn} → Alike ts us → (m m′ : Memory) → filledIn f ts m ≡ filledIn f us m′
-unfolding filledIn
-buffers-same f done m m′ = refl
-buffers-same f (next call {stack = stack} {stack′ = stack′} s r) m m′ =
-    rw (none-filled f call stack m, none-filled f call stack′ m′, buffers-same f r (perform f call stack m .memory) (perform f call stack′ m′ .memory)) refl
 
 module _ (f : Form) (faithful : Faithful f) where
   -- after a first call that is accepted, a table is what its entries are written as
@@ -27,12 +20,12 @@ module _ (f : Form) (faithful : Faithful f) where
       after-written f faithful ts (turnIn f t m .memory) (e .sound x) (e .written x)
 
   -- calls that do not tell the heaps apart do not tell the memories apart, if the first is accepted on both
-  memories-same : {t u : Turn} {ts us : List Turn} {m m′ : Memory} → Sound f m → Sound f m′ → Alike (t ∷ ts) (u ∷ us) → AcceptedIn (turnIn f t m) → AcceptedIn (turnIn f u m′)
+  memories-same : {t u : Turn} {ts us : List Turn} {m m′ : Memory} → Sound f m → Sound f m′ → AcceptedIn (turnIn f t m) → AcceptedIn (turnIn f u m′)
       → SameHeaps (t ∷ ts) (u ∷ us) (heapIn f m) (heapIn f m′) → Indistinct f (t ∷ ts) (u ∷ us) m m′
-  memories-same {t = t} {u = u} {ts = ts} {us = us} {m = m} {m′ = m′} s s′ alike x x′ same =
+  memories-same {t = t} {u = u} {ts = ts} {us = us} {m = m} {m′ = m′} s s′ x x′ same =
       record {
         same-answers = rw (answers-in f faithful (t ∷ ts) m s, answers-in f faithful (u ∷ us) m′ s′) (same .same-answers);
-        same-filled = buffers-same f alike m m′;
+        same-filled = filled-in f faithful (t ∷ ts) m s ∙ same .same-fillings ∙ sym (filled-in f faithful (u ∷ us) m′ s′);
         same-beside = record { table = tables };
         same-bytes = used;
       }
@@ -59,6 +52,6 @@ noninterference f faithful base roots stack stack′ m m′ ts us beside agree a
     let s′ = accepted-sound f c stack′ m′ refl x′ in
     let y = sym (refusal-in f faithful c stack m s) ∙ x in
     let y′ = sym (refusal-in f faithful c stack′ m′ s′) ∙ x′ in
-    memories-same f faithful s s′ alike x x′
+    memories-same f faithful s s′ x x′
     (rw (← beside .table)
     (heaps-same base roots (f .read (m .table)) (m .pool) (m′ .pool) stack stack′ (faithful .small (m .table)) (rw (← beside .table) at agree) alike y (rw (← beside .table) at y′)))

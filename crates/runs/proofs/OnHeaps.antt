@@ -9,7 +9,7 @@ use Rattle.rules.specs.Outcomes.{Heap}
 use Rattle.rules.specs.Runs.{Collect, step, Turn, after}
 use Rattle.rules.specs.Meaning.{Accepted}
 use Rattle.rules.specs.Memory.{Memory, heapIn, SameBeside, Sound, afterIn}
-use Rattle.rules.proofs.Memory.{answers-in, after-in, refusal-in}
+use Rattle.rules.proofs.Memory.{answers-in, filled-in, after-in, refusal-in}
 use Rattle.keeping.specs.Keeping.{Agree}
 use Rattle.runs.specs.Noninterference.{turn, Alike, Indistinct}
 use Rattle.runs.proofs.Heaps.{SameUsed, SameHeaps}
@@ -21,6 +21,7 @@ module _ (f : Form) (faithful : Faithful f) where
   heaps-in {ts = ts} {us = us} {m = m} {m′ = m′} s s′ same =
       record {
         same-answers = rw (answers-in f faithful ts m s, answers-in f faithful us m′ s′) at (same .same-answers);
+        same-fillings = sym (filled-in f faithful ts m s) ∙ same .same-filled ∙ filled-in f faithful us m′ s′;
         same-entries = sym (ap (λ (h : Heap). h .entries) e) ∙ ap (f .read) (same .same-beside .table) ∙ ap (λ (h : Heap). h .entries) e′;
         same-used = subst (λ (h : Heap). SameUsed h (after us (heapIn f m′))) e (subst (SameUsed (heapIn f (afterIn f ts m))) e′ (same .same-bytes));
       }

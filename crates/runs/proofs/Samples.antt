@@ -12,17 +12,18 @@ use lib.IntN.{pos, negℤ}
 use lib.ListN.{length, getD, replicate}
 use Rattle.rules.specs.Tests.{either, count, leading, tabulate}
 use Rattle.rules.specs.Bits.{bitOf, bitAt, byteOf}
-use Rattle.rules.specs.Words.{number, bytesOf, wordAt, withWord, wordsOf}
-use Rattle.rules.specs.Entries.{TAIL}
+use Rattle.rules.specs.Words.{number, bytesOf, twoBytesOf, wordAt, withWord, wordsOf}
+use Rattle.rules.specs.Entries.{TAIL, tableOf}
 use Rattle.rules.specs.Tables.{entryAt, isHead, mayFollow, wellAfter, wellFormed, blockCount, startOf, freeFrom, aligned, fits, firstFrom, firstFit, placed, used, objects, longest}
 use Rattle.rules.specs.Planes.{planeBytes, entryIn, entriesIn, spare, spareFree, plane, planesOf, planes}
 use Rattle.rules.specs.Pointers.{addressOf, goodBase, targetOf, headsObject, headAt, leadsTo}
-use Rattle.rules.specs.Outcomes.{Heap, Answer, onlyRefusal, changeFrom, placedAt, collectedTo, surveyed, loaded, unlessRefused, clearedBlocks}
+use Rattle.rules.specs.Outcomes.{Heap, Answer, onlyRefusal, changeFrom, placedAt, collectedTo, surveyed, loaded, writtenTo, unlessRefused, clearedBlocks}
 use Rattle.rules.specs.Refusals.{firstOf, goodShape, wholeWords}
 use Rattle.rules.specs.Marking.{pushed, visitTo, visit, walkWords, walk, drainFor, drain, trace, rootTo, markRoot, markRoots, passBlock, passFrom, pass, rescanFor, rescan, markAll, sweptEntry, freeingAfter, sweepFrom, sweep}
-use Rattle.rules.specs.Calls.{blocksFor, taken, placing, allocate, free, collecting, collect, survey, load}
+use Rattle.rules.specs.Calls.{blocksFor, taken, placing, allocate, free, collecting, collect, survey, load, writeImage}
+use Rattle.rules.specs.Images.{section, sections, blockBytes, usedFrom, imageOf}
 use Rattle.rules.specs.Runs.{Turn, step}
-use Rattle.rules.specs.Memory.{Memory, heapIn, AcceptedIn, orRefused, perform, turnIn, afterIn, answersIn}
+use Rattle.rules.specs.Memory.{Memory, heapIn, AcceptedIn, orRefused, perform, turnIn, afterIn, answersIn, filledIn}
 use Rattle.rules.proofs.Below.{allBelow, below}
 use Rattle.rules.proofs.Marking.{head-inside}
 use Rattle.rules.proofs.Planes.{planes-faithful}
@@ -31,9 +32,9 @@ use Rattle.keeping.proofs.Owners.{reachable-head}
 use Rattle.keeping.proofs.Kept.{collected-kept}
 use Rattle.runs.specs.Noninterference.{SameStacks, Alike, done, next, SameAnswers, Indistinct}
 use Rattle.runs.specs.Unseen.{stackLengths}
-use Rattle.runs.specs.Samples.{sampleBase, sampleRoots, firstPool, secondPool, firstMemory, secondMemory, thirdMemory, earlierCalls, firstCalls, secondCalls, loadingCalls}
+use Rattle.runs.specs.Samples.{sampleBase, sampleRoots, firstPool, secondPool, firstMemory, secondMemory, thirdMemory, earlierCalls, firstCalls, secondCalls, sampleImage, loadingCalls}
 use Rattle.runs.proofs.Noninterference.{noninterference}
-use Rattle.runs.proofs.Conclusions.{answer-but-rescans, answers-later, answers-joined, same-tables, same-words}
+use Rattle.runs.proofs.Conclusions.{answer-but-rescans, answers-later, answers-joined, same-buffers, same-tables, same-words}
 use Rattle.runs.proofs.Hypotheses.{stacks-long, stacks-good, alike-next, alike-long, agree-of, also-accepted}
 
 -- ---- agreement on the reachable objects, as a test over the objects that a collection keeps
@@ -75,7 +76,7 @@ abbrev pub earlierAnswers : ℕ → List Answer
 earlierAnswers r = collectedTo 5 r (negℤ (pos 3)) ∷ onlyRefusal 7 ∷ onlyRefusal 1 ∷ loaded 0xDEAD_BEEF ∷ placedAt 1 (pos 2) ∷ loaded 0 ∷ []
 
 abbrev pub lastAnswers : ℕ → List Answer
-lastAnswers r = collectedTo 5 r (negℤ (pos 2)) ∷ surveyed 8 5 2 ∷ []
+lastAnswers r = collectedTo 5 r (negℤ (pos 2)) ∷ surveyed 8 5 2 ∷ writtenTo 151 ∷ []
 
 -- the rescans of answers
 abbrev pub rescansOf : List Answer → List ℕ
@@ -98,14 +99,16 @@ pub record Computed : Type 0 where
   pub first-table : afterIn (planes 3) firstCalls firstMemory .table ≡ 41 ∷ 3 ∷ 64 ∷ 12 ∷ []
   pub first-used : entryAt (entriesIn 3 (afterIn (planes 3) firstCalls firstMemory .table)) 11 ≡ TAIL
   pub first-word : wordAt (afterIn (planes 3) firstCalls firstMemory .pool) 47 ≡ 0xDEAD_BEEF
+  -- the image that it writes; no other call fills a buffer
+  pub first-images : filledIn (planes 3) firstCalls firstMemory ≡ replicate 8 [] ++ sampleImage ∷ []
   -- three entries are enough for the second, and two at last
-  pub second-rescans : rescansOf (answersIn (planes 3) secondCalls secondMemory) ≡ replicate 8 0
+  pub second-rescans : rescansOf (answersIn (planes 3) secondCalls secondMemory) ≡ replicate 9 0
   -- the first and the third answer a load differently
   pub first-loads : answersIn (planes 3) loadingCalls firstMemory ≡ collectedTo 5 2 (negℤ (pos 3)) ∷ loaded 0xDEAD_BEEF ∷ []
   pub third-loads : answersIn (planes 3) loadingCalls thirdMemory ≡ collectedTo 5 2 (negℤ (pos 3)) ∷ loaded 0x00AD_BEEF ∷ []
 
 pub computed : Computed
-unfolding agreeIn agreeTest marking collected count leading tabulate number bytesOf wordAt withWord wordsOf bitOf bitAt byteOf planeBytes entryIn entriesIn spare spareFree plane planesOf mayFollow wellAfter wellFormed blockCount startOf freeFrom aligned fits firstFrom firstFit placed used objects longest addressOf goodBase targetOf headsObject headAt leadsTo changeFrom unlessRefused clearedBlocks firstOf goodShape wholeWords pushed visitTo visit walkWords walk drainFor drain trace rootTo markRoot markRoots passBlock passFrom pass rescanFor rescan markAll sweptEntry freeingAfter sweepFrom sweep blocksFor taken placing allocate collecting collect free survey load step orRefused perform afterIn answersIn
+unfolding agreeIn agreeTest marking collected count leading tabulate number bytesOf wordAt withWord wordsOf bitOf bitAt byteOf planeBytes entryIn entriesIn spare spareFree plane planesOf mayFollow wellAfter wellFormed blockCount startOf freeFrom aligned fits firstFrom firstFit placed used objects longest addressOf goodBase targetOf headsObject headAt leadsTo changeFrom unlessRefused clearedBlocks firstOf goodShape wholeWords pushed visitTo visit walkWords walk drainFor drain trace rootTo markRoot markRoots passBlock passFrom pass rescanFor rescan markAll sweptEntry freeingAfter sweepFrom sweep blocksFor taken placing allocate collecting collect free survey load writeImage step orRefused perform afterIn answersIn filledIn twoBytesOf tableOf section sections blockBytes usedFrom imageOf
 computed =
     record {
       well = refl;
@@ -117,6 +120,7 @@ computed =
       first-table = refl;
       first-used = refl;
       first-word = refl;
+      first-images = refl;
       second-rescans = refl;
       first-loads = refl;
       third-loads = refl;
@@ -147,7 +151,7 @@ last-stacks = stacks-good (bytesOf 7) (replicate 8 8) 1 2 refl (omega arith) ref
 pub samples-alike : Alike firstCalls secondCalls
 samples-alike =
     alike-next _ samples-stacks (alike-next _ none (alike-next _ (stacks-long _ _ refl) (alike-next _ none (alike-next _ none (alike-next _ none
-    (alike-next _ last-stacks (alike-next _ none done)))))))
+    (alike-next _ last-stacks (alike-next _ none (alike-next _ none done))))))))
   where
     none : SameStacks [] []
     none = stacks-long [] [] refl
@@ -184,6 +188,10 @@ second-table = sym (same-tables first-second-indistinct) ∙ computed .first-tab
 -- and the last word of g
 pub second-word : wordAt (afterIn (planes 3) secondCalls secondMemory .pool) 47 ≡ 0xDEAD_BEEF
 second-word = sym (same-words first-second-indistinct 11 (λ f. let e = computed .first-used in omega arith) 3 (omega arith)) ∙ computed .first-word
+
+-- and the image: its dead bytes are none of the second's
+pub second-images : filledIn (planes 3) secondCalls secondMemory ≡ replicate 8 [] ++ sampleImage ∷ []
+second-images = sym (same-buffers first-second-indistinct) ∙ computed .first-images
 
 -- the rescans do differ: 2 and 0, and at last 1 and 0
 pub rescans-differ : (rescansAt 0 (answersIn (planes 3) firstCalls firstMemory) ≢ rescansAt 0 (answersIn (planes 3) secondCalls secondMemory))
