@@ -11,11 +11,11 @@ use borrow.Author.Tests.{eqb-true}
 use Rattle.rules.specs.Tests.{pick, both, either}
 use Rattle.rules.specs.Tables.{wellFormed}
 use Rattle.rules.specs.Outcomes.{Heap}
-use Rattle.rules.specs.Refusals.{Test, firstOf, goodShape, goodLists, manyRoots, longStack, firstTests, heapTests, collectionTests}
+use Rattle.rules.specs.Refusals.{Test, firstOf, goodShape, goodRoots, goodLists, manyRoots, longStack, firstTests, heapTests, rootTests, collectionTests}
 use Rattle.rules.specs.Memory.{memory}
 use Rattle.rules.specs.Planes.{entriesIn, spareFree, Sized, IsTable, planes, heapAt}
 use Rattle.rules.proofs.Refusals.{both-left, both-right, not-true, not-false, shape-true, first-passed}
-use Rattle.rules.proofs.Memory.{sound-of}
+use Rattle.rules.proofs.Memory.{later, sound-of, refused-first-in}
 use Rattle.rules.proofs.Planes.{length-entriesIn}
 use Rattle.checks.specs.Refusal.{refusalBy}
 
@@ -57,6 +57,12 @@ module _ (t : ℕ) (table : List ℕ) (good : Bool) where
     pub neither : not w ≡ false → 0 ≡ first
     neither n = sym (rw (sym e ∙ not-false _ fine, sym q ∙ not-false _ n) at by-two)
 
+-- 1, whatever the shape: a list is no whole number of words
+pub torn : (t : ℕ) (pool table : List ℕ) (good : Bool) (us : List Test) → later us ≡ true → good ≡ false → 1 ≡ refusalBy t pool table (λ (h : Heap). firstTests good h ++ us)
+torn t pool table good us l bad =
+    refused-first-in (planes t) (memory pool table) (firstTests good (heapAt t pool table)) us refl l
+    (ill-shaped t table good {g = false} (rw bad refl) refl) (λ z. omega arith)
+
 -- ---- what a call knows
 
 module _ (base t : ℕ) (pool table : List ℕ) where
@@ -82,6 +88,11 @@ module _ (base t : ℕ) (pool table : List ℕ) where
   pub is-table-of : (us : List Test) {r : ℕ} → r ≡ refusalBy t pool table (λ (h : Heap). heapTests base h ++ us) → r ≡ 0
       → IsTable t table × (firstOf (heapTests base heap-in ++ us) ≡ 0)
   is-table-of us e z = is-table-by (goodShape base heap-in) us (λ g. g) e z
+
+  -- of one that takes roots
+  pub is-table-roots : (roots : List ℕ) {r : ℕ} → r ≡ refusalBy t pool table (λ (h : Heap). rootTests base h roots) → r ≡ 0
+      → IsTable t table × (firstOf (rootTests base heap-in roots) ≡ 0)
+  is-table-roots roots e z = is-table-by (goodRoots base heap-in roots) (manyRoots roots ∷ []) (both-left (goodShape base heap-in) _) e z
 
   -- of a collection
   pub is-table-lists : (roots stack : List ℕ) {r : ℕ} → r ≡ refusalBy t pool table (λ (h : Heap). collectionTests base h roots stack) → r ≡ 0

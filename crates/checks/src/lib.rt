@@ -5,7 +5,7 @@ ghost use Rattle.rules.specs.Tests.{both};
 ghost use Rattle.rules.specs.Tables.{wellFormed};
 ghost use Rattle.rules.specs.Planes.{entriesIn, spareFree, planes, Sized, IsTable, heapAt};
 ghost use Rattle.rules.specs.Outcomes.{Heap};
-ghost use Rattle.rules.specs.Refusals.{firstOf, goodShape, heapTests, requestTests, nameTests, objectTests, resizeTests, wordTests, collectionTests};
+ghost use Rattle.rules.specs.Refusals.{firstOf, goodShape, heapTests, requestTests, nameTests, objectTests, resizeTests, wordTests, rootTests, collectionTests};
 ghost use Rattle.checks.specs.Refusal.{refusalBy};
 use memory::Address;
 use memory::Block;
@@ -119,6 +119,23 @@ pub fn word(base: Address, t: usize, pool: &[u8], table: &[u8], k: Block, i: usi
     0
 }
 
+// Refusals 1, 2 and 3, of a root list.
+pub fn root_list(base: Address, t: usize, pool: &[u8], table: &[u8], roots: &[u8]) -> u32
+    ensures { λ r. ⌜ r ≡ refusalBy t (now (pool .entry)) (now (table .entry)) (λ (h : Heap). rootTests (base .0) h (now (roots .entry))) ⌝ }
+{
+    if roots.len() % 4 != 0 {
+        return 1;
+    }
+    let r = heap(base, t, pool, table);
+    if r != 0 {
+        return r;
+    }
+    if 4096 < roots.len() / 4 {
+        return 3;
+    }
+    0
+}
+
 // Refusals 1 to 4, of a collection.
 pub fn collection(
     base: Address,
@@ -130,20 +147,12 @@ pub fn collection(
 ) -> u32
     ensures { λ r. ⌜ r ≡ refusalBy t (now (pool .entry)) (now (table .entry)) (λ (h : Heap). collectionTests (base .0) h (now (roots .entry)) (now (stack .entry))) ⌝ }
 {
-    if !good_shape(base, t, pool, table) {
-        return 1;
-    }
-    if roots.len() % 4 != 0 {
-        return 1;
-    }
     if stack.len() % 4 != 0 {
         return 1;
     }
-    if !is_sound(t, table) {
-        return 2;
-    }
-    if 4096 < roots.len() / 4 {
-        return 3;
+    let r = root_list(base, t, pool, table, roots);
+    if r != 0 {
+        return r;
     }
     if 64 < stack.len() / 4 {
         return 4;

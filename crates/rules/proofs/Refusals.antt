@@ -33,6 +33,10 @@ pub both-false : (a : Bool) → both a false ≡ false
 both-false true = refl
 both-false false = refl
 
+pub both-true : (a : Bool) → both a true ≡ a
+both-true true = refl
+both-true false = refl
+
 pub not-true : (b : Bool) → not b ≡ true → b ≡ false
 not-true false e = refl
 not-true true e = absurd (true-not-false e refl)
