@@ -2,7 +2,7 @@
 -- Assumes nothing.
 use mathlib.Core.Path.{_≡_, refl, sym, ap, _∙_}
 use mathlib.Core.List.{List, [], _∷_}
-use Prim.Native.Nat.{ℕ, zero, suc, _+_, _-_, _*_, _/_, _%_, _^_, _<_}
+use Prim.Native.Nat.{ℕ, zero, suc, _+_, _-_, _*_, _/_, _%_, _^_, _≤_, _<_}
 use native.Mathlib.Nat.{zero-div}
 use native.Mathlib.Omega.{arith}
 use lib.Dec.{eqb, eqb→eq}
@@ -81,6 +81,23 @@ length-tableOf (a ∷ []) = omega arith
 length-tableOf (a ∷ b ∷ []) = omega arith
 length-tableOf (a ∷ b ∷ c ∷ []) = omega arith
 length-tableOf (a ∷ b ∷ c ∷ d ∷ es) = let r = length-tableOf es in omega arith
+
+-- byte i holds the entries of blocks 4i to 4i + 3
+pub getD-tableOf : (es : List ℕ) (i : ℕ) → 4 * i + 4 ≤ length es
+    → getD (tableOf es) i 0 ≡ getD es (4 * i) 0 + 4 * getD es (4 * i + 1) 0 + 16 * getD es (4 * i + 2) 0 + 64 * getD es (4 * i + 3) 0
+unfolding tableOf
+getD-tableOf [] i room = absurd (omega arith)
+getD-tableOf (a ∷ []) i room = absurd (omega arith)
+getD-tableOf (a ∷ b ∷ []) i room = absurd (omega arith)
+getD-tableOf (a ∷ b ∷ c ∷ []) i room = absurd (omega arith)
+getD-tableOf (a ∷ b ∷ c ∷ d ∷ es) zero room = refl
+getD-tableOf (a ∷ b ∷ c ∷ d ∷ es) (suc i) room =
+    let here : 4 * suc i + 0 ≡ 4 * suc i = omega arith in
+    let there : 4 * i + 0 ≡ 4 * i = omega arith in
+    rw (rw (here, there) at (past 0), past 1, past 2, past 3) (getD-tableOf es i (omega arith))
+  where
+    past : (j : ℕ) → getD (a ∷ b ∷ c ∷ d ∷ es) (4 * suc i + j) 0 ≡ getD es (4 * i + j) 0
+    past j = let e : 4 * suc i + j ≡ suc (suc (suc (suc (4 * i + j)))) = omega arith in rw e
 
 pub entriesOf-tableOf : (es : List ℕ) → length es % 4 ≡ 0 → ((k : ℕ) → getD es k 0 < 4) → entriesOf (tableOf es) ≡ es
 unfolding entriesOf tableOf

@@ -6,9 +6,9 @@ use mathlib.Core.Bool.{Bool, true, false}
 use mathlib.Core.List.{List, [], _∷_, _++_, append-assoc}
 use Prim.Native.Nat.{ℕ, zero, suc, _+_, _*_, _/_, _%_, _≤_, _<_}
 use native.Mathlib.Omega.{arith}
-use lib.ListN.{length, getD, take, drop, length-append, length-drop}
-use lib.Seq.{length-take-le}
-use borrow.Author.Tests.{eqb-false}
+use lib.ListN.{length, getD, take, drop, length-append, length-take, length-drop, List·getD-append}
+use lib.Seq.{ext-getD, getD-take, getD-drop, length-take-le, getD-append-add}
+use borrow.Author.Tests.{ne-eqb, eqb-false}
 use Rattle.rules.specs.Tests.{pick, count}
 use Rattle.rules.specs.Words.{bytesOf, twoBytesOf}
 use Rattle.rules.specs.Entries.{FREE, tableOf}
@@ -24,6 +24,21 @@ use Rattle.rules.proofs.Lists.{one, count-cons}
 pub length-block : (pool : List ℕ) (k : ℕ) → 16 * k + 16 ≤ length pool → length (blockBytes pool k) ≡ 16
 unfolding blockBytes
 length-block pool k room = length-take-le 16 (drop (16 * k) pool) (omega (arith, length-drop (16 * k) pool))
+
+-- they are told by its bytes
+pub block-same : (p q : List ℕ) (k : ℕ) → length p ≡ length q → ((j : ℕ) → j < 16 → getD p (16 * k + j) 0 ≡ getD q (16 * k + j) 0) → blockBytes p k ≡ blockBytes q k
+unfolding blockBytes
+block-same p q k long same =
+    ext-getD 0 (take 16 (drop (16 * k) p)) (take 16 (drop (16 * k) q)) (simp (length-take, length-drop, long))
+    (λ j l. go j (omega (arith, length-take 16 (drop (16 * k) p))))
+  where
+    go : (j : ℕ) → j < 16 → getD (take 16 (drop (16 * k) p)) j 0 ≡ getD (take 16 (drop (16 * k) q)) j 0
+    go j l = rw (getD-take 16 (drop (16 * k) p), getD-drop, getD-take 16 (drop (16 * k) q), getD-drop) (same j l)
+
+-- byte j of block k
+block-at : (pool : List ℕ) (k j : ℕ) → j < 16 → getD (blockBytes pool k) j 0 ≡ getD pool (16 * k + j) 0
+unfolding blockBytes
+block-at pool k j l = rw (getD-take 16 (drop (16 * k) pool), getD-drop)
 
 pub length-used : (pool : List ℕ) (k : ℕ) (es : List ℕ) → 16 * (k + length es) ≤ length pool → length (usedFrom pool k es) ≡ 16 * used es
 unfolding usedFrom used count
@@ -45,6 +60,29 @@ used-same p q k (e ∷ es) same =
     go : (e ≢ FREE → blockBytes p k ≡ blockBytes q k) → usedFrom p (suc k) es ≡ usedFrom q (suc k) es → (b : Bool) → isFree e ≡ b → pick (isFree e) [] (blockBytes p k) ++ usedFrom p (suc k) es ≡ pick (isFree e) [] (blockBytes q k) ++ usedFrom q (suc k) es
     go first rest true f = rw f rest
     go first rest false f = rw (f, first (eqb-false e FREE f), rest)
+
+-- byte j of the used block i lies behind the bytes of the used blocks before it
+pub used-at : (pool : List ℕ) (k : ℕ) (es : List ℕ) (i j : ℕ) → 16 * (k + length es) ≤ length pool → entryAt es i ≢ FREE → j < 16
+    → getD (usedFrom pool k es) (16 * used (take i es) + j) 0 ≡ getD pool (16 * (k + i) + j) 0
+unfolding usedFrom used count
+used-at pool k [] i j room u l = absurd (u refl)
+used-at pool k (e ∷ es) zero j room u l =
+    let here : k + 0 ≡ k = omega arith in
+    let start : 16 * 0 + j ≡ j = omega arith in
+    let long = length-block pool k (omega arith) in
+    rw (ne-eqb e FREE u, here, start) (List·getD-append (blockBytes pool k) (usedFrom pool (suc k) es) 0 j (omega arith) ∙ block-at pool k j l)
+used-at pool k (e ∷ es) (suc i) j room u l = go (used-at pool (suc k) es i j (omega arith) u l) (isFree e) refl
+  where
+    next : suc k + i ≡ k + suc i
+    next = omega arith
+
+    go : getD (usedFrom pool (suc k) es) (16 * used (take i es) + j) 0 ≡ getD pool (16 * (suc k + i) + j) 0 → (b : Bool) → isFree e ≡ b
+        → getD (pick (isFree e) [] (blockBytes pool k) ++ usedFrom pool (suc k) es) (16 * used (e ∷ take i es) + j) 0 ≡ getD pool (16 * (k + suc i) + j) 0
+    go rest true f = rw (f, ← next) rest
+    go rest false f =
+        let long = length-block pool k (omega arith) in
+        let past : 16 * suc (used (take i es)) + j ≡ length (blockBytes pool k) + (16 * used (take i es) + j) = omega arith in
+        rw (f, ← next, past) (getD-append-add (blockBytes pool k) (usedFrom pool (suc k) es) (16 * used (take i es) + j) 0 ∙ rest)
 
 -- those of two parts of the table, one after the other
 pub used-append : (pool : List ℕ) (k : ℕ) (es fs : List ℕ) → usedFrom pool k (es ++ fs) ≡ usedFrom pool k es ++ usedFrom pool (k + length es) fs
@@ -69,3 +107,80 @@ length-image base h roots long =
   where
     es : List ℕ
     es = h .entries
+
+-- ---- where its bytes lie
+
+-- a count's two bytes, and then the body's
+pub section-low : (n : ℕ) (body : List ℕ) → getD (section n body) 0 0 ≡ n % 256
+unfolding section twoBytesOf
+section-low n body = refl
+
+pub section-high : (n : ℕ) (body : List ℕ) → getD (section n body) 1 0 ≡ n / 256 % 256
+unfolding section twoBytesOf
+section-high n body = refl
+
+pub section-body : (n : ℕ) (body : List ℕ) (i : ℕ) → getD (section n body) (2 + i) 0 ≡ getD body i 0
+unfolding section twoBytesOf
+section-body n body i = let e : 2 + i ≡ length (twoBytesOf n) + i = refl in rw e (getD-append-add (twoBytesOf n) body i 0)
+
+module _ (base : ℕ) (h : Heap) (roots : List ℕ) (long : length (h .pool) ≡ 16 * length (h .entries)) where
+  abbrev es : List ℕ
+  es = h .entries
+
+  abbrev t : ℕ
+  t = length es / 4
+
+  abbrev u : ℕ
+  u = used es
+
+  abbrev one-word : List ℕ
+  one-word = section 1 (bytesOf base)
+
+  abbrev table : List ℕ
+  table = section t (tableOf es)
+
+  abbrev blocks : List ℕ
+  blocks = section u (usedFrom (h .pool) 0 es)
+
+  abbrev words : List ℕ
+  words = section (length roots / 4) roots
+
+  word-long : length one-word ≡ 6
+  word-long = length-section 1 (bytesOf base) ∙ omega (arith, length-bytesOf base)
+
+  table-long : length table ≡ 2 + t
+  table-long = length-section t (tableOf es) ∙ omega (arith, length-tableOf es)
+
+  blocks-long : length blocks ≡ 2 + 16 * u
+  blocks-long = length-section u (usedFrom (h .pool) 0 es) ∙ omega (arith, length-used (h .pool) 0 es (omega arith))
+
+  -- the sections, one before all that follows it
+  one-by-one : imageOf base h roots ≡ one-word ++ (table ++ (blocks ++ words))
+  unfolding imageOf sections
+  one-by-one = rw (append-assoc (one-word ++ table) blocks words, append-assoc one-word table (blocks ++ words))
+
+  pub in-base : (i : ℕ) → i < 6 → getD (imageOf base h roots) i 0 ≡ getD one-word i 0
+  in-base i l = rw one-by-one (List·getD-append one-word (table ++ (blocks ++ words)) 0 i (omega (arith, word-long)))
+
+  -- behind the base
+  behind-base : (i : ℕ) → getD (imageOf base h roots) (6 + i) 0 ≡ getD (table ++ (blocks ++ words)) i 0
+  behind-base i =
+      let e : 6 + i ≡ length one-word + i = omega (arith, word-long) in
+      rw (one-by-one, e) (getD-append-add one-word (table ++ (blocks ++ words)) i 0)
+
+  pub in-table : (i : ℕ) → i < 2 + t → getD (imageOf base h roots) (6 + i) 0 ≡ getD table i 0
+  in-table i l = behind-base i ∙ List·getD-append table (blocks ++ words) 0 i (omega (arith, table-long))
+
+  -- behind the table
+  behind-table : (i : ℕ) → getD (imageOf base h roots) (8 + t + i) 0 ≡ getD (blocks ++ words) i 0
+  behind-table i =
+      let e : 8 + t + i ≡ 6 + (length table + i) = omega (arith, table-long) in
+      rw e (behind-base (length table + i) ∙ getD-append-add table (blocks ++ words) i 0)
+
+  pub in-blocks : (i : ℕ) → i < 2 + 16 * u → getD (imageOf base h roots) (8 + t + i) 0 ≡ getD blocks i 0
+  in-blocks i l = behind-table i ∙ List·getD-append blocks words 0 i (omega (arith, blocks-long))
+
+  pub in-roots : (i : ℕ) → getD (imageOf base h roots) (10 + t + 16 * u + i) 0 ≡ getD words i 0
+  in-roots i =
+      let e : 10 + t + 16 * u + i ≡ 8 + t + (length blocks + i) = omega (arith, blocks-long) in
+      rw e (behind-table (length blocks + i) ∙ getD-append-add blocks words i 0)

@@ -3,17 +3,17 @@
 use mathlib.Core.Path.{_≡_, refl, sym, ap, _∙_}
 use mathlib.Core.Bool.{Bool, true, false, not}
 use mathlib.Core.List.{List, [], _∷_, _++_}
-use Prim.Native.Nat.{ℕ, zero, suc, _*_, _%_, _<_}
+use Prim.Native.Nat.{ℕ, zero, suc, _*_, _/_, _%_, _≤_, _<_}
 use native.Mathlib.Omega.{arith}
 use lib.Dec.{eqb, leb, ltb}
 use lib.ListN.{length}
-use borrow.Author.Tests.{eqb-true, eqb-false, leb-true, leb-false, ltb-true, eq-eqb, ne-eqb, le-leb, lt-leb}
+use borrow.Author.Tests.{eqb-true, eqb-false, leb-true, leb-false, ltb-true, ltb-false, eq-eqb, ne-eqb, le-leb, lt-leb}
 use Rattle.rules.specs.Tests.{pick, both}
 use Rattle.rules.specs.Pointers.{addressOf, goodBase}
 use Rattle.rules.specs.Entries.{HEAD}
 use Rattle.rules.specs.Tables.{entryAt, wellFormed}
 use Rattle.rules.specs.Outcomes.{Heap, Outcome, onlyRefusal, leavesWith, unlessRefused}
-use Rattle.rules.specs.Refusals.{Test, firstOf, goodShape, wholeWords, goodLists, badShape, illFormed, firstTests, heapTests, nameTests, noBytes, outside, noHead}
+use Rattle.rules.specs.Refusals.{Test, firstOf, goodShape, wholeWords, goodRoots, goodLists, badShape, illFormed, manyRoots, firstTests, heapTests, rootTests, nameTests, noBytes, outside, noHead}
 use Rattle.rules.specs.Meaning.{Shape, Passed, Named, Accepted}
 
 -- ---- booleans
@@ -162,6 +162,14 @@ lists-say base h roots stack e =
     let lists = both-right (goodShape base h) _ e in
     (shape-true base h (both-left (goodShape base h) _ e), eqb-true _ _ (both-left (wholeWords roots) _ lists), eqb-true _ _ (both-right (wholeWords roots) _ lists))
 
+pub roots-of : (base : ℕ) (h : Heap) (roots : List ℕ) → Shape base h × (length roots % 4 ≡ 0) → goodRoots base h roots ≡ true
+unfolding wholeWords
+roots-of base h roots s = rw (shape-of base h (s .0), eq-eqb (length roots % 4) 0 (s .1))
+
+pub roots-say : (base : ℕ) (h : Heap) (roots : List ℕ) → goodRoots base h roots ≡ true → Shape base h × (length roots % 4 ≡ 0)
+unfolding wholeWords
+roots-say base h roots e = (shape-true base h (both-left (goodShape base h) _ e), eqb-true _ _ (both-right (goodShape base h) _ e))
+
 -- ---- what a call knows once it is not refused
 
 -- the tests that come first do not hold, nor do the others
@@ -171,6 +179,15 @@ first-passed good h ts e =
     let a = first-none (badShape good) (illFormed h ∷ ts) (omega arith) e in
     let b = first-none (illFormed h) ts (omega arith) (a .1) in
     (not-false _ (a .0), not-false _ (b .0), b .1)
+
+-- nor do those of a root list
+pub roots-passed : (base : ℕ) (h : Heap) (roots : List ℕ) (ts : List Test) → firstOf (rootTests base h roots ++ ts) ≡ 0
+    → Passed base h × (length roots % 4 ≡ 0) × (length roots / 4 ≤ 4096) × (firstOf ts ≡ 0)
+roots-passed base h roots ts e =
+    let p = first-passed (goodRoots base h roots) h (manyRoots roots ∷ ts) e in
+    let s = roots-say base h roots (p .0) in
+    let m = first-none (manyRoots roots) ts (omega arith) (p .2) in
+    (record { shape = s .0; well = p .1 }, s .1, ltb-false 4096 (length roots / 4) (m .0), m .1)
 
 pub passed : (base : ℕ) (h : Heap) (ts : List Test) → firstOf (heapTests base h ++ ts) ≡ 0 → Passed base h
 passed base h ts e = let p = first-passed (goodShape base h) h ts e in record { shape = shape-true base h (p .0); well = p .1 }

@@ -2,7 +2,6 @@
 -- Whether a call is refused is told by the table, the lengths and the arguments alone.
 -- Assumes nothing.
 use mathlib.Core.Path.{_≡_, refl, ap, _∙_}
-use mathlib.Core.Logic.{_≢_}
 use mathlib.Core.List.{List, [], _∷_, _++_}
 use Prim.Native.Nat.{ℕ, zero, suc, _+_, _*_, _-_, _/_, _<_}
 use native.Mathlib.Omega.{arith}
@@ -21,8 +20,8 @@ use Rattle.rules.proofs.Changes.{placed-out, extended-out}
 use Rattle.rules.specs.Meaning.{Passed, Named}
 use Rattle.rules.proofs.Refusals.{first-none, passed, asked, named-object, named-resize, after-names}
 use Rattle.rules.proofs.Calls.{blocks-some}
-use Rattle.rules.specs.Images.{blockBytes, imageOf}
-use Rattle.rules.proofs.Images.{used-same}
+use Rattle.rules.specs.Images.{imageOf}
+use Rattle.rules.proofs.Images.{block-same, used-same}
 use Rattle.rules.proofs.Matching.{SameByte, Matching, match-run, match-cleared, match-fewer, match-same}
 
 abbrev pub heap : List ℕ → List ℕ → Heap
@@ -197,21 +196,10 @@ module _ (base : ℕ) (es p q : List ℕ) (a : Matching es p q) where
       (unless-both Twin _ refused
       (λ z. record { answer = ap loaded (word-same k i (named-object base h′ k _ z) (word-inside base h′ k i z)); table = refl; filled = refl; match = a }))
 
-  -- the bytes of a used block are the same in both pools
-  block-same : (k : ℕ) → entryAt es k ≢ FREE → blockBytes p k ≡ blockBytes q k
-  unfolding blockBytes
-  block-same k u =
-      ext-getD 0 (take 16 (drop (16 * k) p)) (take 16 (drop (16 * k) q)) (simp (length-take, length-drop, a .long))
-      (λ i l. go i (omega (arith, length-take 16 (drop (16 * k) p))))
-    where
-      go : (i : ℕ) → i < 16 → getD (take 16 (drop (16 * k) p)) i 0 ≡ getD (take 16 (drop (16 * k) q)) i 0
-      go i l =
-          let e : (16 * k + i) / 16 ≡ k = omega arith in
-          rw (getD-take 16 (drop (16 * k) p), getD-drop, getD-take 16 (drop (16 * k) q), getD-drop) (a .bytes (16 * k + i) (rw e u))
-
   image-same : (roots : List ℕ) → imageOf base h roots ≡ imageOf base h′ roots
   unfolding imageOf
-  image-same roots = rw (used-same p q 0 es (λ i u. let here : 0 + i ≡ i = omega arith in rw here (block-same i u)))
+  image-same roots =
+      rw (used-same p q 0 es (λ k u. block-same p q (0 + k) (a .long) (λ j l. let e : (16 * (0 + k) + j) / 16 ≡ k = omega arith in a .bytes (16 * (0 + k) + j) (rw e u))))
 
   pub twin-image : (roots : List ℕ) (room : ℕ) → Twin (writeImage base h roots room) (writeImage base h′ roots room)
   unfolding writeImage
