@@ -13,7 +13,7 @@ use Rattle.rules.specs.Meaning.{Aligned, Accepted}
 use Rattle.rules.specs.Outcomes.{Heap}
 use Rattle.rules.specs.Forms.{Form, Faithful, Small}
 use Rattle.rules.specs.Calls.{blocksFor, allocate, free, reallocate, collect}
-use Rattle.rules.specs.Runs.{Call, Init, Allocate, Free, Reallocate, Collect, Survey, Load, Store, Turn, step}
+use Rattle.rules.specs.Runs.{Call, Init, Allocate, Free, Reallocate, Collect, Survey, Load, Store, WriteImage, Turn, step}
 use Rattle.rules.specs.Memory.{Memory, heapIn, AcceptedIn, perform, turnIn, afterIn}
 use Rattle.rules.proofs.Refusals.{named-resize}
 use Rattle.rules.proofs.Tables.{entry-inside, extent-of}
@@ -148,6 +148,7 @@ new-accepted (Collect base roots) stack h small accepted = new-collected base h 
 new-accepted (Survey base) stack h small accepted = same-table h _ (ap (λ (g : Heap). g .entries) (promises .survey-leaves base h))
 new-accepted (Load base k i) stack h small accepted = same-table h _ (ap (λ (g : Heap). g .entries) (promises .load-leaves base h k i))
 new-accepted (Store base k i w) stack h small accepted = same-table h _ (promises .stored base h k i w accepted .table)
+new-accepted (WriteImage base roots room) stack h small accepted = same-table h _ (ap (λ (g : Heap). g .entries) (promises .image-leaves base h roots room))
 
 -- ---- lists of calls on lent memory
 

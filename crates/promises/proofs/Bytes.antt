@@ -4,31 +4,33 @@ use mathlib.Core.Path.{_≡_, refl, ap, sym, _∙_}
 use mathlib.Core.Logic.{_≢_, _⊎_, inl, inr, ⊎-elim}
 use mathlib.Core.Bool.{Bool, true, false, not}
 use mathlib.Core.List.{List, [], _∷_}
-use Prim.Native.Nat.{ℕ, zero, suc, _+_, _*_}
+use Prim.Native.Nat.{ℕ, zero, suc, _+_, _-_, _*_, _≤_}
 use native.Mathlib.Decide.{ℕ-discrete}
 use native.Mathlib.Omega.{arith}
 use lib.Dec.{eqb}
-use lib.ListN.{length, replicate}
+use lib.ListN.{length, getD, drop, replicate, length-append, length-drop}
+use lib.Seq.{getD-append-add, getD-drop}
 use borrow.Author.Tests.{eqb-true, eqb-false, eq-eqb}
 use Rattle.rules.specs.Tests.{both, either}
 use Rattle.rules.specs.Entries.{FREE}
 use Rattle.rules.specs.Outcomes.{Heap, Outcome, onlyRefusal}
 use Rattle.rules.specs.Refusals.{test, firstOf}
-use Rattle.rules.specs.Runs.{Call, Init, Allocate, Free, Reallocate, Collect, Survey, Load, Store, step}
+use Rattle.rules.specs.Runs.{Call, Init, Allocate, Free, Reallocate, Collect, Survey, Load, Store, WriteImage, step}
 use Rattle.rules.specs.Forms.{Form, Faithful}
 use Rattle.rules.specs.Planes.{planeBytes, entriesIn, spareFree, planesOf, planes, heapAt}
-use Rattle.rules.specs.Memory.{Memory, memory, heapIn, lengthsFit, doneIn, Result, result, AcceptedIn, stackFor, readsTable, testsIn, orRefused, perform}
+use Rattle.rules.specs.Memory.{Memory, memory, heapIn, lengthsFit, doneIn, Result, result, withBuffer, AcceptedIn, stackFor, readsTable, testsIn, orRefused, perform}
 use Rattle.rules.specs.Meaning.{AllBytes, Shape, Accepted}
 use Rattle.rules.proofs.Refusals.{true-not-false, both-left, both-right, not-true, not-false}
 use Rattle.rules.proofs.Memory.{tests-passed, perform-accepted, passes-in, accepted-sound, Performed, acted, left, performed, packed-faithful, follows-accepted, follows-sound, sound-next}
 use Rattle.rules.proofs.Planes.{length-entriesIn, getD-entriesIn, entryIn-byte, planes-faithful}
 use Rattle.rules.proofs.Agreement.{in-planes, in-packed, planes-agree, call-in-planes, run-in-planes}
-use Rattle.promises.specs.Conditions.{Condition, First, when, ofInit, ofAllocate, ofFree, ofReallocate, ofCollect, ofSurvey, ofWord}
+use Rattle.promises.specs.Conditions.{Condition, First, when, ofInit, ofAllocate, ofFree, ofReallocate, ofCollect, ofSurvey, ofWord, ofWriteImage}
 use Rattle.promises.specs.Bytes.{OnBytes, AsPacked}
 use Rattle.promises.proofs.Checked.{init-checked, acts}
 use Rattle.promises.proofs.Planes.{shape-in-bytes, spare-in-bytes, free-planes}
 use Rattle.promises.proofs.Storing.{stored, survey-leaves, load-leaves}
-use Rattle.promises.proofs.Numbers.{first-step, first-end, init-refusal, allocate-refusal, free-refusal, reallocate-refusal, collect-refusal, survey-refusal, load-refusal, store-refusal}
+use Rattle.promises.proofs.Imaging.{image-leaves, image-fits}
+use Rattle.promises.proofs.Numbers.{first-step, first-end, init-refusal, allocate-refusal, free-refusal, reallocate-refusal, collect-refusal, survey-refusal, load-refusal, store-refusal, image-refusal}
 
 refused-bytes : (f : Form) (c : Call) (stack : List ℕ) (m : Memory) → ¬ AcceptedIn (perform f c stack m)
     → perform f c stack m ≡ result (onlyRefusal (perform f c stack m .answer .refusal)) m (stackFor c stack)
@@ -118,7 +120,7 @@ sized base h given = go (ℕ-discrete (length (h .pool)) (16 * length (h .entrie
 
 -- a call that is not refused by 1 has 16 bytes of the pool for each block
 pool-size : (c : Call) (stack : List ℕ) (h : Heap) → step c stack h .answer .refusal ≢ 1 → length (h .pool) ≡ 16 * length (h .entries)
-unfolding step ofInit ofAllocate ofFree ofReallocate ofCollect ofSurvey ofWord
+unfolding step ofInit ofAllocate ofFree ofReallocate ofCollect ofSurvey ofWord ofWriteImage
 pool-size (Init base) stack h other = sized base h (first-not _ _ _ (init-refusal base h) other)
 pool-size (Allocate base bytes) stack h other = sized base h (first-not _ _ _ (allocate-refusal base h bytes) other)
 pool-size (Free base k) stack h other = sized base h (first-not _ _ _ (free-refusal base h k) other)
@@ -127,6 +129,7 @@ pool-size (Collect base roots) stack h other = sized base h (λ bad. first-not _
 pool-size (Survey base) stack h other = sized base h (first-not _ _ _ (survey-refusal base h) other)
 pool-size (Load base k i) stack h other = sized base h (first-not _ _ _ (load-refusal base h k i) other)
 pool-size (Store base k i w) stack h other = sized base h (first-not _ _ _ (store-refusal base h k i w) other)
+pool-size (WriteImage base roots room) stack h other = sized base h (λ bad. first-not _ _ _ (image-refusal base h roots room) other (λ s. bad (s .0)))
 
 -- so 64 for each of t
 pub pool-of : (t : ℕ) (c : Call) (stack : List ℕ) (m : Memory) → perform (planes t) c stack m .answer .refusal ≢ 1 → length (m .pool) ≡ 64 * t
@@ -177,6 +180,41 @@ store-bytes : (f : Form) → Faithful f → (base k i w : ℕ) (m : Memory) → 
 unfolding step
 store-bytes f faithful base k i w m bytes = table-left f faithful (Store base k i w) [] m bytes refl (λ z. stored base (heapIn f m) k i w z .table)
 
+image-bytes : (f : Form) → Faithful f → (base : ℕ) (roots : List ℕ) (room : ℕ) (m : Memory) → AllBytes (m .table) → perform f (WriteImage base roots room) [] m .memory ≡ m
+unfolding step
+image-bytes f faithful base roots room m bytes =
+    let e = image-leaves base (heapIn f m) roots room in
+    memory-left f faithful (WriteImage base roots room) [] m bytes refl (λ _. ap (λ (h : Heap). h .entries) e) (λ _. ap (λ (h : Heap). h .pool) e)
+
+-- ---- the buffer for an image
+
+module _ (f : Form) (base : ℕ) (roots buffer : List ℕ) (m : Memory) where
+  abbrev c : Call
+  c = WriteImage base roots (length buffer)
+
+  -- the answer is how much was written, and there was room for it
+  filled-long : (perform f c [] m .answer .length ≡ length (perform f c [] m .filled)) × (length (perform f c [] m .filled) ≤ length buffer)
+  unfolding step
+  filled-long = go (performed f c [] m)
+    where
+      go : Performed m [] (perform f c [] m) → (perform f c [] m .answer .length ≡ length (perform f c [] m .filled)) × (length (perform f c [] m .filled) ≤ length buffer)
+      go (acted z) = let a = accepted-bytes f c [] m z in rw (a .1) (image-fits base (heapIn f m) roots (length buffer) (a .0))
+      go (left r e) = rw e (refl, omega arith)
+
+  image-behind : let left : List ℕ = withBuffer buffer (perform f c [] m) .filled in
+      (length left ≡ length buffer) × ((i : ℕ) → perform f c [] m .answer .length ≤ i → getD left i 0 ≡ getD buffer i 0)
+  image-behind =
+      let l = filled-long in
+      let written = perform f c [] m .filled in (
+        length-append written (drop (length written) buffer) ∙ omega (arith, length-drop (length written) buffer, l .1),
+        λ i past.
+        let e : i ≡ length written + (i - length written) = omega (arith, l .0) in
+        rw e (getD-append-add written (drop (length written) buffer) (i - length written) 0 ∙ getD-drop (length written) buffer (i - length written) 0),
+      )
+
+  image-refused : ¬ AcceptedIn (perform f c [] m) → withBuffer buffer (perform f c [] m) .filled ≡ buffer
+  image-refused no-number = rw (refused-bytes f c [] m no-number) refl
+
 pub on-bytes : OnBytes
 on-bytes = record {
   refused-bytes = refused-bytes;
@@ -184,10 +222,13 @@ on-bytes = record {
   number = number;
   as-on-heap = λ f faithful c stack m s.
       let x = follows-sound f faithful c stack m s in
-      record { answer = x .answer; heap = x .heap; sound = sound-next f faithful c stack m s };
+      record { answer = x .answer; heap = x .heap; filled = x .filled; sound = sound-next f faithful c stack m s };
   survey-bytes = survey-bytes;
   load-bytes = load-bytes;
   store-bytes = store-bytes;
+  image-bytes = image-bytes;
+  image-behind = image-behind;
+  image-refused = image-refused;
   planes-faithful = planes-faithful;
   packed-faithful = packed-faithful;
   shape-in-bytes = shape-in-bytes;

@@ -10,10 +10,11 @@ use Rattle.rules.specs.Tests.{orElse}
 use Rattle.rules.specs.Words.{wordAt, withWord, wordsOf}
 use Rattle.rules.specs.Entries.{FREE}
 use Rattle.rules.specs.Tables.{blockCount, firstFit, used, objects, longest}
-use Rattle.rules.specs.Outcomes.{Heap, Outcome, onlyRefusal, surveyed, loaded, leaves, unlessRefused}
+use Rattle.rules.specs.Outcomes.{Heap, Outcome, onlyRefusal, surveyed, loaded, writtenTo, leaves, fills, unlessRefused}
 use Rattle.rules.specs.Refusals.{Test, firstOf, noBytes, outside, noHead, noRoom, initTests, heapTests, objectTests, wordTests, collectionTests}
 use Rattle.rules.specs.Marking.{markAll}
-use Rattle.rules.specs.Calls.{Way, stay, shrink, grow, move, noWay, isNoWay, wayOf, allocateTests, reallocateTests, along, placing, taken, freed, blocksFor, init, allocate, free, reallocate, collecting, collect, survey, load, store}
+use Rattle.rules.specs.Images.{imageOf}
+use Rattle.rules.specs.Calls.{Way, stay, shrink, grow, move, noWay, isNoWay, wayOf, allocateTests, reallocateTests, along, placing, taken, freed, blocksFor, init, allocate, free, reallocate, collecting, collect, survey, load, store, imageTests, writeImage}
 use Rattle.rules.specs.Meaning.{Accepted}
 use Rattle.rules.proofs.Refusals.{true-not-false, first-none, first-rest, accepts, own-tests}
 use Rattle.promises.specs.Promises.{Refused}
@@ -32,7 +33,7 @@ refused-by : (n : ℕ) (h : Heap) (stack : List ℕ) (act : Outcome) → (n ≡ 
     → Refused h (unlessRefused n h stack act) × (unlessRefused n h stack act .stack ≡ stack)
 unfolding unlessRefused
 refused-by zero h stack act fine no-number = absurd (no-number (fine refl))
-refused-by (suc n) h stack act fine no-number = (record { answer = refl; heap = refl }, refl)
+refused-by (suc n) h stack act fine no-number = (record { answer = refl; heap = refl; filled = refl }, refl)
 
 module _ {h : Heap} {stack : List ℕ} {ts : List Test} {act r : Outcome} (c : Checked h stack ts act r) where
   -- its number is that of the tests
@@ -108,3 +109,8 @@ module _ (base : ℕ) (h : Heap) where
       → Checked h [] (wordTests base h k i) (leaves (onlyRefusal 0) (record { pool = withWord (h .pool) (4 * k + i) w; entries = h .entries })) (store base h k i w)
   unfolding store
   store-checked k i w = record { is = refl; fine = λ _. refl }
+
+  pub image-checked : (roots : List ℕ) (room : ℕ)
+      → Checked h [] (imageTests base h roots room) (fills (writtenTo (length (imageOf base h roots))) h (imageOf base h roots)) (writeImage base h roots room)
+  unfolding writeImage
+  image-checked roots room = record { is = refl; fine = λ _. refl }

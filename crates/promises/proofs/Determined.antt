@@ -5,20 +5,22 @@ use mathlib.Core.Path.{_≡_, ap, sym, subst, _∙_}
 use mathlib.Core.Logic.{⊎-elim, inl, inr}
 use mathlib.Core.List.{List, [], _∷_}
 use mathlib.Core.Option.{some, none}
-use Prim.Native.Nat.{ℕ, zero, suc, _+_, _*_, _-_, _≤_, _<_}
+use Prim.Native.Nat.{ℕ, zero, suc, _+_, _*_, _-_, _/_, _%_, _≤_, _<_}
 use native.Mathlib.Decide.{decLt, ℕ-discrete}
 use native.Mathlib.Omega.{arith}
 use lib.IntN.{negℤ, pos}
-use lib.ListN.{getD}
+use lib.ListN.{length, getD, take}
+use lib.Seq.{ext-getD}
 use Rattle.rules.specs.Entries.{FREE, TAIL}
 use Rattle.rules.specs.Tables.{entryAt, used}
 use Rattle.rules.specs.Meaning.{Lowest}
 use Rattle.rules.specs.Outcomes.{Heap, Outcome, onlyRefusal, loaded}
+use Rattle.rules.proofs.Images.{used-nth}
 use Rattle.rules.proofs.Tables.{entry-inside, extent-of, lowest-one, longest-one}
 use Rattle.keeping.specs.Keeping.{Collected}
 use Rattle.keeping.proofs.Same.{keeps-one}
 use Rattle.promises.specs.Conditions.{Condition, First, RoomAfter}
-use Rattle.promises.specs.Promises.{blocksOf, byteAt, Object, Among, Within, Refused, Initialised, Allocated, Freed, Reallocated, Stored, Loaded, Surveyed, Reclaimed}
+use Rattle.promises.specs.Promises.{blocksOf, byteAt, Object, Among, Within, Refused, Initialised, Allocated, Freed, Reallocated, Stored, Loaded, Surveyed, Count, Imaged, Reclaimed}
 use Rattle.promises.specs.Determined.{SameHeap, SameEffect, SamePlace, SameFindings, Determined}
 
 -- ---- numbers
@@ -64,8 +66,8 @@ object-entry h h' s b head head' count count' (suc j) l =
 -- ---- the calls
 
 pub refused-one : (h : Heap) (r r' : Outcome) → Refused h r → Refused h r' → r .answer .refusal ≡ r' .answer .refusal
-    → (r .answer ≡ r' .answer) × (r .heap ≡ r' .heap)
-refused-one h r r' a a' e = (a .answer ∙ ap onlyRefusal e ∙ sym (a' .answer), a .heap ∙ sym (a' .heap))
+    → (r .answer ≡ r' .answer) × (r .heap ≡ r' .heap) × (r .filled ≡ r' .filled)
+refused-one h r r' a a' e = (a .answer ∙ ap onlyRefusal e ∙ sym (a' .answer), a .heap ∙ sym (a' .heap), a .filled ∙ sym (a' .filled))
 
 pub initialised-one : (base : ℕ) (h : Heap) (r r' : Outcome) → Initialised base h r → Initialised base h r' → SameHeap (r .heap) (r' .heap)
 initialised-one base h r r' a a' = record {
@@ -220,6 +222,52 @@ reclaimed-one base h roots stack r r' a a' c c' =
       };
     }
 
+-- every place in an image is of a count, the base, the table, a used block or the roots
+pub imaged-one : (base : ℕ) (h : Heap) (roots : List ℕ) (r r' : Outcome) → let t = length (h .entries) / 4 in let u = used (h .entries) in
+    Imaged base h roots t u r → Imaged base h roots t u r' → (r .answer .length ≡ r' .answer .length) × (r .filled ≡ r' .filled)
+imaged-one base h roots r r' a a' =
+    let same : r .filled ≡ r' .filled = ext-getD 0 (r .filled) (r' .filled) (a .long ∙ sym (a' .long)) (λ i l. at i (omega (arith, a .long))) in
+    (a .answered ∙ ap (λ (bytes : List ℕ). length bytes) same ∙ sym (a' .answered), same)
+  where
+    t : ℕ
+    t = length (h .entries) / 4
+
+    u : ℕ
+    u = used (h .entries)
+
+    P : ℕ → Type 0
+    P i = getD (r .filled) i 0 ≡ getD (r' .filled) i 0
+
+    counted : (i n : ℕ) → Count (r .filled) i n → Count (r' .filled) i n → (j : ℕ) → j < 2 → P (i + j)
+    counted i n c c' zero l = let e : i + 0 ≡ i = omega arith in rw e (c .0 ∙ sym (c' .0))
+    counted i n c c' (suc j) l = let e : i + suc j ≡ suc i = omega arith in rw e (c .1 ∙ sym (c' .1))
+
+    block : (j : ℕ) → j < 16 * u → P (10 + t + j)
+    block j l =
+        let (k, held, q) = used-nth (h .entries) (j / 16) (omega arith) in
+        let e : 10 + t + j ≡ 10 + t + 16 * used (take k (h .entries)) + j % 16 = omega arith in
+        rw e (a .block-bytes k held (j % 16) (omega arith) ∙ sym (a' .block-bytes k held (j % 16) (omega arith)))
+
+    -- section by section
+    at : (i : ℕ) → i < 12 + t + 16 * u + length roots → P i
+    at i l = go (decLt i 2) (decLt i 6) (decLt i 8) (decLt i (8 + t)) (decLt i (10 + t)) (decLt i (10 + t + 16 * u)) (decLt i (12 + t + 16 * u))
+      where
+        from : (s : ℕ) → s ≤ i → P (s + (i - s)) → P i
+        from s le p = let e : s + (i - s) ≡ i = omega arith in rw e at p
+
+        go : Dec (i < 2) → Dec (i < 6) → Dec (i < 8) → Dec (i < 8 + t) → Dec (i < 10 + t) → Dec (i < 10 + t + 16 * u) → Dec (i < 12 + t + 16 * u) → P i
+        go (yes b) _ _ _ _ _ _ = from 0 (omega arith) (counted 0 1 (a .base-count) (a' .base-count) (i - 0) (omega arith))
+        go (no n2) (yes b) _ _ _ _ _ = from 2 (omega arith) (a .base-bytes (i - 2) (omega arith) ∙ sym (a' .base-bytes (i - 2) (omega arith)))
+        go (no n2) (no n6) (yes b) _ _ _ _ = from 6 (omega arith) (counted 6 t (a .table-count) (a' .table-count) (i - 6) (omega arith))
+        go (no n2) (no n6) (no n8) (yes b) _ _ _ = from 8 (omega arith) (a .table-bytes (i - 8) (omega arith) ∙ sym (a' .table-bytes (i - 8) (omega arith)))
+        go (no n2) (no n6) (no n8) (no nt) (yes b) _ _ = from (8 + t) (omega arith) (counted (8 + t) u (a .block-count) (a' .block-count) (i - (8 + t)) (omega arith))
+        go (no n2) (no n6) (no n8) (no nt) (no n10) (yes b) _ = from (10 + t) (omega arith) (block (i - (10 + t)) (omega arith))
+        go (no n2) (no n6) (no n8) (no nt) (no n10) (no nb) (yes b) =
+            from (10 + t + 16 * u) (omega arith) (counted (10 + t + 16 * u) (length roots / 4) (a .root-count) (a' .root-count) (i - (10 + t + 16 * u)) (omega arith))
+        go (no n2) (no n6) (no n8) (no nt) (no n10) (no nb) (no b) =
+            let n = i - (12 + t + 16 * u) in
+            from (12 + t + 16 * u) (omega arith) (a .root-bytes n (omega arith) ∙ sym (a' .root-bytes n (omega arith)))
+
 pub determined : Determined
 determined = record {
   number = first-one;
@@ -231,5 +279,6 @@ determined = record {
   stored = stored-one;
   loaded = loaded-one;
   surveyed = surveyed-one;
+  imaged = imaged-one;
   reclaimed = reclaimed-one;
 }

@@ -7,8 +7,10 @@ pub mod Freeing
 pub mod Reallocating
 pub mod Storing
 pub mod Collecting
+pub mod Imaging
 pub mod Planes
 pub mod Bytes
+pub mod Images
 pub mod OtherT
 pub mod Promised
 pub mod Determined

@@ -14,15 +14,17 @@ use Rattle.rules.specs.Entries.{HEAD}
 use Rattle.rules.specs.Tables.{entryAt, isHead, wellFormed, blockCount, firstFit}
 use Rattle.rules.specs.Meaning.{Well, Lowest, Shape, Passed, Accepted}
 use Rattle.rules.specs.Outcomes.{Heap}
-use Rattle.rules.specs.Refusals.{Test, firstOf, goodShape, badShape, goodLists, illFormed, manyRoots, longStack, noBytes, outside, noHead, noWord, noRoom, wordTests}
-use Rattle.rules.specs.Calls.{Way, stay, shrink, grow, move, noWay, isNoWay, wayTo, blocksFor, init, allocate, free, reallocate, collect, survey, load, store, wayOf}
-use Rattle.rules.specs.Runs.{Call, Init, Allocate, Free, Reallocate, Collect, Survey, Load, Store, step}
-use Rattle.rules.proofs.Refusals.{true-not-false, not-true, not-false, first-yes, first-no, passes, asks, names, shape-true, shape-of, lists-of, lists-say}
+use Rattle.rules.specs.Refusals.{Test, firstOf, goodShape, badShape, goodRoots, goodLists, illFormed, manyRoots, longStack, shortBuffer, noBytes, outside, noHead, noWord, noRoom, wordTests}
+use Rattle.rules.specs.Calls.{Way, stay, shrink, grow, move, noWay, isNoWay, wayTo, blocksFor, init, allocate, free, reallocate, collect, survey, load, store, wayOf, writeImage}
+use Rattle.rules.specs.Runs.{Call, Init, Allocate, Free, Reallocate, Collect, Survey, Load, Store, WriteImage, step}
+use Rattle.rules.proofs.Refusals.{true-not-false, not-true, not-false, first-yes, first-no, passes, asks, names, shape-true, shape-of, lists-of, lists-say, roots-of, roots-say}
+use Rattle.rules.specs.Images.{imageOf}
+use Rattle.rules.proofs.Images.{length-image}
 use Rattle.rules.proofs.Tables.{entry-inside, extent-of, well-says, well-of, first-lowest, none-first}
 use Rattle.rules.proofs.Calls.{Ways, stays, shrinks, grows, moves, stuck, way-says, way-is, blocks-some, blocks-enough, blocks-least, blocks-more}
-use Rattle.promises.specs.Conditions.{Condition, when, First, NoFit, NoWay, ofInit, ofAllocate, ofFree, ofReallocate, ofCollect, ofSurvey, ofWord}
+use Rattle.promises.specs.Conditions.{Condition, when, First, NoFit, NoWay, ofInit, ofAllocate, ofFree, ofReallocate, ofCollect, ofSurvey, ofWord, imageLength, ofWriteImage}
 use Rattle.promises.specs.Promises.{Object, Refused}
-use Rattle.promises.proofs.Checked.{number, refuses, init-checked, allocate-checked, free-checked, reallocate-checked, collect-checked, survey-checked, load-checked, store-checked}
+use Rattle.promises.proofs.Checked.{number, refuses, init-checked, allocate-checked, free-checked, reallocate-checked, collect-checked, survey-checked, load-checked, store-checked, image-checked}
 
 -- ---- the first test that holds
 
@@ -79,6 +81,13 @@ module _ (base : ℕ) (h : Heap) where
       (λ e s. true-not-false (well-of (h .entries) s) (not-true (wellFormed (h .entries)) e))
       (λ e f. f (well-says (h .entries) (not-false (wellFormed (h .entries)) e)))
       (λ e. rest)
+
+  many-step : (roots : List ℕ) (ts : List Test) (cs : List Condition) → First cs (firstOf ts) → First (when 3 (4096 < length roots / 4) ∷ cs) (firstOf (manyRoots roots ∷ ts))
+  many-step roots ts cs rest =
+      first-step (manyRoots roots) ts (when 3 (4096 < length roots / 4)) cs refl
+      (λ e. ltb-true 4096 (length roots / 4) e)
+      (λ e l. omega (arith, ltb-false 4096 (length roots / 4) e))
+      (λ _. rest)
 
   bytes-step : (bytes : ℕ) (ts : List Test) (cs : List Condition) → (0 < bytes → First cs (firstOf ts)) → First (when 5 (bytes ≡ 0) ∷ cs) (firstOf (noBytes bytes ∷ ts))
   bytes-step bytes ts cs rest =
@@ -181,10 +190,8 @@ module _ (base : ℕ) (h : Heap) where
       (λ e f. true-not-false (lists-of base h roots stack f) (not-true _ e))
       (λ e f. f (lists-say base h roots stack (not-false _ e)))
       (λ _. well-step _ _
-      (first-step (manyRoots roots) _ (when 3 (4096 < length roots / 4)) _ refl
-      (λ e. ltb-true 4096 (length roots / 4) e)
-      (λ e l. omega (arith, ltb-false 4096 (length roots / 4) e))
-      (λ _. first-step (longStack stack) [] (when 4 (64 < length stack / 4)) [] refl
+      (many-step roots _ _
+      (first-step (longStack stack) [] (when 4 (64 < length stack / 4)) [] refl
       (λ e. ltb-true 64 (length stack / 4) e)
       (λ e l. omega (arith, ltb-false 64 (length stack / 4) e))
       (λ _. first-end)))))
@@ -192,6 +199,21 @@ module _ (base : ℕ) (h : Heap) where
   pub survey-refusal : First (ofSurvey base h) (survey base h .answer .refusal)
   unfolding ofSurvey
   survey-refusal = rw (number (survey-checked base h)) (shape-step _ _ (λ _. well-step [] [] first-end))
+
+  pub image-refusal : (roots : List ℕ) (room : ℕ) → First (ofWriteImage base h roots room) (writeImage base h roots room .answer .refusal)
+  unfolding ofWriteImage
+  image-refusal roots room =
+      rw (number (image-checked base h roots room))
+      (first-step (badShape (goodRoots base h roots)) _ (when 1 (¬ (Shape base h × (length roots % 4 ≡ 0)))) _ refl
+      (λ e f. true-not-false (roots-of base h roots f) (not-true _ e))
+      (λ e f. f (roots-say base h roots (not-false _ e)))
+      (λ e. let long = length-image base h roots (roots-say base h roots (not-false _ e) .0 .pool) in
+      well-step _ _
+      (many-step roots _ _
+      (first-step (shortBuffer room (imageOf base h roots)) [] (when 10 (room < imageLength h roots)) [] refl
+      (λ f. omega (arith, long, ltb-true room (length (imageOf base h roots)) f))
+      (λ f l. omega (arith, long, ltb-false room (length (imageOf base h roots)) f))
+      (λ _. first-end)))))
 
   -- the tests of load and store
   word-refusal : (k i : ℕ) → First (ofWord base h k i) (firstOf (wordTests base h k i))
@@ -292,6 +314,7 @@ refused (Collect base roots) stack h no-number = refuses (collect-checked base h
 refused (Survey base) stack h no-number = refuses (survey-checked base h) no-number .0
 refused (Load base k i) stack h no-number = refuses (load-checked base h k i) no-number .0
 refused (Store base k i w) stack h no-number = refuses (store-checked base h k i w) no-number .0
+refused (WriteImage base roots room) stack h no-number = refuses (image-checked base h roots room) no-number .0
 
 pub refused-stack : (base : ℕ) (h : Heap) (roots stack : List ℕ) → ¬ Accepted (collect base h roots stack) → collect base h roots stack .stack ≡ stack
 refused-stack base h roots stack no-number = refuses (collect-checked base h roots stack) no-number .1

@@ -17,7 +17,7 @@ use Rattle.rules.specs.Pointers.{targetOf, leadsTo}
 use Rattle.rules.specs.Meaning.{Points, Leads, Longest, ShapeInBytes, Passed, Accepted}
 use Rattle.rules.specs.Outcomes.{Heap, Answer, Outcome, placement, collection, findings, onlyRefusal, placedAt, collectedTo, surveyed, loaded}
 use Rattle.rules.specs.Reach.{Reachable}
-use Rattle.rules.specs.Calls.{blocksFor, init, allocate, free, reallocate, collect, survey, load, store}
+use Rattle.rules.specs.Calls.{blocksFor, init, allocate, free, reallocate, collect, survey, load, store, writeImage}
 use Rattle.rules.specs.Runs.{Call, Init, Allocate, Free, Reallocate, Collect, Survey, Load, Store, step}
 use Rattle.rules.specs.Forms.{Form, Faithful}
 use Rattle.rules.specs.Planes.{spareFree, planes, heapAt}
@@ -27,7 +27,7 @@ use Rattle.rules.proofs.Refusals.{true-not-false}
 use Rattle.rules.proofs.Tables.{entry-inside, well-says, run-shorter}
 use Rattle.rules.proofs.Pointers.{points-one, leads-one}
 use Rattle.keeping.proofs.Owners.{reachable-head}
-use Rattle.promises.specs.Conditions.{when, First, RoomAfter, NoFit, ofInit, ofAllocate, ofFree, ofReallocate, ofCollect, ofSurvey, ofWord}
+use Rattle.promises.specs.Conditions.{when, First, RoomAfter, NoFit, ofInit, ofAllocate, ofFree, ofReallocate, ofCollect, ofSurvey, ofWord, ofWriteImage}
 use Rattle.promises.specs.Promises.{Object, blocksOf, Same, Counts, Surveyed}
 use Rattle.promises.specs.Determined.{partsOf}
 use Rattle.promises.proofs.Promised.{promises}
@@ -62,9 +62,12 @@ module _ (base : ℕ) (h : Heap) where
   pub store-number : (k i w n : ℕ) → First (ofWord base h k i) n → store base h k i w .answer .refusal ≡ n
   store-number k i w n = first-one (ofWord base h k i) _ n (promises .store-refusal base h k i w)
 
--- a refusal tells nothing but its number: two refused calls with one number answer alike, and leave the heap alike
+  pub image-number : (roots : List ℕ) (room n : ℕ) → First (ofWriteImage base h roots room) n → writeImage base h roots room .answer .refusal ≡ n
+  image-number roots room n = first-one (ofWriteImage base h roots room) _ n (promises .image-refusal base h roots room)
+
+-- a refusal tells nothing but its number: two refused calls with one number answer alike, and leave the heap and a buffer alike
 pub refusals-alike : (c c' : Call) (stack stack' : List ℕ) (h : Heap) → ¬ Accepted (step c stack h) → step c stack h .answer .refusal ≡ step c' stack' h .answer .refusal
-    → (step c stack h .answer ≡ step c' stack' h .answer) × (step c stack h .heap ≡ step c' stack' h .heap)
+    → (step c stack h .answer ≡ step c' stack' h .answer) × (step c stack h .heap ≡ step c' stack' h .heap) × (step c stack h .filled ≡ step c' stack' h .filled)
 refusals-alike c c' stack stack' h no-number e =
     refused-one h (step c stack h) (step c' stack' h) (promises .refused c stack h no-number) (promises .refused c' stack' h (λ none. no-number (e ∙ none))) e
 

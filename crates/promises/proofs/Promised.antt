@@ -2,13 +2,14 @@
 -- Assumes nothing.
 use Rattle.rules.proofs.Pointers.{target-points, leads-says}
 use Rattle.promises.specs.Promises.{Promises}
-use Rattle.promises.proofs.Numbers.{init-refusal, allocate-refusal, free-refusal, reallocate-refusal, collect-refusal, survey-refusal, load-refusal, store-refusal, rounded-up, allocate-no-room, reallocate-no-room, allocate-larger, reallocate-larger, refused, refused-stack}
+use Rattle.promises.proofs.Numbers.{init-refusal, allocate-refusal, free-refusal, reallocate-refusal, collect-refusal, survey-refusal, load-refusal, store-refusal, image-refusal, rounded-up, allocate-no-room, reallocate-no-room, allocate-larger, reallocate-larger, refused, refused-stack}
 use Rattle.promises.proofs.Initialising.{initialised}
 use Rattle.promises.proofs.Allocating.{allocated}
 use Rattle.promises.proofs.Freeing.{freed}
 use Rattle.promises.proofs.Reallocating.{reallocated}
 use Rattle.promises.proofs.Storing.{read, stored, surveyed, survey-leaves, load-leaves}
 use Rattle.promises.proofs.Collecting.{reclaimed}
+use Rattle.promises.proofs.Imaging.{imaged, image-leaves}
 
 pub promises : Promises
 promises = record {
@@ -22,6 +23,7 @@ promises = record {
   survey-refusal = survey-refusal;
   load-refusal = load-refusal;
   store-refusal = store-refusal;
+  image-refusal = image-refusal;
   rounded-up = rounded-up;
   allocate-no-room = allocate-no-room;
   reallocate-no-room = reallocate-no-room;
@@ -37,6 +39,8 @@ promises = record {
   stored = stored;
   surveyed = surveyed;
   reclaimed = reclaimed;
+  imaged = imaged;
   survey-leaves = survey-leaves;
   load-leaves = load-leaves;
+  image-leaves = image-leaves;
 }

@@ -11,7 +11,7 @@ use borrow.Author.Tests.{leb-false, lt-leb}
 use Rattle.rules.specs.Words.{wordAt, withWord}
 use Rattle.rules.specs.Tables.{blockCount}
 use Rattle.rules.specs.Meaning.{Extent, Passed, Named, Accepted}
-use Rattle.rules.specs.Outcomes.{Heap, Answer, Outcome, leaves, loaded, onlyRefusal, unlessRefused}
+use Rattle.rules.specs.Outcomes.{Heap, Outcome, leaves, loaded, onlyRefusal, unlessRefused}
 use Rattle.rules.specs.Refusals.{firstOf, goodShape, outside, noHead, noWord, wordTests}
 use Rattle.rules.specs.Calls.{survey, load, store}
 use Rattle.rules.proofs.Words.{length-withWord, withWord-in, withWord-out, wordAt-withWord, wordAt-other}
@@ -123,16 +123,16 @@ module _ (base : ℕ) (h : Heap) (k i w : ℕ) where
 
 -- ---- calls that only read
 
-same-heap : (n : ℕ) (h : Heap) (a : Answer) → unlessRefused n h [] (leaves a h) .heap ≡ h
+pub same-heap : (n : ℕ) (h : Heap) (act : Outcome) → act .heap ≡ h → unlessRefused n h [] act .heap ≡ h
 unfolding unlessRefused
-same-heap zero h a = refl
-same-heap (suc n) h a = refl
+same-heap zero h act e = e
+same-heap (suc n) h act e = refl
 
 pub survey-leaves : (base : ℕ) (h : Heap) → survey base h .heap ≡ h
-survey-leaves base h = ap (λ (r : Outcome). r .heap) (survey-checked base h .is) ∙ same-heap _ h _
+survey-leaves base h = ap (λ (r : Outcome). r .heap) (survey-checked base h .is) ∙ same-heap _ h _ refl
 
 pub load-leaves : (base : ℕ) (h : Heap) (k i : ℕ) → load base h k i .heap ≡ h
-load-leaves base h k i = ap (λ (r : Outcome). r .heap) (load-checked base h k i .is) ∙ same-heap _ h _
+load-leaves base h k i = ap (λ (r : Outcome). r .heap) (load-checked base h k i .is) ∙ same-heap _ h _ refl
 
 pub surveyed : (base : ℕ) (h : Heap) → Accepted (survey base h) → Surveyed h (survey base h)
 surveyed base h accepted = rw (acts (survey-checked base h) accepted) (record { used = refl; objects = refl; longest = longest-says (h .entries) })

@@ -1,7 +1,7 @@
 -- What no record speaks of: every call is a list of tests and an act, and neither a refusal nor an act changes a size or answers a part of another call.
 -- Assumes nothing.
 use mathlib.Core.Path.{_≡_, refl, sym, _∙_}
-use mathlib.Core.List.{List}
+use mathlib.Core.List.{List, []}
 use Prim.Native.Nat.{ℕ, zero, suc}
 use lib.Seq.{ext-getD}
 use Rattle.rules.specs.Entries.{FREE}
@@ -9,10 +9,10 @@ use Rattle.rules.specs.Tables.{blockCount}
 use Rattle.rules.specs.Outcomes.{Heap, Outcome, onlyRefusal, unlessRefused}
 use Rattle.rules.specs.Refusals.{Test, firstOf}
 use Rattle.rules.specs.Calls.{Way, stay, shrink, grow, move, noWay, along, placing, blocksFor, wayOf, collecting}
-use Rattle.rules.specs.Runs.{Call, Init, Allocate, Free, Reallocate, Collect, Survey, Load, Store, step}
+use Rattle.rules.specs.Runs.{Call, Init, Allocate, Free, Reallocate, Collect, Survey, Load, Store, WriteImage, step}
 use Rattle.rules.proofs.Sizes.{step-keeps}
-use Rattle.promises.specs.Determined.{SameHeap, Sized, partsOf, Whole}
-use Rattle.promises.proofs.Checked.{Checked, init-checked, allocate-checked, free-checked, reallocate-checked, collect-checked, survey-checked, load-checked, store-checked}
+use Rattle.promises.specs.Determined.{SameHeap, Sized, partsOf, filledBy, Whole}
+use Rattle.promises.proofs.Checked.{Checked, init-checked, allocate-checked, free-checked, reallocate-checked, collect-checked, survey-checked, load-checked, store-checked, image-checked}
 
 -- ---- sizes
 
@@ -38,6 +38,7 @@ refusal-parts (Collect base roots) n = refl
 refusal-parts (Survey base) n = refl
 refusal-parts (Load base k i) n = refl
 refusal-parts (Store base k i w) n = refl
+refusal-parts (WriteImage base roots room) n = refl
 
 parts-unless : (c : Call) (n : ℕ) (h : Heap) (stack : List ℕ) (act : Outcome) → act .answer ≡ partsOf c (act .answer)
     → unlessRefused n h stack act .answer ≡ partsOf c (unlessRefused n h stack act .answer)
@@ -69,6 +70,38 @@ only-parts (Collect base roots) stack h = parts-of (Collect base roots) (collect
 only-parts (Survey base) stack h = parts-of (Survey base) (survey-checked base h) refl
 only-parts (Load base k i) stack h = parts-of (Load base k i) (load-checked base h k i) refl
 only-parts (Store base k i w) stack h = parts-of (Store base k i w) (store-checked base h k i w) refl
+only-parts (WriteImage base roots room) stack h = parts-of (WriteImage base roots room) (image-checked base h roots room) refl
+
+-- ---- buffers
+
+unfilled-unless : (n : ℕ) (h : Heap) (stack : List ℕ) (act : Outcome) → act .filled ≡ [] → unlessRefused n h stack act .filled ≡ []
+unfolding unlessRefused
+unfilled-unless zero h stack act e = e
+unfilled-unless (suc n) h stack act e = refl
+
+unfilled : {h : Heap} {stack : List ℕ} {ts : List Test} {act r : Outcome} → Checked h stack ts act r → act .filled ≡ [] → r .filled ≡ []
+unfilled {h} {stack} {ts} {act} k e = rw (k .is) (unfilled-unless (firstOf ts) h stack act e)
+
+unfilled-along : (w : Way) (h : Heap) (k b c : ℕ) → along w h k b c .filled ≡ []
+unfolding along placing
+unfilled-along stay h k b c = refl
+unfilled-along shrink h k b c = refl
+unfilled-along grow h k b c = refl
+unfilled-along (move s) h k b c = refl
+unfilled-along noWay h k b c = refl
+
+pub only-filled : (c : Call) (stack : List ℕ) (h : Heap) → step c stack h .filled ≡ filledBy c (step c stack h .filled)
+unfolding step placing collecting filledBy
+only-filled (Init base) stack h = unfilled (init-checked base h) refl
+only-filled (Allocate base bytes) stack h = unfilled (allocate-checked base h bytes) refl
+only-filled (Free base k) stack h = unfilled (free-checked base h k) refl
+only-filled (Reallocate base k bytes) stack h =
+    unfilled (reallocate-checked base h k bytes) (unfilled-along (wayOf h k bytes) h k (blockCount (h .entries) k) (blocksFor bytes))
+only-filled (Collect base roots) stack h = unfilled (collect-checked base h roots stack) refl
+only-filled (Survey base) stack h = unfilled (survey-checked base h) refl
+only-filled (Load base k i) stack h = unfilled (load-checked base h k i) refl
+only-filled (Store base k i w) stack h = unfilled (store-checked base h k i w) refl
+only-filled (WriteImage base roots room) stack h = refl
 
 pub whole : Whole
-whole = record { sized = sized; one-heap = one-heap; only-parts = only-parts }
+whole = record { sized = sized; one-heap = one-heap; only-parts = only-parts; only-filled = only-filled }

@@ -4,17 +4,17 @@ use mathlib.Core.Path.{_≡_}
 use mathlib.Core.Logic.{_≢_, _↔_, _⊎_}
 use mathlib.Core.Bool.{true, false}
 use mathlib.Core.List.{List, [], _∷_}
-use Prim.Native.Nat.{ℕ, _+_, _-_, _*_, _%_, _<_}
+use Prim.Native.Nat.{ℕ, _+_, _-_, _*_, _%_, _≤_, _<_}
 use lib.ListN.{length, getD, replicate}
 use Rattle.rules.specs.Bits.{bitOf}
 use Rattle.rules.specs.Entries.{tableOf}
 use Rattle.rules.specs.Tables.{entryAt}
 use Rattle.rules.specs.Outcomes.{Outcome, onlyRefusal}
-use Rattle.rules.specs.Runs.{Call, Init, Survey, Load, Store, step}
+use Rattle.rules.specs.Runs.{Call, Init, Survey, Load, Store, WriteImage, step}
 use Rattle.rules.specs.Forms.{Form, packed, Faithful}
 use Rattle.rules.specs.Planes.{planeBytes, entriesIn, spareFree, planes, heapAt}
 use Rattle.rules.specs.Agreement.{HoldSame, FormsAgree, inPlanes, CallInPlanes, RunInPlanes}
-use Rattle.rules.specs.Memory.{Memory, memory, heapIn, lengthsFit, Sound, doneIn, Result, result, AcceptedIn, stackFor, readsTable, perform}
+use Rattle.rules.specs.Memory.{Memory, memory, heapIn, lengthsFit, Sound, doneIn, Result, result, withBuffer, AcceptedIn, stackFor, readsTable, perform}
 use Rattle.rules.specs.Meaning.{AllBytes, Shape, ShapeInBytes, Accepted}
 use Rattle.promises.specs.Conditions.{First, when}
 
@@ -22,6 +22,7 @@ use Rattle.promises.specs.Conditions.{First, when}
 pub record AsOnHeap (f : Form) (r : Result) (o : Outcome) : Type 0 where
   pub answer : r .answer ≡ o .answer
   pub heap : heapIn f (r .memory) ≡ o .heap
+  pub filled : r .filled ≡ o .filled
   pub sound : Sound f (r .memory)
 
 pub record OnBytes : Type 0 where
@@ -47,6 +48,15 @@ pub record OnBytes : Type 0 where
   pub survey-bytes : (f : Form) → Faithful f → (base : ℕ) (m : Memory) → AllBytes (m .table) → perform f (Survey base) [] m .memory ≡ m
   pub load-bytes : (f : Form) → Faithful f → (base k i : ℕ) (m : Memory) → AllBytes (m .table) → perform f (Load base k i) [] m .memory ≡ m
   pub store-bytes : (f : Form) → Faithful f → (base k i w : ℕ) (m : Memory) → AllBytes (m .table) → perform f (Store base k i w) [] m .memory .table ≡ m .table
+  -- an image leaves every byte of the memory. Of the buffer that is lent for it, it leaves those behind the image, and the buffer is as long as it was
+  pub image-bytes : (f : Form) → Faithful f → (base : ℕ) (roots : List ℕ) (room : ℕ) (m : Memory) → AllBytes (m .table) → perform f (WriteImage base roots room) [] m .memory ≡ m
+  pub image-behind : (f : Form) (base : ℕ) (roots buffer : List ℕ) (m : Memory)
+      → let r : Result = perform f (WriteImage base roots (length buffer)) [] m in
+      let left : List ℕ = withBuffer buffer r .filled in
+      (length left ≡ length buffer) × ((i : ℕ) → r .answer .length ≤ i → getD left i 0 ≡ getD buffer i 0)
+  -- on a refusal it leaves all of it
+  pub image-refused : (f : Form) (base : ℕ) (roots buffer : List ℕ) (m : Memory) → ¬ AcceptedIn (perform f (WriteImage base roots (length buffer)) [] m)
+      → withBuffer buffer (perform f (WriteImage base roots (length buffer)) [] m) .filled ≡ buffer
   -- two planes, which every lent table has, hold entries faithfully, and so does the packed form, which heap images have
   pub planes-faithful : (t : ℕ) → Faithful (planes t)
   pub packed-faithful : Faithful packed

@@ -3,10 +3,10 @@
 use mathlib.Core.Path.{_≡_}
 use mathlib.Core.Logic.{_≢_, _⊎_}
 use mathlib.Core.List.{List, [], _∷_}
-use Prim.Native.Nat.{ℕ, _*_, _/_, _%_, _≤_, _<_}
+use Prim.Native.Nat.{ℕ, _+_, _*_, _/_, _%_, _≤_, _<_}
 use lib.ListN.{length}
 use Rattle.rules.specs.Entries.{HEAD}
-use Rattle.rules.specs.Tables.{entryAt, blockCount}
+use Rattle.rules.specs.Tables.{entryAt, blockCount, used}
 use Rattle.rules.specs.Meaning.{Well, Fits, GrowsInPlace, Shape}
 use Rattle.rules.specs.Outcomes.{Heap}
 use Rattle.rules.specs.Calls.{blocksFor}
@@ -65,3 +65,13 @@ unfoldable pub ofWord : ℕ → Heap → ℕ → ℕ → List Condition
 ofWord base h k i =
     when 1 (¬ Shape base h) ∷ when 2 (¬ Well (h .entries)) ∷ when 6 (length (h .entries) ≤ k) ∷ when 7 (entryAt (h .entries) k ≢ HEAD)
     ∷ when 8 (4 * blockCount (h .entries) k ≤ i) ∷ []
+
+-- how many bytes an image has: six of the base with its count, and the other three counts; a byte for four blocks; 16 for each used block; the roots
+abbrev pub imageLength : Heap → List ℕ → ℕ
+imageLength h roots = 12 + length (h .entries) / 4 + 16 * used (h .entries) + length roots
+
+-- of an image for a buffer of so many bytes: 1 is also for roots that are not whole words
+unfoldable pub ofWriteImage : ℕ → Heap → List ℕ → ℕ → List Condition
+ofWriteImage base h roots room =
+    when 1 (¬ (Shape base h × (length roots % 4 ≡ 0))) ∷ when 2 (¬ Well (h .entries)) ∷ when 3 (4096 < length roots / 4)
+    ∷ when 10 (room < imageLength h roots) ∷ []

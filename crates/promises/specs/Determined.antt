@@ -2,15 +2,15 @@
 -- So a sentence that said less would not do. What no record speaks of, the size of the heap and the parts that a call does not answer, is said last.
 -- Assumes nothing.
 use mathlib.Core.Path.{_≡_}
-use mathlib.Core.List.{List}
-use Prim.Native.Nat.{ℕ}
+use mathlib.Core.List.{List, []}
+use Prim.Native.Nat.{ℕ, _/_}
 use lib.ListN.{length}
-use Rattle.rules.specs.Tables.{entryAt}
-use Rattle.rules.specs.Outcomes.{Heap, Answer, Outcome, placement, collection, findings, reading, onlyRefusal}
-use Rattle.rules.specs.Runs.{Call, Init, Allocate, Free, Reallocate, Collect, Survey, Load, Store, step}
+use Rattle.rules.specs.Tables.{entryAt, used}
+use Rattle.rules.specs.Outcomes.{Heap, Answer, Outcome, placement, collection, findings, reading, writing, onlyRefusal}
+use Rattle.rules.specs.Runs.{Call, Init, Allocate, Free, Reallocate, Collect, Survey, Load, Store, WriteImage, step}
 use Rattle.keeping.specs.Keeping.{Collected}
 use Rattle.promises.specs.Conditions.{Condition, First}
-use Rattle.promises.specs.Promises.{byteAt, Refused, Initialised, Allocated, Freed, Reallocated, Stored, Loaded, Surveyed, Reclaimed}
+use Rattle.promises.specs.Promises.{byteAt, Refused, Initialised, Allocated, Freed, Reallocated, Stored, Loaded, Surveyed, Imaged, Reclaimed}
 
 -- two heaps have the same entry at every block and the same byte at every place
 pub record SameHeap (h h' : Heap) : Type 0 where
@@ -38,7 +38,7 @@ pub record Determined : Type 1 where
   pub number : (cs : List Condition) (n n' : ℕ) → First cs n → First cs n' → n ≡ n'
   -- a refused call with that number has one answer and leaves one heap
   pub refused : (h : Heap) (r r' : Outcome) → Refused h r → Refused h r' → r .answer .refusal ≡ r' .answer .refusal
-      → (r .answer ≡ r' .answer) × (r .heap ≡ r' .heap)
+      → (r .answer ≡ r' .answer) × (r .heap ≡ r' .heap) × (r .filled ≡ r' .filled)
   -- an accepted call has one outcome
   pub initialised : (base : ℕ) (h : Heap) (r r' : Outcome) → Initialised base h r → Initialised base h r' → SameHeap (r .heap) (r' .heap)
   pub allocated : (base : ℕ) (h : Heap) (b : ℕ) (r r' : Outcome) → Allocated base h b r → Allocated base h b r' → SamePlace r r'
@@ -47,6 +47,8 @@ pub record Determined : Type 1 where
   pub stored : (base : ℕ) (h : Heap) (k i w : ℕ) (r r' : Outcome) → Stored base h k i w r → Stored base h k i w r' → SameHeap (r .heap) (r' .heap)
   pub loaded : (h : Heap) (k i : ℕ) (r r' : Outcome) → Loaded h k i r → Loaded h k i r' → r .answer ≡ r' .answer
   pub surveyed : (h : Heap) (r r' : Outcome) → Surveyed h r → Surveyed h r' → SameFindings r r'
+  pub imaged : (base : ℕ) (h : Heap) (roots : List ℕ) (r r' : Outcome) → let t = length (h .entries) / 4 in let u = used (h .entries) in
+      Imaged base h roots t u r → Imaged base h roots t u r' → (r .answer .length ≡ r' .answer .length) × (r .filled ≡ r' .filled)
   -- of a collection the table is left as Collected of the crate keeping says, whose other parts its own law determines (collected-one)
   pub reclaimed : (base : ℕ) (h : Heap) (roots stack : List ℕ) (r r' : Outcome) → Reclaimed base h roots r → Reclaimed base h roots r'
       → Collected base h roots stack r → Collected base h roots stack r' → SameEffect r r'
@@ -68,6 +70,19 @@ partsOf (Collect base roots) a = collection (a .refusal) (a .kept) (a .rescans) 
 partsOf (Survey base) a = findings (a .refusal) (a .used) (a .objects) (a .longest)
 partsOf (Load base k i) a = reading (a .refusal) (a .value)
 partsOf (Store base k i w) a = onlyRefusal (a .refusal)
+partsOf (WriteImage base roots room) a = writing (a .refusal) (a .length)
+
+-- what a call writes into a buffer: an image, and nothing of every other call
+unfoldable pub filledBy : Call → List ℕ → List ℕ
+filledBy (Init base) bytes = []
+filledBy (Allocate base n) bytes = []
+filledBy (Free base k) bytes = []
+filledBy (Reallocate base k n) bytes = []
+filledBy (Collect base roots) bytes = []
+filledBy (Survey base) bytes = []
+filledBy (Load base k i) bytes = []
+filledBy (Store base k i w) bytes = []
+filledBy (WriteImage base roots room) bytes = bytes
 
 pub record Whole : Type 0 where
   -- no call changes the number of blocks or of bytes
@@ -76,3 +91,5 @@ pub record Whole : Type 0 where
   pub one-heap : (h : Heap) (r r' : Outcome) → Sized h r → Sized h r' → SameHeap (r .heap) (r' .heap) → r .heap ≡ r' .heap
   -- a part that a call does not answer is zero
   pub only-parts : (c : Call) (stack : List ℕ) (h : Heap) → step c stack h .answer ≡ partsOf c (step c stack h .answer)
+  -- and none but an image writes into a buffer
+  pub only-filled : (c : Call) (stack : List ℕ) (h : Heap) → step c stack h .filled ≡ filledBy c (step c stack h .filled)

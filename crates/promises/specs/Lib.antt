@@ -1,6 +1,7 @@
 pub mod Conditions
 pub mod Promises
 pub mod Bytes
+pub mod Images
 pub mod Determined
 pub mod Alignment
 pub mod OtherT

@@ -2,11 +2,11 @@
 -- Assumes nothing.
 use mathlib.Core.Path.{_≡_}
 use mathlib.Core.Logic.{_≢_, _↔_, _⊎_}
-use mathlib.Core.List.{List}
+use mathlib.Core.List.{List, []}
 use mathlib.Core.Option.{some}
-use Prim.Native.Nat.{ℕ, _+_, _*_, _-_, _^_, _≤_, _<_}
+use Prim.Native.Nat.{ℕ, suc, _+_, _*_, _-_, _/_, _%_, _^_, _≤_, _<_}
 use lib.IntN.{pos, negℤ, subℕ, _+ℤ_, natAbs}
-use lib.ListN.{length, getD}
+use lib.ListN.{length, getD, take}
 use Rattle.rules.specs.Words.{number, bytesOf, wordsOf}
 use Rattle.rules.specs.Entries.{FREE, HEAD, TAIL}
 use Rattle.rules.specs.Tables.{entryAt, blockCount, used, objects}
@@ -16,9 +16,9 @@ use Rattle.rules.specs.Outcomes.{Heap, Outcome, onlyRefusal, loaded}
 use Rattle.rules.specs.Forms.{Form, Faithful}
 use Rattle.rules.specs.Memory.{Memory, heapIn}
 use Rattle.rules.specs.Reach.{Reachable}
-use Rattle.rules.specs.Calls.{blocksFor, init, allocate, free, reallocate, collect, survey, load, store}
+use Rattle.rules.specs.Calls.{blocksFor, init, allocate, free, reallocate, collect, survey, load, store, writeImage}
 use Rattle.rules.specs.Runs.{Call, step}
-use Rattle.promises.specs.Conditions.{First, RoomAfter, NoFit, NoWay, ofInit, ofAllocate, ofFree, ofReallocate, ofCollect, ofSurvey, ofWord}
+use Rattle.promises.specs.Conditions.{First, RoomAfter, NoFit, NoWay, ofInit, ofAllocate, ofFree, ofReallocate, ofCollect, ofSurvey, ofWord, imageLength, ofWriteImage}
 
 -- ---- parts of a heap and of an outcome
 
@@ -54,6 +54,8 @@ pub record Same (before after : Heap) (o : ℕ) : Type 0 where
 pub record Refused (before : Heap) (r : Outcome) : Type 0 where
   pub answer : r .answer ≡ onlyRefusal (r .answer .refusal)
   pub heap : r .heap ≡ before
+  -- and no byte of a buffer is written
+  pub filled : r .filled ≡ []
 
 -- the answered change is that of the used blocks, and lies from -4,096 to 4,096
 pub record Counts (before : Heap) (r : Outcome) : Type 0 where
@@ -187,6 +189,33 @@ pub record Reclaimed (base : ℕ) (before : Heap) (roots : List ℕ) (r : Outcom
   -- the shape is good and the table well-formed
   pub good : Passed base (r .heap)
 
+-- the two bytes at i are those of the count n, the lowest first
+abbrev pub Count : List ℕ → ℕ → ℕ → Type 0
+Count bytes i n = (getD bytes i 0 ≡ n % 256) × (getD bytes (suc i) 0 ≡ n / 256)
+
+-- the byte of the blocks 4i to 4i + 3: their entries, two bits each, the first in the lowest
+abbrev pub packedByte : Heap → ℕ → ℕ
+packedByte h i = entryAt (h .entries) (4 * i) + 4 * entryAt (h .entries) (4 * i + 1) + 16 * entryAt (h .entries) (4 * i + 2) + 64 * entryAt (h .entries) (4 * i + 3)
+
+-- an image that was written: where each byte lies. There are t bytes of the table and u used blocks
+pub record Imaged (base : ℕ) (before : Heap) (roots : List ℕ) (t u : ℕ) (r : Outcome) : Type 0 where
+  -- it answers the image's length
+  pub answered : r .answer .length ≡ length (r .filled)
+  pub long : length (r .filled) ≡ imageLength before roots
+  -- a count of 1, and the base's four bytes, the lowest first
+  pub base-count : Count (r .filled) 0 1
+  pub base-bytes : (j : ℕ) → j < 4 → getD (r .filled) (2 + j) 0 ≡ getD (bytesOf base) j 0
+  -- the count of the table's bytes, and these
+  pub table-count : Count (r .filled) 6 t
+  pub table-bytes : (i : ℕ) → i < t → getD (r .filled) (8 + i) 0 ≡ packedByte before i
+  -- the count of the used blocks, and the 16 bytes of each, behind those of the used blocks before it
+  pub block-count : Count (r .filled) (8 + t) u
+  pub block-bytes : (k : ℕ) → entryAt (before .entries) k ≢ FREE → (j : ℕ) → j < 16
+      → getD (r .filled) (10 + t + 16 * used (take k (before .entries)) + j) 0 ≡ byteAt before (16 * k + j)
+  -- the count of the roots, and their bytes as they were handed in
+  pub root-count : Count (r .filled) (10 + t + 16 * u) (length roots / 4)
+  pub root-bytes : (i : ℕ) → i < length roots → getD (r .filled) (12 + t + 16 * u + i) 0 ≡ getD roots i 0
+
 -- ---- the promises, for every heap and every argument
 
 pub record Promises : Type 0 where
@@ -203,6 +232,7 @@ pub record Promises : Type 0 where
   pub survey-refusal : (base : ℕ) (h : Heap) → First (ofSurvey base h) (survey base h .answer .refusal)
   pub load-refusal : (base : ℕ) (h : Heap) (k i : ℕ) → First (ofWord base h k i) (load base h k i .answer .refusal)
   pub store-refusal : (base : ℕ) (h : Heap) (k i w : ℕ) → First (ofWord base h k i) (store base h k i w .answer .refusal)
+  pub image-refusal : (base : ℕ) (h : Heap) (roots : List ℕ) (room : ℕ) → First (ofWriteImage base h roots room) (writeImage base h roots room .answer .refusal)
   -- the blocks of a request are the fewest that hold its bytes
   pub rounded-up : (bytes n : ℕ) → (blocksFor bytes ≤ n) ↔ (bytes ≤ 16 * n)
   -- allocate answers 9 exactly if nothing else is refused and its blocks may start nowhere: no run of FREE blocks is long enough from an aligned block on
@@ -229,6 +259,9 @@ pub record Promises : Type 0 where
   pub surveyed : (base : ℕ) (h : Heap) → Accepted (survey base h) → Surveyed h (survey base h)
   pub reclaimed : (f : Form) → Faithful f → (base : ℕ) (m : Memory) (roots stack : List ℕ) → Accepted (collect base (heapIn f m) roots stack)
       → Reclaimed base (heapIn f m) roots (collect base (heapIn f m) roots stack)
-  -- survey and load leave the heap as it is
+  pub imaged : (base : ℕ) (h : Heap) (roots : List ℕ) (room : ℕ) → Accepted (writeImage base h roots room)
+      → Imaged base h roots (length (h .entries) / 4) (used (h .entries)) (writeImage base h roots room)
+  -- survey, load and an image leave the heap as it is
   pub survey-leaves : (base : ℕ) (h : Heap) → survey base h .heap ≡ h
   pub load-leaves : (base : ℕ) (h : Heap) (k i : ℕ) → load base h k i .heap ≡ h
+  pub image-leaves : (base : ℕ) (h : Heap) (roots : List ℕ) (room : ℕ) → writeImage base h roots room .heap ≡ h

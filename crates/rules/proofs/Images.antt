@@ -2,7 +2,7 @@
 -- Assumes nothing.
 use mathlib.Core.Path.{_≡_, refl, sym, ap, _∙_}
 use mathlib.Core.Logic.{_≢_}
-use mathlib.Core.Bool.{Bool, true, false}
+use mathlib.Core.Bool.{Bool, true, false, not}
 use mathlib.Core.List.{List, [], _∷_, _++_, append-assoc}
 use Prim.Native.Nat.{ℕ, zero, suc, _+_, _*_, _/_, _%_, _≤_, _<_}
 use native.Mathlib.Omega.{arith}
@@ -83,6 +83,38 @@ used-at pool k (e ∷ es) (suc i) j room u l = go (used-at pool (suc k) es i j (
         let long = length-block pool k (omega arith) in
         let past : 16 * suc (used (take i es)) + j ≡ length (blockBytes pool k) + (16 * used (take i es) + j) = omega arith in
         rw (f, ← next, past) (getD-append-add (blockBytes pool k) (usedFrom pool (suc k) es) (16 * used (take i es) + j) 0 ∙ rest)
+
+-- before a used block there are fewer than all
+pub used-before : (es : List ℕ) (i : ℕ) → entryAt es i ≢ FREE → used (take i es) < used es
+unfolding used count
+used-before [] i u = absurd (u refl)
+used-before (e ∷ es) zero u = rw (ne-eqb e FREE u) (omega arith)
+used-before (e ∷ es) (suc i) u = go (used-before es i u) (isFree e)
+  where
+    go : used (take i es) < used es → (b : Bool) → pick (not b) (suc (used (take i es))) (used (take i es)) < pick (not b) (suc (used es)) (used es)
+    go rest true = rest
+    go rest false = omega arith
+
+-- a used block with so many used blocks before it
+abbrev pub Nth : List ℕ → ℕ → Type 0
+Nth es q = (k : ℕ) × (entryAt es k ≢ FREE) × (used (take k es) ≡ q)
+
+-- each number below theirs is that before one
+pub used-nth : (es : List ℕ) (q : ℕ) → q < used es → Nth es q
+unfolding used count
+used-nth [] q l = absurd (omega arith)
+used-nth (e ∷ es) q l = go (used-nth es) (isFree e) refl q l
+  where
+    skip : isFree e ≡ true → (q : ℕ) → Nth es q → Nth (e ∷ es) q
+    skip f q (k, u, n) = (suc k, u, rw f n)
+
+    next : isFree e ≡ false → (q : ℕ) → Nth es q → Nth (e ∷ es) (suc q)
+    next f q (k, u, n) = (suc k, u, rw f (ap suc n))
+
+    go : ((q : ℕ) → q < used es → Nth es q) → (b : Bool) → isFree e ≡ b → (q : ℕ) → q < used (e ∷ es) → Nth (e ∷ es) q
+    go later true f q l = skip f q (later q (rw f at l))
+    go later false f zero l = (0, eqb-false e FREE f, refl)
+    go later false f (suc q) l = let m : suc q < suc (used es) = rw f at l in next f q (later q (omega arith))
 
 -- those of two parts of the table, one after the other
 pub used-append : (pool : List ℕ) (k : ℕ) (es fs : List ℕ) → usedFrom pool k (es ++ fs) ≡ usedFrom pool k es ++ usedFrom pool (k + length es) fs
