@@ -112,5 +112,3 @@ entriesOf-tableOf (a ∷ b ∷ c ∷ d ∷ es) m small =
 -- two tables with the same entries are the same
 pub entriesOf-injective : TableIsEntries
 entriesOf-injective t u st su e = sym (tableOf-entriesOf t st) ∙ ap tableOf e ∙ tableOf-entriesOf u su
-
--- ---- one byte or one entry changed

@@ -19,3 +19,4 @@ pub mod Meaning
 pub mod Examples
 pub mod Orders
 pub mod PlaneExamples
+pub mod ImageExamples
