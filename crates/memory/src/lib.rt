@@ -7,7 +7,7 @@ ghost use lib.Dec.{eqb, leb, ltb};
 ghost use lib.IntN.{pos, negℤ, subℕ};
 ghost use lib.ListN.{length, take, drop, replicate};
 ghost use lib.Seq.{sets};
-ghost use Rattle.rules.specs.Words.{number, wordAt, withWord};
+ghost use Rattle.rules.specs.Words.{number, bytesOf, twoBytesOf, wordAt, withWord};
 ghost use Rattle.rules.specs.Tables.{aligned};
 ghost use Rattle.rules.specs.Pointers.{addressOf, goodBase, targetOf};
 ghost use Rattle.rules.specs.Calls.{blocksFor};
@@ -213,6 +213,14 @@ impl Address {
         Address(self.0 + 16 * (k.0 as u64))
     }
 
+    // The address as a word.
+    pub fn to_word(self) -> u32
+        requires { ⌜ self .0 < 2 ^ 32 ⌝ }
+        ensures { λ r. ⌜ r ≡ self .0 ⌝ }
+    {
+        self.0 as u32
+    }
+
     // The block of n blocks from this base on whose address is the word w.
     pub fn target(self, n: usize, w: u32) -> Found
         ensures { λ r. ⌜ found r ≡ targetOf (self .0) n w ⌝ }
@@ -273,16 +281,32 @@ pub fn word(bytes: &[u8], i: usize) -> u32
     from_le_bytes(bytes[at], bytes[at + 1], bytes[at + 2], bytes[at + 3])
 }
 
+// The four bytes from `at` on become those of w, the lowest first.
+pub fn set_four_bytes(bytes: &mut [u8], at: usize, w: u32)
+    requires { ⌜ at + 4 ≤ length (now bytes) ⌝ }
+    ensures { λ _. ⌜ now (bytes .exit) ≡ sets (now (bytes .entry)) at (bytesOf w) ⌝ }
+{
+    bytes[at] = (w % 256) as u8;
+    bytes[at + 1] = (w / 256 % 256) as u8;
+    bytes[at + 2] = (w / 65536 % 256) as u8;
+    bytes[at + 3] = (w / 16777216 % 256) as u8;
+}
+
+// The two bytes from `at` on become the two lowest of n, the lowest first.
+pub fn set_two_bytes(bytes: &mut [u8], at: usize, n: usize)
+    requires { ⌜ at + 2 ≤ length (now bytes) ⌝ }
+    ensures { λ _. ⌜ now (bytes .exit) ≡ sets (now (bytes .entry)) at (twoBytesOf n) ⌝ }
+{
+    bytes[at] = (n % 256) as u8;
+    bytes[at + 1] = (n / 256 % 256) as u8;
+}
+
 // w becomes word i.
 pub fn set_word(bytes: &mut [u8], i: usize, w: u32)
     requires { ⌜ 4 * i + 4 ≤ length (now bytes) ⌝ }
     ensures { λ _. ⌜ now (bytes .exit) ≡ withWord (now (bytes .entry)) i w ⌝ }
 {
-    let at = 4 * i;
-    bytes[at] = (w % 256) as u8;
-    bytes[at + 1] = (w / 256 % 256) as u8;
-    bytes[at + 2] = (w / 65536 % 256) as u8;
-    bytes[at + 3] = (w / 16777216 % 256) as u8;
+    set_four_bytes(bytes, 4 * i, w);
 }
 
 // The bits of the eight bytes from `at` on, those of the first the lowest.
@@ -357,6 +381,18 @@ pub fn copy(pool: &mut [u8], from: Bytes, to: Bytes, count: Bytes)
     let mut i = 0;
     while i < n {
         pool[target + i] = pool[source + i];
+        i += 1;
+    }
+}
+
+// The bytes from `at` on become those of the part.
+pub fn set_part(bytes: &mut [u8], at: usize, part: &[u8])
+    requires { ⌜ at + length (now part) ≤ length (now bytes) ⌝ }
+    ensures { λ _. ⌜ now (bytes .exit) ≡ sets (now (bytes .entry)) at (now (part .entry)) ⌝ }
+{
+    let mut i = 0;
+    while i < part.len() {
+        bytes[at + i] = part[i];
         i += 1;
     }
 }
