@@ -2,4 +2,5 @@ pub mod Lanes
 pub mod Places
 pub mod Sums
 pub mod Ones
+pub mod Digits
 pub mod Steps
