@@ -10,7 +10,7 @@
  *
  * bh_NAME is blockheap_NAME with the heap in place of its parts: blockheap.h
  * says what it does and what the caller ensures. Two things are easier here:
- * - an empty list may be a null pointer with length 0;
+ * - an empty list or buffer may be a null pointer with length 0;
  * - an answer that is not wanted may be a null pointer.
  */
 #ifndef BLOCKHEAP_BH_H
@@ -93,7 +93,7 @@ static inline uint64_t bh_t(const struct blockheap *heap)
 
 /* ---- The calls ---- */
 
-/* Stands for the bytes of an empty list, as the library takes no null pointer. Nothing reads or writes it. */
+/* Stands for the bytes of an empty buffer, as the library takes no null pointer. Nothing reads or writes it. */
 static inline uint8_t *bh_no_bytes(void)
 {
     static uint8_t byte;
@@ -163,6 +163,14 @@ static inline uint32_t bh_store(const struct blockheap *heap, uint64_t block, ui
     return blockheap_store(BH_PARTS(heap), block, word, value);
 }
 
+static inline uint32_t bh_write_image(const struct blockheap *heap, const uint8_t *roots, size_t roots_len,
+                                      uint8_t *image, size_t image_len, uint32_t *length)
+{
+    uint32_t no_length;
+    return blockheap_write_image(BH_PARTS(heap), BH_LIST(roots, roots_len), BH_LIST(image, image_len),
+                                 length ? length : &no_length);
+}
+
 /* ---- Blocks, addresses and bytes ---- */
 
 /* What bh_block answers where there is no block. Every call refuses it as NO_SUCH_BLOCK. */
@@ -218,6 +226,15 @@ static inline uint32_t bh_object_bytes(const struct blockheap *heap, uint32_t bl
     return BLOCKHEAP_BLOCK_BYTES * (end - block);
 }
 
+/* How many bytes the heap's image has with so many root words; 0 if the heap is refused, as bh_survey does. */
+static inline size_t bh_image_bytes(const struct blockheap *heap, size_t roots)
+{
+    uint32_t used;
+    if (bh_survey(heap, &used, NULL, NULL))
+        return 0;
+    return BLOCKHEAP_IMAGE_BYTES((size_t)bh_t(heap), used, roots);
+}
+
 /* ---- Words in a list of bytes, such as roots or an object: lowest byte first on every host ---- */
 
 static inline void bh_put_word(uint8_t *list, size_t index, uint32_t value)
@@ -251,6 +268,7 @@ static inline const char *bh_refusal_name(uint32_t refusal)
     case BLOCKHEAP_NOT_A_HEAD: return "NOT_A_HEAD";
     case BLOCKHEAP_NO_SUCH_WORD: return "NO_SUCH_WORD";
     case BLOCKHEAP_NO_ROOM: return "NO_ROOM";
+    case BLOCKHEAP_OUTPUT_TOO_SHORT: return "OUTPUT_TOO_SHORT";
     default: return "UNKNOWN";
     }
 }
@@ -269,6 +287,7 @@ static inline const char *bh_refusal_text(uint32_t refusal)
     case BLOCKHEAP_NOT_A_HEAD: return "the block is not the head of an object";
     case BLOCKHEAP_NO_SUCH_WORD: return "the word lies outside the object";
     case BLOCKHEAP_NO_ROOM: return "no aligned run of free blocks is long enough";
+    case BLOCKHEAP_OUTPUT_TOO_SHORT: return "the buffer is shorter than the image";
     default: return "this version knows no such refusal number";
     }
 }

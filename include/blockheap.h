@@ -71,6 +71,31 @@
  *              +------------------------+------------------------+
  *                  table[2] = 0xec            table[3] = 0x00
  *
+ * IMAGES
+ *
+ * blockheap_write_image writes a heap as a file that any host can read. The file
+ * is four sections, one directly after the other. Each begins with a count of 16
+ * bits, lowest byte first, and then has as many items:
+ *
+ *   section   count         items
+ *   base      1             the base: one word
+ *   table     t             bytes with the two bits of four blocks each, those of
+ *                           block 4 * i in the lowest two bits of byte i
+ *   blocks    used blocks   the 16 bytes of each block that is not FREE, rising
+ *   roots     root words    the root words as they were handed over
+ *
+ * That is 12 + t + 16 * used + 4 * roots bytes, BLOCKHEAP_IMAGE_BYTES. The table
+ * is not in planes here, and has no spare bits. Of a free block the file has the
+ * two bits alone.
+ *
+ * Here t is 1 and the base 4,096. Block 0 is an object, all of it 0, and the one
+ * root is its address. The image has 33 bytes:
+ *
+ *   base     01 00   00 10 00 00
+ *   table    01 00   01
+ *   blocks   01 00   00 00 00 00 00 00 00 00 00 00 00 00 00 00 00 00
+ *   roots    01 00   00 10 00 00
+ *
  * ANSWERS
  *
  * Every call returns 0, or the number of the first reason to refuse, in the
@@ -78,8 +103,8 @@
  * word or bytes, and any content in any buffer: what does not fit is refused.
  * The other answers go out through the pointers that come last. They are
  * written on every call. After a refusal they are all 0, and every byte of
- * pool, table and mark stack is what it was before, spare bits too. Block 0 is
- * a valid answer, so look at the returned number, not at the block, to see
+ * pool, table, mark stack and image is what it was before, spare bits too. Block
+ * 0 is a valid answer, so look at the returned number, not at the block, to see
  * whether a call was refused.
  *
  * `change` is the change in used blocks, -4,096 to 4,096. Since the latest
@@ -144,6 +169,7 @@ extern "C" {
 #define BLOCKHEAP_MIN_BASE 16
 #define BLOCKHEAP_MAX_ROOTS 4096
 #define BLOCKHEAP_MAX_STACK_ENTRIES 64
+#define BLOCKHEAP_MAX_IMAGE_BYTES 82956 /* of a full heap with the largest t and the most roots */
 
 /* From t: the lengths in bytes of the pool, of one plane of the table, and of the whole table. */
 #define BLOCKHEAP_POOL_BYTES(t) (64 * (t))
@@ -157,6 +183,13 @@ extern "C" {
 /* The length in bytes of a list of n words: n roots, or n entries of a mark stack. */
 #define BLOCKHEAP_LIST_BYTES(n) (BLOCKHEAP_WORD_BYTES * (n))
 
+/* The length in bytes of an image: from t, the used blocks and the number of root words. */
+#define BLOCKHEAP_IMAGE_BYTES(t, used, roots) \
+    (12 + (t) + BLOCKHEAP_BLOCK_BYTES * (used) + BLOCKHEAP_LIST_BYTES(roots))
+
+/* The longest that it can be, where all blocks are used: a buffer of so many bytes is never too short. */
+#define BLOCKHEAP_FULL_IMAGE_BYTES(t, roots) BLOCKHEAP_IMAGE_BYTES(t, 4 * (t), roots)
+
 /* What a block's two bits say: the low bit and two times the high bit. */
 enum blockheap_entry {
     BLOCKHEAP_FREE = 0,
@@ -168,17 +201,18 @@ enum blockheap_entry {
 /* What a call returns. Of several reasons, the lowest number is given. */
 enum blockheap_refusal {
     BLOCKHEAP_OK = 0,
-    BLOCKHEAP_BAD_SHAPE = 1,       /* t, table_len, pool_len or base breaks the rules above, or the
-                                      roots' or stack's length is not divisible by 4 */
-    BLOCKHEAP_BAD_TABLE = 2,       /* a MARK, a tail at block 0 or after a free block, or a spare
-                                      bit that is 1 */
-    BLOCKHEAP_TOO_MANY_ROOTS = 3,  /* more than 4,096 root words */
-    BLOCKHEAP_STACK_TOO_LONG = 4,  /* a mark stack of more than 64 entries */
-    BLOCKHEAP_ZERO_BYTES = 5,      /* a request for 0 bytes */
-    BLOCKHEAP_NO_SUCH_BLOCK = 6,   /* the block number is n or more */
-    BLOCKHEAP_NOT_A_HEAD = 7,      /* the block is free or a tail */
-    BLOCKHEAP_NO_SUCH_WORD = 8,    /* the word is not inside the object */
-    BLOCKHEAP_NO_ROOM = 9          /* no long enough run of free blocks that is aligned */
+    BLOCKHEAP_BAD_SHAPE = 1,        /* t, table_len, pool_len or base breaks the rules above, or the
+                                       roots' or stack's length is not divisible by 4 */
+    BLOCKHEAP_BAD_TABLE = 2,        /* a MARK, a tail at block 0 or after a free block, or a spare
+                                       bit that is 1 */
+    BLOCKHEAP_TOO_MANY_ROOTS = 3,   /* more than 4,096 root words */
+    BLOCKHEAP_STACK_TOO_LONG = 4,   /* a mark stack of more than 64 entries */
+    BLOCKHEAP_ZERO_BYTES = 5,       /* a request for 0 bytes */
+    BLOCKHEAP_NO_SUCH_BLOCK = 6,    /* the block number is n or more */
+    BLOCKHEAP_NOT_A_HEAD = 7,       /* the block is free or a tail */
+    BLOCKHEAP_NO_SUCH_WORD = 8,     /* the word is not inside the object */
+    BLOCKHEAP_NO_ROOM = 9,          /* no long enough run of free blocks that is aligned */
+    BLOCKHEAP_OUTPUT_TOO_SHORT = 10 /* the buffer for an image is shorter than the image */
 };
 
 /*
@@ -296,6 +330,24 @@ BLOCKHEAP_NONNULL
 uint32_t blockheap_store(uint64_t base, uint64_t t, uint8_t *pool, size_t pool_len,
                          const uint8_t *table, size_t table_len,
                          uint64_t block, uint64_t word, uint32_t value);
+
+/*
+ * Writes the image of the heap, the file of four sections above, to the front of
+ * a buffer. Pool, table and roots are not written.
+ * - roots: four bytes each, lowest byte first; at most 4,096. They are copied,
+ *   whatever they hold, and not followed.
+ * - image: the buffer, of any length. Bytes behind the image stay as they were.
+ * - length: the length of the image in bytes.
+ * Refusals: BAD_SHAPE, BAD_TABLE, TOO_MANY_ROOTS, OUTPUT_TOO_SHORT (exactly if
+ * image_len is less than the length of the image; `length` is 0 then too, so get
+ * it beforehand by BLOCKHEAP_IMAGE_BYTES with the used blocks of
+ * blockheap_survey, or lend BLOCKHEAP_FULL_IMAGE_BYTES).
+ */
+BLOCKHEAP_NONNULL
+uint32_t blockheap_write_image(uint64_t base, uint64_t t, const uint8_t *pool, size_t pool_len,
+                               const uint8_t *table, size_t table_len,
+                               const uint8_t *roots, size_t roots_len,
+                               uint8_t *image, size_t image_len, uint32_t *length);
 
 #ifdef __cplusplus
 }
