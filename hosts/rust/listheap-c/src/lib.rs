@@ -62,3 +62,9 @@ export!(blockheap_load(block: u64, word: u64) -> [value], lent =>
     lent.on_list(|heap| heap.load(block, word)).map(|value| [value.into()]));
 export!(blockheap_store(block: u64, word: u64, value: u32) -> [], lent =>
     lent.on_list(|heap| heap.store(block, word, value)).map(|()| []));
+export!(blockheap_write_image(roots: *const u8, roots_len: usize, image: *mut u8, image_len: usize)
+-> [length], lent => {
+    let roots = from_raw_parts(roots, roots_len);
+    let image = from_raw_parts_mut(image, image_len);
+    lent.write_image(roots, image).map(|length| [length as i64])
+});

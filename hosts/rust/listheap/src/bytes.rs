@@ -52,6 +52,14 @@ impl Lent<'_> {
         Ok(collected)
     }
 
+    /// Write image, with roots as bytes.
+    pub fn write_image(self, roots: &[u8], output: &mut [u8]) -> Result<u64, Refusal> {
+        if roots.len() % WORD_BYTES != 0 {
+            return Err(Refusal::Shape);
+        }
+        self.on_list(|heap| heap.write_image(&words_of(roots), output))
+    }
+
     fn check_shape(&self) -> Result<(), Refusal> {
         let [pool, table] = [&self.pool, &self.table].map(|bytes| bytes.len() as u64);
         let t_fits = (1..=1024).contains(&self.t);
@@ -119,14 +127,20 @@ fn bits(plane: &[u8]) -> impl Iterator<Item = u8> + '_ {
 
 /// Writes every byte of both planes anew. Spare bits become 0.
 fn encode_table(objects: &[Object], table: &mut [u8]) {
-    let mut entries = vec![FREE; 4 * table.len()];
+    let entries = entries_of(objects, 4 * table.len());
+    let (low, high) = table.split_at_mut(table.len() / 2);
+    write_plane(low, entries.iter().map(|entry| entry % 2));
+    write_plane(high, entries.iter().map(|entry| entry / 2));
+}
+
+/// So many entries, FREE where no object is.
+pub(crate) fn entries_of(objects: &[Object], count: usize) -> Vec<u8> {
+    let mut entries = vec![FREE; count];
     for object in objects {
         entries[object.start as usize..object.end() as usize].fill(TAIL);
         entries[object.start as usize] = HEAD;
     }
-    let (low, high) = table.split_at_mut(table.len() / 2);
-    write_plane(low, entries.iter().map(|entry| entry % 2));
-    write_plane(high, entries.iter().map(|entry| entry / 2));
+    entries
 }
 
 fn write_plane(plane: &mut [u8], mut bits: impl Iterator<Item = u8>) {

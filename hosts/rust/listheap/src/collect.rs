@@ -2,7 +2,7 @@
 
 use crate::{ListHeap, Refusal};
 
-const MAX_ROOTS: usize = 4096;
+pub(crate) const MAX_ROOTS: usize = 4096;
 const MAX_STACK_ENTRIES: usize = 64;
 
 #[derive(Clone, Copy, Debug, PartialEq, Eq)]

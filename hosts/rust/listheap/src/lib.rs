@@ -8,6 +8,7 @@
 mod bytes;
 mod collect;
 mod heap;
+mod image;
 mod refusal;
 
 pub use bytes::{words_of, Lent};

@@ -10,6 +10,7 @@ pub enum Refusal {
     NotAHead = 7,
     NoSuchWord = 8,
     NoRoom = 9,
+    OutputTooShort = 10,
 }
 
 impl Refusal {
