@@ -1,6 +1,6 @@
 use crate::raw::Lent;
+use crate::{image_bytes, BLOCK_BYTES, WORDS_PER_BLOCK};
 use crate::{Address, Block, Collected, MarkEntry, Placed, Refusal, Survey};
-use crate::{BLOCK_BYTES, WORDS_PER_BLOCK};
 use core::ops::Range;
 
 /// A heap in lent memory.
@@ -185,6 +185,49 @@ impl<'m> Heap<'m> {
     /// As [`Heap::load`].
     pub fn store(&mut self, block: Block, word: u64, value: u32) -> Result<(), Refusal> {
         self.lent.store(block.number(), word, value)
+    }
+
+    /// Writes an image of the heap to the front of a buffer and answers that part of it: a file for any
+    /// host, with the base, the table, the bytes of all used blocks and the roots. `include/blockheap.h`
+    /// draws it.
+    ///
+    /// The roots are copied, not followed. Bytes of the buffer behind the image stay as they were.
+    ///
+    /// ```
+    /// # use blockheap::{full_image_bytes, Address, Memory};
+    /// # fn main() -> Result<(), blockheap::Refusal> {
+    /// # let mut memory = Memory::<16>::new();
+    /// # let mut heap = memory.init(Address::from_word(4096))?;
+    /// let block = heap.allocate(20)?.block;
+    /// let roots = [heap.address_of(block)?];
+    /// let mut buffer = [0; full_image_bytes(16, 1)]; // long enough for any image of this heap
+    /// let image = heap.write_image(&roots, &mut buffer)?;
+    /// assert_eq!(image.len(), 64);
+    ///
+    /// let mut file = vec![0; heap.image_bytes(roots.len())?]; // or as long as this one
+    /// assert_eq!(heap.write_image(&roots, &mut file)?, image);
+    /// # Ok(())
+    /// # }
+    /// ```
+    ///
+    /// # Errors
+    /// [`BadShape`](Refusal::BadShape), [`BadTable`](Refusal::BadTable),
+    /// [`TooManyRoots`](Refusal::TooManyRoots), [`OutputTooShort`](Refusal::OutputTooShort).
+    pub fn write_image<'b>(
+        &self,
+        roots: &[Address],
+        buffer: &'b mut [u8],
+    ) -> Result<&'b [u8], Refusal> {
+        let length = self.lent.write_image(roots, buffer)?;
+        Ok(&buffer[..length as usize])
+    }
+
+    /// The bytes of the heap's image with so many roots.
+    ///
+    /// # Errors
+    /// [`BadShape`](Refusal::BadShape), [`BadTable`](Refusal::BadTable).
+    pub fn image_bytes(&self, roots: usize) -> Result<usize, Refusal> {
+        Ok(image_bytes(self.lent.t(), self.survey()?.used as usize, roots))
     }
 
     /// All bytes of an object's blocks. They are found by loads, up to two for each binary digit of the

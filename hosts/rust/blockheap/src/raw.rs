@@ -54,9 +54,14 @@ declare! {
     blockheap_load(const pool, const table, block: u64, word: u64, value: *mut u32);
     /// Writes a word of an object.
     blockheap_store(mut pool, const table, block: u64, word: u64, value: u32);
+    /// Writes the heap as a file.
+    blockheap_write_image(
+        const pool, const table,
+        roots: *const u8, roots_len: usize, image: *mut u8, image_len: usize, length: *mut u32,
+    );
 }
 
-/// What every call is handed. The pool's length gives t.
+/// What every call is handed.
 #[derive(Debug)]
 pub(crate) struct Lent<'m> {
     pub base: Address,
@@ -82,13 +87,18 @@ macro_rules! hand_over {
     ($lent:ident, $call:ident($pool:tt pool, $table:tt table $(, $argument:expr)*)) => {{
         let base = $lent.base.word().into();
         let (pool_len, table_len) = ($lent.pool.len(), $lent.table.len());
-        let t = (pool_len / pool_bytes(1)) as u64;
+        let t = $lent.t() as u64;
         let (pool, table) = (pointer!($pool $lent.pool), pointer!($table $lent.table));
         check(unsafe { $call(base, t, pool, pool_len, table, table_len $(, $argument)*) })
     }};
 }
 
 impl Lent<'_> {
+    /// The t of the pool's length.
+    pub fn t(&self) -> usize {
+        self.pool.len() / pool_bytes(1)
+    }
+
     pub fn init(&mut self) -> Result<(), Refusal> {
         hand_over!(self, blockheap_init(const pool, mut table))
     }
@@ -146,6 +156,15 @@ impl Lent<'_> {
 
     pub fn store(&mut self, block: u64, word: u64, value: u32) -> Result<(), Refusal> {
         hand_over!(self, blockheap_store(mut pool, const table, block, word, value))
+    }
+
+    pub fn write_image(&self, roots: &[Address], image: &mut [u8]) -> Result<u32, Refusal> {
+        let mut length = 0;
+        hand_over!(self, blockheap_write_image(
+            const pool, const table,
+            roots.as_ptr().cast(), size_of_val(roots), image.as_mut_ptr(), image.len(), &mut length
+        ))?;
+        Ok(length)
     }
 }
 

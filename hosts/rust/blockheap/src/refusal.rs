@@ -24,6 +24,8 @@ pub enum Refusal {
     NoSuchWord = 8,
     /// No run of free blocks is long enough and aligned: four blocks or more begin at a multiple of four.
     NoRoom = 9,
+    /// The buffer for an image is shorter than the image.
+    OutputTooShort = 10,
 }
 
 impl Refusal {
@@ -38,6 +40,7 @@ impl Refusal {
         Refusal::NotAHead,
         Refusal::NoSuchWord,
         Refusal::NoRoom,
+        Refusal::OutputTooShort,
     ];
 
     /// Its number in `include/blockheap.h`.
@@ -62,6 +65,7 @@ impl Refusal {
             Refusal::NotAHead => "the block is not the head of an object",
             Refusal::NoSuchWord => "the word lies outside the object",
             Refusal::NoRoom => "no aligned run of free blocks is long enough",
+            Refusal::OutputTooShort => "the buffer is shorter than the image",
         }
     }
 }

@@ -22,10 +22,12 @@ pub const MAX_POOL_BYTES: usize = pool_bytes(MAX_T);
 pub const MAX_TABLE_BYTES: usize = table_bytes(MAX_T);
 /// The lowest base.
 pub const MIN_BASE: Address = Address::from_word(16);
-/// The most roots that a collection takes.
+/// The most roots that a collection or an image takes.
 pub const MAX_ROOTS: usize = 4096;
 /// The most entries that a mark stack may have.
 pub const MAX_STACK_ENTRIES: usize = 64;
+/// The most bytes that an image may have.
+pub const MAX_IMAGE_BYTES: usize = full_image_bytes(MAX_T, MAX_ROOTS);
 
 /// The bytes of pool of a heap of this `t`.
 ///
@@ -44,4 +46,18 @@ pub const fn pool_bytes(t: usize) -> usize {
 /// ```
 pub const fn table_bytes(t: usize) -> usize {
     2 * t.div_ceil(2)
+}
+
+/// The bytes of an image of a heap of this `t`, with so many used blocks and roots.
+///
+/// ```
+/// assert_eq!(blockheap::image_bytes(1, 1, 1), 33);
+/// ```
+pub const fn image_bytes(t: usize, used: usize, roots: usize) -> usize {
+    12 + t + BLOCK_BYTES * used + WORD_BYTES * roots
+}
+
+/// The most bytes that an image of a heap of this `t` may have, with so many roots: all blocks are used.
+pub const fn full_image_bytes(t: usize, roots: usize) -> usize {
+    image_bytes(t, 4 * t, roots)
 }

@@ -37,6 +37,7 @@ fn the_sizes_are_the_headers() {
         ("MIN_BASE", MIN_BASE.word() as usize),
         ("MAX_ROOTS", MAX_ROOTS),
         ("MAX_STACK_ENTRIES", MAX_STACK_ENTRIES),
+        ("MAX_IMAGE_BYTES", MAX_IMAGE_BYTES),
     ] {
         assert_eq!(size, defined(&format!("BLOCKHEAP_{name}")), "{name}");
     }

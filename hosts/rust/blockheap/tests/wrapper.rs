@@ -1,6 +1,6 @@
 //! The wrapper as a Rust program meets it.
 
-use blockheap::{pool_bytes, table_bytes};
+use blockheap::{full_image_bytes, pool_bytes, table_bytes, MAX_ROOTS};
 use blockheap::{Address, Block, Heap, MarkEntry, Memory, Placed, Refusal, Survey};
 
 const BASE: Address = Address::from_word(4096);
@@ -135,6 +135,37 @@ fn roots_and_mark_stack_may_be_bytes() -> Result<(), Refusal> {
         assert_eq!(Address::all_in(&[0; 4][..bytes]), Err(Refusal::BadShape));
         assert_eq!(MarkEntry::all_in(&mut [0; 4][..bytes]), Err(Refusal::BadShape));
     }
+    Ok(())
+}
+
+#[test]
+fn an_image_is_the_front_of_a_buffer() -> Result<(), Refusal> {
+    let mut memory = Memory::<1>::new();
+    let mut heap = memory.init(BASE)?;
+    heap.allocate(1)?;
+    let mut buffer = [0xEE; full_image_bytes(1, 1)];
+    let image = heap.write_image(&[BASE], &mut buffer)?.to_vec();
+    let block_0 = [0; 16];
+    let sections = [&[1, 0, 0, 16, 0, 0][..], &[1, 0, 1], &[1, 0], &block_0, &[1, 0, 0, 16, 0, 0]];
+    assert_eq!(image, sections.concat());
+    assert!(buffer[image.len()..].iter().all(|byte| *byte == 0xEE));
+    assert_eq!(heap.image_bytes(1)?, image.len());
+    Ok(())
+}
+
+#[test]
+fn a_buffer_that_is_too_short_is_refused_after_the_roots() -> Result<(), Refusal> {
+    let mut memory = Memory::<3>::new();
+    let mut heap = memory.init(BASE)?;
+    heap.allocate(100)?;
+    let bytes = heap.image_bytes(0)?;
+    let mut buffer = vec![0xEE; bytes];
+    assert_eq!(heap.write_image(&[], &mut buffer[1..]), Err(Refusal::OutputTooShort));
+    assert_eq!(buffer, vec![0xEE; bytes]);
+    assert_eq!(heap.write_image(&[], &mut buffer)?.len(), bytes);
+    let too_many = [Address::NULL; MAX_ROOTS + 1];
+    assert_eq!(heap.write_image(&too_many, &mut []), Err(Refusal::TooManyRoots));
+    assert_eq!(heap.write_image(&too_many[1..], &mut []), Err(Refusal::OutputTooShort));
     Ok(())
 }
 
