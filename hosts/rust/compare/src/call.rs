@@ -1,6 +1,6 @@
 use crate::{Buffer, Reply};
-use Access::{Reads, Scratch, Writes};
-use Buffer::{Pool, Roots, Stack, Table};
+use Access::{Fills, Reads, Scratch, Writes};
+use Buffer::{Image, Pool, Roots, Stack, Table};
 
 /// What a call does with a buffer that it takes.
 #[derive(Clone, Copy, Debug, PartialEq, Eq)]
@@ -9,6 +9,8 @@ pub enum Access {
     Writes,
     /// Writes all of it, whatever it held, and needs no certain length.
     Scratch,
+    /// Writes as many bytes at its front as it answers, whatever they held, and needs no certain length.
+    Fills,
 }
 
 /// What is to be known of a call.
@@ -93,6 +95,12 @@ calls! {
         refusals: &[0, 1, 2, 6, 7, 8],
         takes: &[(Pool, Writes)],
     };
+    WriteImage = Description {
+        name: "write image",
+        answers: &["length"],
+        refusals: &[0, 1, 2, 3, 10],
+        takes: &[(Roots, Reads), (Image, Fills)],
+    };
 }
 
 impl Call {
@@ -110,6 +118,7 @@ impl Call {
             _ if reply.refusal != 0 => 0,
             None | Some(Reads) => 0,
             Some(Writes | Scratch) => length,
+            Some(Fills) => length.min(reply.parts["length"] as usize),
         }
     }
 
@@ -119,7 +128,7 @@ impl Call {
         match self.access(buffer) {
             None => 0,
             Some(Reads | Writes) => length,
-            Some(Scratch) => self.written(buffer, length, reply),
+            Some(Scratch | Fills) => self.written(buffer, length, reply),
         }
     }
 }
@@ -131,6 +140,6 @@ mod tests {
     #[test]
     fn no_pair_of_a_call_and_a_refusal_number_is_lost() {
         let pairs: usize = Call::DESCRIPTIONS.iter().map(|call| call.refusals.len()).sum();
-        assert_eq!(pairs, 39);
+        assert_eq!(pairs, 44);
     }
 }

@@ -63,12 +63,11 @@ fn rescan_fault(reply: &Reply, before: &Lent) -> Option<String> {
 mod tests {
     use super::*;
     use crate::Guarded;
-    use Buffer::{Pool, Stack, Table};
+    use Buffer::{Image, Pool, Stack, Table};
 
     /// The buffers of which a call may change a byte.
-    fn writable(call: Call, refusal: u32) -> Vec<Buffer> {
+    fn writable(call: Call, reply: Reply) -> Vec<Buffer> {
         let before = Lent { base: 4096, t: 1, buffers: Buffer::ALL.map(|_| Guarded::zeroed(1)) };
-        let reply = Reply::refused(&call, refusal);
         let may_write = |buffer: &Buffer| {
             let mut after = before.clone();
             after[*buffer][0] = 1;
@@ -77,17 +76,33 @@ mod tests {
         Buffer::ALL.into_iter().filter(may_write).collect()
     }
 
+    fn accepted(call: Call) -> Vec<Buffer> {
+        writable(call, Reply::refused(&call, 0))
+    }
+
+    fn refused(call: Call, number: u32) -> Vec<Buffer> {
+        writable(call, Reply::refused(&call, number))
+    }
+
     #[test]
     fn a_write_to_what_a_call_reads_or_does_not_take_is_seen() {
-        assert_eq!(writable(Call::Survey, 0), []);
-        assert_eq!(writable(Call::Free { block: 0 }, 0), [Table]);
-        assert_eq!(writable(Call::Store { block: 0, word: 0, value: 0 }, 0), [Pool]);
-        assert_eq!(writable(Call::Collect, 0), [Table, Stack]);
+        assert_eq!(accepted(Call::Survey), []);
+        assert_eq!(accepted(Call::Free { block: 0 }), [Table]);
+        assert_eq!(accepted(Call::Store { block: 0, word: 0, value: 0 }), [Pool]);
+        assert_eq!(accepted(Call::Collect), [Table, Stack]);
+    }
+
+    #[test]
+    fn a_write_behind_an_image_is_seen() {
+        let image_of = |length| Reply::accepted(&Call::WriteImage, &[length]);
+        assert_eq!(writable(Call::WriteImage, image_of(1)), [Image]);
+        assert_eq!(writable(Call::WriteImage, image_of(0)), []);
     }
 
     #[test]
     fn a_write_by_a_refused_call_is_seen() {
-        assert_eq!(writable(Call::Collect, 3), []);
-        assert_eq!(writable(Call::Allocate { bytes: 1 }, 9), []);
+        assert_eq!(refused(Call::Collect, 3), []);
+        assert_eq!(refused(Call::Allocate { bytes: 1 }, 9), []);
+        assert_eq!(refused(Call::WriteImage, 10), []);
     }
 }

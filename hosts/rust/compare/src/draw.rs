@@ -1,7 +1,7 @@
 //! Random heaps, calls and arguments: mostly sensible, often at a border, sometimes absurd.
 
 use crate::planes::{table_bytes, FREE, HEAD, MARK, MOST, TAIL};
-use crate::Buffer::{Pool, Roots, Stack, Table};
+use crate::Buffer::{Image, Pool, Roots, Stack, Table};
 use crate::{Access, Call, Guarded, Lent, Random};
 
 /// Far outside of every heap, and equal to small numbers where a number is cut or wrapped.
@@ -169,9 +169,9 @@ fn some_address(random: &mut Random, lent: &Lent) -> u32 {
     address(lent, some_part(random, lent, head))
 }
 
-/// A call with its arguments; for a collection also roots and mark stack.
+/// A call with its arguments; for a collection also roots and mark stack, for an image roots and output.
 pub fn call(random: &mut Random, lent: &mut Lent) -> Call {
-    match random.below(300) {
+    match random.below(330) {
         0 => Call::Init,
         1..=74 => Call::Allocate { bytes: bytes(random, lent) },
         75..=104 => Call::Free { block: block(random, lent) },
@@ -189,10 +189,15 @@ pub fn call(random: &mut Random, lent: &mut Lent) -> Call {
             let block = block(random, lent);
             Call::Load { block, word: word(random, lent, block) }
         }
-        _ => {
+        260..=299 => {
             let block = block(random, lent);
             let value = word_value(random, lent);
             Call::Store { block, word: word(random, lent, block), value }
+        }
+        _ => {
+            draw_any_roots(random, lent);
+            lent[Image] = Guarded::new(&output(random, lent));
+            Call::WriteImage
         }
     }
 }
@@ -255,6 +260,16 @@ pub fn draw_roots(random: &mut Random, lent: &mut Lent) {
     }
 }
 
+/// Roots as a collection takes them, or any bytes.
+fn draw_any_roots(random: &mut Random, lent: &mut Lent) {
+    if random.percent(50) {
+        return draw_roots(random, lent);
+    }
+    let piece = if random.percent(5) { random.between(1, 3) } else { 0 };
+    let length = 4 * random.below(20) + piece;
+    lent[Roots] = Guarded::new(&random.bytes(length as usize));
+}
+
 /// Addresses of most objects, of some or of none, and a few words, at most 4,096 in all.
 pub fn good_roots(random: &mut Random, lent: &Lent) -> Vec<u32> {
     let percent = random.pick(&[90, 90, 30, 0]);
@@ -291,11 +306,28 @@ pub fn good_stack(random: &mut Random) -> Vec<u8> {
     random.bytes(4 * entries as usize)
 }
 
+/// An output for the heap's image with its roots, of any content: as long, longer, or too short.
+fn output(random: &mut Random, lent: &Lent) -> Vec<u8> {
+    let image = lent.image_bytes() as u64;
+    let length = match random.below(16) {
+        0 => 0,
+        1 | 2 => image - 1,
+        3 => image - lent[Roots].len() as u64,
+        4 => random.below(image),
+        5..=9 => image,
+        10 | 11 => image + 1,
+        12 => image + random.below(5000),
+        _ => image + random.below(40),
+    };
+    random.bytes(length as usize)
+}
+
 /// What the other heap of a pair is lent, where the first is lent these bytes.
 pub fn other(random: &mut Random, access: Access, bytes: &Guarded) -> Guarded {
     match access {
         Access::Reads | Access::Writes => bytes.clone(),
         Access::Scratch => Guarded::new(&other_stack(random, bytes)),
+        Access::Fills => Guarded::new(&random.bytes(bytes.len())),
     }
 }
 

@@ -1,10 +1,12 @@
-//! The laws of order, each tried on drawn heaps: frees commute, roots are a set, joined root lists keep
-//! what one or the other keeps, and a second collection at once changes nothing.
+//! Laws, each tried on drawn heaps. Of order: frees commute, roots are a set, joined root lists keep what
+//! one or the other keeps, and a second collection at once changes nothing. Of images: they have all that a
+//! heap has, and nothing of its free blocks.
 
 use crate::difference::Difference;
+use crate::pairs::refill_free_blocks;
 use crate::planes::{FREE, HEAD};
-use crate::Buffer::{self, Stack};
-use crate::{draw, Call, Guarded, Lent, Random, Reply, Subject};
+use crate::Buffer::{self, Image, Stack};
+use crate::{draw, image, Call, Guarded, Lent, Random, Reply, Subject};
 use std::ops::RangeInclusive;
 
 /// A collection takes no more.
@@ -125,7 +127,47 @@ pub fn collect_idempotent(trial: &mut Trial) -> Result<(), String> {
     same_heap(&second.lent, &first.lent)
 }
 
+/// The sections of an image, read by their counts, are those of the heap and its roots.
+pub fn images_have_the_heap(trial: &mut Trial) -> Result<(), String> {
+    trial.draw_roots();
+    let sections = trial.heap.sections();
+    trial.counts.telling += u64::from(sections.iter().all(|section| section.count > 0));
+    let image = trial.image(trial.heap.clone())?;
+    match image::read(&image) {
+        Some(read) if read == sections => Ok(()),
+        read => Err(format!("an image of {} bytes has the sections {read:02x?}", image.len())),
+    }
+}
+
+/// What free blocks hold is in no image.
+pub fn images_have_no_free_bytes(trial: &mut Trial) -> Result<(), String> {
+    trial.draw_roots();
+    let mut other = trial.heap.clone();
+    refill_free_blocks(trial.random, &mut other, &trial.heap);
+    let used = trial.heap.used().count() as u64;
+    trial.counts.telling += u64::from(used > 0 && used < trial.heap.blocks());
+    if trial.image(trial.heap.clone())? == trial.image(other)? {
+        Ok(())
+    } else {
+        Err("the image has what free blocks hold".to_string())
+    }
+}
+
 impl Trial<'_> {
+    fn draw_roots(&mut self) {
+        let roots = draw::good_roots(self.random, &self.heap);
+        self.heap.set_roots(&roots);
+    }
+
+    /// The image of a heap, written to an output that may be longer.
+    fn image(&mut self, mut heap: Lent) -> Result<Vec<u8>, String> {
+        heap.set_output(heap.image_bytes() + self.random.below(20) as usize);
+        let outcome = self.call(&Call::WriteImage, &heap)?;
+        let length = outcome.reply.parts["length"] as usize;
+        let written = outcome.lent[Image].get(..length);
+        written.map(<[u8]>::to_vec).ok_or(format!("the image has {length} bytes"))
+    }
+
     /// Makes a call that must be accepted.
     fn call(&self, call: &Call, before: &Lent) -> Result<Outcome, String> {
         let mut lent = before.clone();

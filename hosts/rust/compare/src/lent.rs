@@ -9,10 +9,12 @@ pub enum Buffer {
     Table,
     Roots,
     Stack,
+    Image,
 }
 
 impl Buffer {
-    pub const ALL: [Buffer; 4] = [Buffer::Pool, Buffer::Table, Buffer::Roots, Buffer::Stack];
+    pub const ALL: [Buffer; 5] =
+        [Buffer::Pool, Buffer::Table, Buffer::Roots, Buffer::Stack, Buffer::Image];
     /// What holds the heap; every call takes it.
     pub const HEAP: [Buffer; 2] = [Buffer::Pool, Buffer::Table];
 }
@@ -33,9 +35,9 @@ pub struct Lent {
 }
 
 impl Lent {
-    /// A heap; roots and mark stack are empty.
+    /// A heap; the other buffers are empty.
     pub fn new(base: u64, t: u64, pool: &[u8], table: &[u8]) -> Lent {
-        Lent { base, t, buffers: [pool, table, &[], &[]].map(Guarded::new) }
+        Lent { base, t, buffers: [pool, table, &[], &[], &[]].map(Guarded::new) }
     }
 
     /// Puts words into the root list.

@@ -10,6 +10,7 @@ mod coverage;
 mod difference;
 mod draw;
 mod guarded;
+pub mod image;
 pub mod laws;
 mod lent;
 mod pages;

@@ -6,13 +6,15 @@ use crate::planes::FREE;
 use crate::Buffer::{self, Pool, Stack};
 use crate::{draw, second, Call, Guarded, Lent, Random, Reply, Sizes, Subject};
 
-/// What was run: pairs and calls on each side, how many of these were refused, in how many pool bytes
-/// the pairs differed at the start, and how often stacks of different lengths took different rescans.
+/// What was run: pairs and calls on each side, how many of these were refused and how many wrote an image,
+/// in how many pool bytes the pairs differed at the start, and how often stacks of different lengths took
+/// different rescans.
 #[derive(Clone, Copy, Debug, Default)]
 pub struct PairCounts {
     pub pairs: u64,
     pub calls: u64,
     pub refused: u64,
+    pub images: u64,
     pub different_bytes: u64,
     pub different_rescans: u64,
 }
@@ -99,6 +101,7 @@ impl Pair {
         let mut replies = self.sides.each_mut().map(|side| subject(call, side));
         counts.calls += 1;
         counts.refused += u64::from(replies[0].refusal != 0);
+        counts.images += u64::from(*call == Call::WriteImage && replies[0].refusal == 0);
         if self.lengths_differ(call) {
             let rescans = replies[0].parts["rescans"];
             let others = replies[1].parts.insert("rescans", rescans);
@@ -135,7 +138,7 @@ impl Pair {
 }
 
 /// Gives every block that is free once collected new bytes: noise, nothing or pointers.
-fn refill_free_blocks(random: &mut Random, lent: &mut Lent, collected: &Lent) {
+pub fn refill_free_blocks(random: &mut Random, lent: &mut Lent, collected: &Lent) {
     let pointers = random.percent(70);
     for block in (0..lent.blocks()).filter(|block| collected.entry(*block) == FREE) {
         for word in 4 * block..4 * block + 4 {

@@ -2,8 +2,8 @@
 
 use crate::aligned::{aligned, free_from, large, lowest_start};
 use crate::planes::{table_bytes, SpareBit, MOST};
-use crate::Buffer::{Pool, Table};
-use crate::{second, Call, Lent, Reply};
+use crate::Buffer::{Image, Pool, Roots, Table};
+use crate::{second, Call, Guarded, Lent, Reply};
 
 /// A call that was made: on what, and with what reply.
 pub struct Made<'m> {
@@ -19,7 +19,7 @@ type Situation = (&'static str, u32, &'static str, fn(&Made) -> bool);
 const ANY: &str = "any call";
 
 /// What is said to be alone is the one reason of the refusal.
-pub const SITUATIONS: [Situation; 48] = [
+pub const SITUATIONS: [Situation; 60] = [
     (ANY, 0, "t is 1", |made| made.before.t == 1),
     (ANY, 0, "t is odd", |made| made.before.t % 2 == 1),
     (ANY, 0, "t is even", |made| made.before.t % 2 == 0),
@@ -82,6 +82,20 @@ pub const SITUATIONS: [Situation; 48] = [
         made.before.t % 2 == 1 && made.part("longest") == made.free_at_the_end()
     }),
     ("survey", 0, "none as long is aligned", |made| made.longest_is_unaligned()),
+    ("write image", 0, "no used block", |made| made.used() == 0),
+    ("write image", 0, "no free block", |made| made.used() == made.before.blocks()),
+    ("write image", 0, "more than 255 used blocks", |made| made.used() > 255),
+    ("write image", 0, "t above 255", |made| made.before.t > 255),
+    ("write image", 0, "no roots", |made| made.roots() == 0),
+    ("write image", 0, "4,096 roots", |made| made.roots() == 4096),
+    ("write image", 0, "as long as the output", |made| made.left_over() == 0),
+    ("write image", 0, "shorter than the output", |made| made.left_over() > 0),
+    ("write image", 1, "a piece of a root, alone", |made| made.has_piece_of_root_alone()),
+    ("write image", 10, "a byte longer than the output", |made| made.left_over() == -1),
+    ("write image", 10, "an empty output", |made| made.before[Image].is_empty()),
+    ("write image", 10, "no room for the roots alone", |made| {
+        made.roots() > 0 && made.left_over() == -4 * made.roots()
+    }),
 ];
 
 impl Made<'_> {
@@ -198,6 +212,25 @@ impl Made<'_> {
         self.part("kept") > 0
     }
 
+    fn used(&self) -> u64 {
+        self.before.used().count() as u64
+    }
+
+    fn roots(&self) -> i64 {
+        self.before[Roots].len() as i64 / 4
+    }
+
+    /// How much longer the output is than the image.
+    fn left_over(&self) -> i64 {
+        self.before[Image].len() as i64 - self.before.image_bytes() as i64
+    }
+
+    fn has_piece_of_root_alone(&self) -> bool {
+        let roots = &self.before[Roots];
+        let whole = Guarded::new(&roots[..roots.len() / 4 * 4]);
+        whole.len() < roots.len() && self.is_mended(|lent| lent[Roots] = whole)
+    }
+
     fn longest_is_unaligned(&self) -> bool {
         let longest = self.part("longest") as u64;
         lowest_start(self.before, longest, |start| aligned(start, longest)).is_none()
@@ -294,6 +327,37 @@ mod tests {
         let moved = ["moved", "moved with room in place", "moved over an unaligned run"];
         let moved = [&moved[..], &["unaligned, moved"]].concat();
         check(&[164, 2, 0, 0], reallocate(5), &moved);
+    }
+
+    /// The situations that an image shows of a heap with such roots, in an output of this length.
+    fn shown_by_image(numbers: &[u8], roots: &[u8], output: usize) -> Vec<&'static str> {
+        let mut before = Lent::of_numbers(4096, numbers);
+        before[Roots] = Guarded::new(roots);
+        before.set_output(output);
+        shown(&before, Call::WriteImage, false)
+    }
+
+    #[test]
+    fn what_an_image_is_of_is_seen() {
+        let as_long = "as long as the output";
+        assert_eq!(shown_by_image(&[0], &[], 13), ["no used block", "no roots", as_long]);
+        assert_eq!(shown_by_image(&[4], &[0; 4], 33), [as_long]);
+        assert_eq!(shown_by_image(&[85], &[0; 4], 81), ["no free block", as_long]);
+        let most = ["no used block", "t above 255", "4,096 roots", as_long];
+        assert_eq!(shown_by_image(&[0; 256], &[0; 4 * 4096], 268 + 4 * 4096), most);
+        let full = ["no free block", "more than 255 used blocks", "no roots", as_long];
+        assert_eq!(shown_by_image(&[85; 64], &[], 76 + 16 * 256), full);
+    }
+
+    #[test]
+    fn how_an_image_fits_its_output_is_seen() {
+        assert_eq!(shown_by_image(&[1], &[0; 8], 38), ["shorter than the output"]);
+        assert_eq!(shown_by_image(&[1], &[0; 8], 36), ["a byte longer than the output"]);
+        assert_eq!(shown_by_image(&[1], &[0; 8], 29), ["no room for the roots alone"]);
+        assert_eq!(shown_by_image(&[1], &[0; 8], 0), ["an empty output"]);
+        assert_eq!(shown_by_image(&[1], &[0; 7], 37), ["a piece of a root, alone"]);
+        assert_eq!(shown_by_image(&[1, 8], &[0; 7], 200), ["a piece of a root, alone"]);
+        assert_eq!(shown_by_image(&[8], &[0; 8], 0), [] as [&str; 0]);
     }
 
     #[test]

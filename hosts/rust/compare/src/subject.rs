@@ -1,6 +1,6 @@
 //! The heaps that can be compared, each as a function on calls and lent memory.
 
-use crate::Buffer::{Roots, Stack};
+use crate::Buffer::{self, Image, Roots, Stack};
 use crate::{Call, Lent, Reply};
 use blockheap::{raw, Address, Block, Heap, MarkEntry};
 use listheap::{ListHeap, Refusal};
@@ -12,7 +12,7 @@ pub type Subject<'s> = &'s dyn Fn(&Call, &mut Lent) -> Reply;
 /// stand between guards.
 pub fn library(call: &Call, lent: &mut Lent) -> Reply {
     let mut answers = Answers::new(call);
-    let [pool, table, roots, stack] = &mut lent.buffers;
+    let [pool, table, roots, stack, image] = &mut lent.buffers;
     macro_rules! hand_over {
         ($call:ident $(, $argument:expr)* => $($answer:literal)*) => {{
             // Each buffer has pages of its own, and the answers have their memory.
@@ -41,6 +41,12 @@ pub fn library(call: &Call, lent: &mut Lent) -> Reply {
         Call::Survey => hand_over!(blockheap_survey => "used" "objects" "longest"),
         Call::Load { block, word } => hand_over!(blockheap_load, block, word => "value"),
         Call::Store { block, word, value } => hand_over!(blockheap_store, block, word, value =>),
+        Call::WriteImage => {
+            let (output, length) = (image.as_mut_ptr(), image.len());
+            hand_over!(
+                blockheap_write_image, roots.as_ptr(), roots.len(), output, length => "length"
+            )
+        }
     };
     answers.reply(refusal)
 }
@@ -91,7 +97,7 @@ pub fn wrapper(call: &Call, lent: &mut Lent) -> Reply {
 fn on_wrapper(call: &Call, lent: &mut Lent) -> Result<Vec<i64>, blockheap::Refusal> {
     let word = u32::try_from(lent.base).map_err(|_| blockheap::Refusal::BadShape)?;
     let (base, at) = (Address::from_word(word), Block::from_number);
-    let [pool, table, roots, stack] = &mut lent.buffers;
+    let [pool, table, roots, stack, image] = &mut lent.buffers;
     if lent.t != pool.len() as u64 / 64 {
         return Err(blockheap::Refusal::BadShape);
     }
@@ -120,15 +126,17 @@ fn on_wrapper(call: &Call, lent: &mut Lent) -> Result<Vec<i64>, blockheap::Refus
             heap.store(at(block), word, value)?;
             vec![]
         }
+        Call::WriteImage => vec![heap.write_image(Address::all_in(roots)?, image)?.len() as i64],
     })
 }
 
 /// The plain-list heap on lent memory.
 pub fn second(call: &Call, lent: &mut Lent) -> Reply {
-    let (heap, roots, stack) = for_list(lent);
+    let ForList { heap, roots, stack, image } = for_list(lent);
     let result = match call {
         Call::Init => heap.init().map(|()| vec![]),
         Call::Collect => heap.collect(roots, stack).map(collected_parts),
+        Call::WriteImage => heap.write_image(roots, image).map(length_part),
         _ => heap.on_list(|heap| call_on_list(call, heap)),
     };
     reply(call, result.map_err(Refusal::number))
@@ -139,27 +147,44 @@ pub fn on_list<A>(
     lent: &mut Lent,
     work: impl FnOnce(&mut ListHeap) -> Result<A, Refusal>,
 ) -> Result<A, Refusal> {
-    for_list(lent).0.on_list(work)
+    for_list(lent).heap.on_list(work)
 }
 
-/// What is lent as the plain-list heap takes it: the heap, roots and mark stack.
-fn for_list(lent: &mut Lent) -> (listheap::Lent<'_>, &[u8], &mut [u8]) {
-    let [pool, table, roots, stack] = &mut lent.buffers;
-    (listheap::Lent { base: lent.base, t: lent.t, pool, table }, roots, stack)
+/// What is lent as the plain-list heap takes it.
+struct ForList<'l> {
+    heap: listheap::Lent<'l>,
+    roots: &'l [u8],
+    stack: &'l mut [u8],
+    image: &'l mut [u8],
 }
 
-/// The plain-list heap on a list that is kept from call to call; only roots and mark stack are lent.
-pub fn second_on_list(call: &Call, heap: &mut ListHeap, lent: &Lent) -> Reply {
-    let whole_entries = lent[Roots].len() % 4 == 0 && lent[Stack].len() % 4 == 0;
+fn for_list(lent: &mut Lent) -> ForList<'_> {
+    let [pool, table, roots, stack, image] = &mut lent.buffers;
+    ForList {
+        heap: listheap::Lent { base: lent.base, t: lent.t, pool, table },
+        roots,
+        stack,
+        image,
+    }
+}
+
+/// The plain-list heap on a list that is kept from call to call; pool and table are not lent.
+pub fn second_on_list(call: &Call, heap: &mut ListHeap, lent: &mut Lent) -> Reply {
+    let whole_entries = |buffer: Buffer| lent[buffer].len() % 4 == 0;
     let result = match call {
         Call::Init => {
             heap.objects.clear();
             Ok(vec![])
         }
-        Call::Collect if !whole_entries => Err(Refusal::Shape),
+        Call::Collect if ![Roots, Stack].into_iter().all(whole_entries) => Err(Refusal::Shape),
         Call::Collect => {
             let roots = listheap::words_of(&lent[Roots]);
             heap.collect(&roots, lent[Stack].len() / 4).map(collected_parts)
+        }
+        Call::WriteImage if !whole_entries(Roots) => Err(Refusal::Shape),
+        Call::WriteImage => {
+            let roots = listheap::words_of(&lent[Roots]);
+            heap.write_image(&roots, &mut lent[Image]).map(length_part)
         }
         _ => call_on_list(call, heap),
     };
@@ -169,7 +194,7 @@ pub fn second_on_list(call: &Call, heap: &mut ListHeap, lent: &Lent) -> Reply {
 fn call_on_list(call: &Call, heap: &mut ListHeap) -> Result<Vec<i64>, Refusal> {
     let placed = |placed: listheap::Placed| vec![placed.block as i64, placed.change];
     Ok(match *call {
-        Call::Init | Call::Collect => unreachable!("handled by the callers"),
+        Call::Init | Call::Collect | Call::WriteImage => unreachable!("handled by the callers"),
         Call::Allocate { bytes } => placed(heap.allocate(bytes)?),
         Call::Free { block } => vec![heap.free(block)?],
         Call::Reallocate { block, bytes } => placed(heap.reallocate(block, bytes)?),
@@ -187,6 +212,10 @@ fn call_on_list(call: &Call, heap: &mut ListHeap) -> Result<Vec<i64>, Refusal> {
 
 fn collected_parts(collected: listheap::Collected) -> Vec<i64> {
     vec![collected.kept as i64, collected.rescans as i64, collected.change]
+}
+
+fn length_part(length: u64) -> Vec<i64> {
+    vec![length as i64]
 }
 
 fn reply(call: &Call, result: Result<Vec<i64>, u32>) -> Reply {

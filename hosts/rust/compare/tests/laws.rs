@@ -1,5 +1,5 @@
-//! The laws of order on the library: on drawn heaps, and on the heap of the proofs. BLOCKHEAP_HEAPS asks
-//! for more heaps.
+//! The laws of order and of images on the library: on drawn heaps, and on the heap of the proofs.
+//! BLOCKHEAP_HEAPS asks for more heaps.
 
 use compare::laws::{self, run_law, Law, LawCounts};
 use compare::Buffer::{Stack, Table};
@@ -42,6 +42,16 @@ fn joined_roots_keep_the_union() {
 fn a_second_collection_changes_nothing() {
     let counts = holds(laws::collect_idempotent, 11112);
     assert!(counts.iter().all(|counts| counts.other_stacks > 0));
+}
+
+#[test]
+fn images_have_the_heap() {
+    holds(laws::images_have_the_heap, 1);
+}
+
+#[test]
+fn images_have_no_free_bytes() {
+    holds(laws::images_have_no_free_bytes, 11);
 }
 
 /// The heap of the proofs (crates/algebra/specs/Samples.antt): C leads to E and E to D, B to A, F to itself.

@@ -1,6 +1,7 @@
 //! From an accepted init on, the library answers as a list of objects that is never read back from
 //! pool or table would.
 
+use compare::Buffer::Image;
 use compare::{draw_call, library, noise, on_list, second_on_list, Call, Lent, Random};
 use listheap::ListHeap;
 
@@ -12,9 +13,11 @@ fn library_and_list_agree(seed: u64, t: u64, calls: usize) {
     assert_eq!(library(&Call::Init, &mut lent).refusal, 0);
     for number in 0..calls {
         let call = draw_call(&mut random, &mut lent);
-        let expected = second_on_list(&call, &mut list, &lent);
+        let mut expected = lent.clone();
+        let expected_reply = second_on_list(&call, &mut list, &mut expected);
         let reply = library(&call, &mut lent);
-        assert_eq!(reply, expected, "seed {seed}, call {number}: {call:?}");
+        assert_eq!(reply, expected_reply, "seed {seed}, call {number}: {call:?}");
+        assert!(lent[Image][..] == expected[Image][..], "seed {seed}, call {number}: the image");
         let change = reply.parts.get("change").unwrap_or(&0);
         used = if call == Call::Init { 0 } else { used + change };
         assert_eq!(

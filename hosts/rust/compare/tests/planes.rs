@@ -7,7 +7,7 @@ use compare::{compare, library, second, wrapper, Call, Guarded, Lent, Reply, Sub
 const BASE: u64 = 4096;
 
 /// Calls that are accepted on a heap with an object in block 0 and room behind it.
-const CALLS: [Call; 8] = [
+const CALLS: [Call; 9] = [
     Call::Init,
     Call::Allocate { bytes: 1 },
     Call::Free { block: 0 },
@@ -16,6 +16,7 @@ const CALLS: [Call; 8] = [
     Call::Survey,
     Call::Load { block: 0, word: 3 },
     Call::Store { block: 0, word: 3, value: 7 },
+    Call::WriteImage,
 ];
 
 /// Calls that are refused on such a heap, by the numbers from 3 to 9.
@@ -40,6 +41,7 @@ fn heap(t: u64) -> Lent {
     let mut lent = Lent::empty(BASE, t);
     lent.set_entry(0, HEAD);
     lent[Stack] = Guarded::new(&[0xEE; 8]);
+    lent.set_output(lent.image_bytes());
     lent
 }
 
@@ -122,6 +124,7 @@ fn calls_take(t: u64, pool: usize, table: usize) {
     if let Some(first) = lent[Table].first_mut() {
         *first = HEAD;
     }
+    lent.set_output(pool + table + 64);
     for (call, subject) in CALLS.iter().flat_map(|call| SUBJECTS.map(|subject| (call, subject))) {
         assert_eq!(refusal(subject, call, &lent), u32::from(!fits), "{call:?} on {lent}");
     }
@@ -165,10 +168,16 @@ fn every_table_of_two_bytes_is_read_alike() {
     for (t, low, high) in
         (1..=2).flat_map(|t| (0..=255).flat_map(move |l| (0..=255).map(move |h| (t, l, h))))
     {
-        let lent = Lent::new(BASE, t, &vec![0; 64 * t as usize], &[low, high]);
-        for call in
-            [Call::Survey, Call::Allocate { bytes: 33 }, Call::Free { block: 1 }, Call::Collect]
-        {
+        let pool: Vec<u8> = (0..64 * t as u8).collect();
+        let mut lent = Lent::new(BASE, t, &pool, &[low, high]);
+        lent.set_output(160);
+        for call in [
+            Call::Survey,
+            Call::Allocate { bytes: 33 },
+            Call::Free { block: 1 },
+            Call::Collect,
+            Call::WriteImage,
+        ] {
             refusal(&library, &call, &lent);
         }
     }
