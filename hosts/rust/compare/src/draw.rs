@@ -246,9 +246,10 @@ fn word(random: &mut Random, lent: &Lent, block: u64) -> u64 {
 /// Good roots; at times the most, too many, or a piece of one.
 pub fn draw_roots(random: &mut Random, lent: &mut Lent) {
     let mut roots = good_roots(random, lent);
+    let most = 4096 - roots.len() as u64;
     let more = match random.below(64) {
-        0 => 4096 - roots.len() as u64,
-        1 => 4097 + random.below(10),
+        0 => most,
+        1 => most + random.pick(&[1, 1, 2, 11]),
         2..=5 => random.between(5, 64),
         _ => 0,
     };
@@ -260,13 +261,14 @@ pub fn draw_roots(random: &mut Random, lent: &mut Lent) {
     }
 }
 
-/// Roots as a collection takes them, or any bytes.
+/// Roots as a collection takes them, or any bytes: a few words, at times the most, too many, or a piece.
 fn draw_any_roots(random: &mut Random, lent: &mut Lent) {
     if random.percent(50) {
         return draw_roots(random, lent);
     }
+    let words = if random.percent(5) { 4096 + random.below(3) } else { random.below(20) };
     let piece = if random.percent(5) { random.between(1, 3) } else { 0 };
-    let length = 4 * random.below(20) + piece;
+    let length = 4 * words + piece;
     lent[Roots] = Guarded::new(&random.bytes(length as usize));
 }
 

@@ -5,7 +5,7 @@
 use crate::difference::Difference;
 use crate::pairs::refill_free_blocks;
 use crate::planes::{FREE, HEAD};
-use crate::Buffer::{self, Image, Stack};
+use crate::Buffer::{self, Image, Pool, Stack};
 use crate::{draw, image, Call, Guarded, Lent, Random, Reply, Subject};
 use std::ops::RangeInclusive;
 
@@ -133,10 +133,10 @@ pub fn images_have_the_heap(trial: &mut Trial) -> Result<(), String> {
     let sections = trial.heap.sections();
     trial.counts.telling += u64::from(sections.iter().all(|section| section.count > 0));
     let image = trial.image(trial.heap.clone())?;
-    match image::read(&image) {
-        Some(read) if read == sections => Ok(()),
-        read => Err(format!("an image of {} bytes has the sections {read:02x?}", image.len())),
-    }
+    let read = image::read(&image).ok_or("an image does not end with its fourth section")?;
+    let names = ["base", "table", "blocks", "roots"];
+    let mut wrong = (0..names.len()).filter(|at| read[*at] != sections[*at]);
+    wrong.next().map_or(Ok(()), |at| Err(format!("the section of the {} is another", names[at])))
 }
 
 /// What free blocks hold is in no image.
@@ -159,9 +159,9 @@ impl Trial<'_> {
         self.heap.set_roots(&roots);
     }
 
-    /// The image of a heap, written to an output that may be longer.
-    fn image(&mut self, mut heap: Lent) -> Result<Vec<u8>, String> {
-        heap.set_output(heap.image_bytes() + self.random.below(20) as usize);
+    /// The image of a heap, written to an output that is longer.
+    fn image(&self, mut heap: Lent) -> Result<Vec<u8>, String> {
+        heap.set_output(heap.image_bytes() + heap[Pool].len());
         let outcome = self.call(&Call::WriteImage, &heap)?;
         let length = outcome.reply.parts["length"] as usize;
         let written = outcome.lent[Image].get(..length);

@@ -19,7 +19,7 @@ type Situation = (&'static str, u32, &'static str, fn(&Made) -> bool);
 const ANY: &str = "any call";
 
 /// What is said to be alone is the one reason of the refusal.
-pub const SITUATIONS: [Situation; 60] = [
+pub const SITUATIONS: [Situation; 62] = [
     (ANY, 0, "t is 1", |made| made.before.t == 1),
     (ANY, 0, "t is odd", |made| made.before.t % 2 == 1),
     (ANY, 0, "t is even", |made| made.before.t % 2 == 0),
@@ -76,6 +76,7 @@ pub const SITUATIONS: [Situation; 60] = [
     ("collect", 0, "nothing freed", |made| made.kept() && made.part("change") == 0),
     ("collect", 0, "one rescan", |made| made.part("rescans") == 1),
     ("collect", 0, "two or more rescans", |made| made.part("rescans") > 1),
+    ("collect", 3, "4,097 roots", |made| made.roots() == 4097),
     ("survey", 0, "no free block", |made| made.part("longest") == 0),
     ("survey", 0, "more than 64 in a row", |made| made.part("longest") > 64),
     ("survey", 0, "the last blocks free, t odd", |made| {
@@ -91,6 +92,7 @@ pub const SITUATIONS: [Situation; 60] = [
     ("write image", 0, "as long as the output", |made| made.left_over() == 0),
     ("write image", 0, "shorter than the output", |made| made.left_over() > 0),
     ("write image", 1, "a piece of a root, alone", |made| made.has_piece_of_root_alone()),
+    ("write image", 3, "4,097 roots", |made| made.roots() == 4097),
     ("write image", 10, "a byte longer than the output", |made| made.left_over() == -1),
     ("write image", 10, "an empty output", |made| made.before[Image].is_empty()),
     ("write image", 10, "no room for the roots alone", |made| {
@@ -358,6 +360,7 @@ mod tests {
         assert_eq!(shown_by_image(&[1], &[0; 7], 37), ["a piece of a root, alone"]);
         assert_eq!(shown_by_image(&[1, 8], &[0; 7], 200), ["a piece of a root, alone"]);
         assert_eq!(shown_by_image(&[8], &[0; 8], 0), [] as [&str; 0]);
+        assert_eq!(shown_by_image(&[1], &[0; 4 * 4097], 0), ["4,097 roots"]);
     }
 
     #[test]

@@ -1,11 +1,12 @@
 //! The comparison must notice a wrong heap: each heap here follows all rules but one.
 
 use compare::aligned::{aligned, lowest_start, stays_aligned, unaligned_head};
+use compare::image::{self, bytes_of, Section};
 use compare::laws::{self, run_law, Law};
 use compare::places::{anywhere, free_run, right_start, search, MayBegin, Places, RIGHT};
-use compare::planes::{table_bytes, SpareBit, FREE};
+use compare::planes::{table_bytes, SpareBit, FREE, HEAD};
 use compare::readings::{self, collect_reading, Reading};
-use compare::Buffer::{self, Pool, Roots, Stack, Table};
+use compare::Buffer::{self, Image, Pool, Roots, Stack, Table};
 use compare::{on_list, run_pairs, run_walks, second, Call, Guarded, Lent, Reply};
 use compare::{Coverage, Sizes, Subject};
 use listheap::{Collected, ListHeap, Marking, Object, Placed, Refusal};
@@ -95,6 +96,14 @@ fn joined_roots_keep_no_union(name: &str, subject: Subject) {
 
 fn a_second_collection_changes_more(name: &str, subject: Subject) {
     breaks(laws::collect_idempotent, name, subject);
+}
+
+fn images_lack_the_heap(name: &str, subject: Subject) {
+    breaks(laws::images_have_the_heap, name, subject);
+}
+
+fn images_have_free_bytes(name: &str, subject: Subject) {
+    breaks(laws::images_have_no_free_bytes, name, subject);
 }
 
 /// The heap must leave a large object that is not aligned, from an init on.
@@ -212,11 +221,39 @@ each! { must_be_noticed:
     takes_a_longer_table
     tests_spare_bits_before_the_base
     surveys_spare_blocks
+    counts_highest_byte_first
+    cuts_counts_to_a_byte
+    counts_bytes
+    counts_objects_for_blocks
+    writes_the_base_highest_byte_first
+    writes_the_planes
+    pads_the_table
+    has_the_first_block_in_the_highest_bits
+    swaps_the_bits_of_an_entry
+    writes_free_blocks
+    writes_heads_alone
+    writes_blocks_falling
+    swaps_blocks_and_roots
+    leads_roots_to_heads
+    drops_roots_that_lead_nowhere
+    ends_before_the_roots
+    takes_an_output_a_byte_short
+    takes_no_longer_output
+    clears_the_output_behind_the_image
+    writes_what_fits
+    answers_the_length_of_a_refused_image
+    answers_the_length_of_the_output
+    tests_the_output_first
+    tests_the_roots_before_the_table
+    takes_4095_roots_at_most
+    takes_more_than_4096_roots
+    takes_a_piece_of_a_root
 }
 
 each! { must_be_noticed_at_each_spare_bit:
     ignores_a_spare_bit
     ignores_a_spare_bit_in_a_survey
+    ignores_a_spare_bit_in_an_image
     clears_a_spare_bit
     clears_a_spare_bit_in_a_refusal
     leaves_a_spare_bit_at_init
@@ -265,6 +302,8 @@ each! { dead_data_is_heard:
     clears_only_the_bytes_asked
     follows_words_in_free_blocks
     leaves_the_mark_stack
+    writes_free_blocks
+    keeps_bits_of_the_output
 }
 
 each! { frees_do_not_commute:
@@ -295,14 +334,35 @@ each! { a_second_collection_changes_more:
     counts_collections_in_a_free_block
 }
 
+each! { images_lack_the_heap:
+    counts_highest_byte_first
+    counts_bytes
+    writes_blocks_falling
+    swaps_blocks_and_roots
+    leads_roots_to_heads
+    answers_the_length_of_the_output
+    refuses_every_call
+}
+
+each! { images_have_free_bytes:
+    writes_free_blocks
+    refuses_every_call
+}
+
 #[test]
 fn a_right_heap_is_not_noticed() {
-    for subject in [&second as Subject, &right_places] {
+    for subject in [&second as Subject, &right_places, &right_sections] {
         run_walks(subject, SMALL, 5, MOST_CALLS, &mut Coverage::default()).expect("a right heap");
     }
     stays_aligned(&second, 8, 5, 2_000).expect("a right heap");
-    let all: [Law; 4] =
-        [laws::frees_commute, laws::roots_are_a_set, laws::roots_join, laws::collect_idempotent];
+    let all: [Law; 6] = [
+        laws::frees_commute,
+        laws::roots_are_a_set,
+        laws::roots_join,
+        laws::collect_idempotent,
+        laws::images_have_the_heap,
+        laws::images_have_no_free_bytes,
+    ];
     for law in all {
         run_law(law, &second, SMALL.least..=SMALL.most, 5, 2_000).expect("a right heap");
     }
@@ -315,7 +375,7 @@ fn an_empty_run_has_reached_nothing() {
     let pairs = Call::DESCRIPTIONS.iter().map(|call| call.refusals.len()).sum();
     assert_eq!(numbers, pairs, "pairs of a call and a refusal number");
     let seen = faults.iter().filter(|fault| fault.contains("never seen")).count();
-    assert_eq!(seen, 68, "situations and kinds of words");
+    assert_eq!(seen, 70, "situations and kinds of words");
 }
 
 /// The heads of a heap whose lengths fit.
@@ -940,11 +1000,21 @@ fn ignores_a_spare_bit(spare: SpareBit, call: &Call, lent: &mut Lent) -> Reply {
     reply
 }
 
-fn ignores_a_spare_bit_in_a_survey(spare: SpareBit, call: &Call, lent: &mut Lent) -> Reply {
-    match call {
-        Call::Survey => ignores_a_spare_bit(spare, call, lent),
-        _ => second(call, lent),
+/// In this call alone.
+fn ignoring_spare_bit_in(one: Call, spare: SpareBit, call: &Call, lent: &mut Lent) -> Reply {
+    if *call == one {
+        ignores_a_spare_bit(spare, call, lent)
+    } else {
+        second(call, lent)
     }
+}
+
+fn ignores_a_spare_bit_in_a_survey(spare: SpareBit, call: &Call, lent: &mut Lent) -> Reply {
+    ignoring_spare_bit_in(Call::Survey, spare, call, lent)
+}
+
+fn ignores_a_spare_bit_in_an_image(spare: SpareBit, call: &Call, lent: &mut Lent) -> Reply {
+    ignoring_spare_bit_in(Call::WriteImage, spare, call, lent)
 }
 
 fn clears_a_spare_bit(spare: SpareBit, call: &Call, lent: &mut Lent) -> Reply {
@@ -1234,6 +1304,267 @@ fn counts_collections_in_a_free_block(call: &Call, lent: &mut Lent) -> Reply {
             let byte = &mut lent[Pool][16 * *block as usize];
             *byte = byte.wrapping_add(1);
         }
+    }
+    reply
+}
+
+/// An image that is another file than the right one, in an output that is long enough for that file.
+fn image_by(call: &Call, lent: &mut Lent, file: impl Fn(&Lent) -> Vec<u8>) -> Reply {
+    let right = second(call, &mut lent.clone());
+    if *call != Call::WriteImage || !matches!(right.refusal, 0 | 10) {
+        return second(call, lent);
+    }
+    let file = file(lent);
+    match lent[Image].get_mut(..file.len()) {
+        Some(front) => {
+            front.copy_from_slice(&file);
+            Reply::accepted(call, &[file.len() as i64])
+        }
+        None => Reply::refused(call, Refusal::OutputTooShort.number()),
+    }
+}
+
+/// The same, with the right sections once they are changed so.
+fn image_of(call: &Call, lent: &mut Lent, change: impl Fn(&Lent, &mut [Section; 4])) -> Reply {
+    image_by(call, lent, |lent| {
+        let mut sections = lent.sections();
+        change(lent, &mut sections);
+        image::file(&sections)
+    })
+}
+
+/// A right heap: what the others differ from in one point.
+fn right_sections(call: &Call, lent: &mut Lent) -> Reply {
+    image_of(call, lent, |_, _| ())
+}
+
+fn counts_highest_byte_first(call: &Call, lent: &mut Lent) -> Reply {
+    image_of(call, lent, |_, sections| {
+        sections.iter_mut().for_each(|section| section.count = section.count.swap_bytes());
+    })
+}
+
+fn cuts_counts_to_a_byte(call: &Call, lent: &mut Lent) -> Reply {
+    image_of(call, lent, |_, sections| {
+        sections.iter_mut().for_each(|section| section.count %= 256);
+    })
+}
+
+/// In the place of items.
+fn counts_bytes(call: &Call, lent: &mut Lent) -> Reply {
+    image_of(call, lent, |_, sections| {
+        sections.iter_mut().for_each(|section| section.count = section.items.len() as u16);
+    })
+}
+
+fn counts_objects_for_blocks(call: &Call, lent: &mut Lent) -> Reply {
+    image_of(call, lent, |lent, [_, _, blocks, _]| blocks.count = lent.heads().len() as u16)
+}
+
+fn writes_the_base_highest_byte_first(call: &Call, lent: &mut Lent) -> Reply {
+    image_of(call, lent, |_, [base, ..]| base.items.reverse())
+}
+
+/// As they are lent, or t bytes of them.
+fn writes_the_planes(call: &Call, lent: &mut Lent) -> Reply {
+    image_of(call, lent, |lent, [_, table, ..]| {
+        table.items.copy_from_slice(&lent[Table][..lent.t as usize]);
+    })
+}
+
+/// To the length of the table that is lent, where t is odd.
+fn pads_the_table(call: &Call, lent: &mut Lent) -> Reply {
+    image_of(call, lent, |lent, [_, table, ..]| {
+        table.items.resize(lent[Table].len(), 0);
+        table.count = table.items.len() as u16;
+    })
+}
+
+fn has_the_first_block_in_the_highest_bits(call: &Call, lent: &mut Lent) -> Reply {
+    let turned =
+        |four: u8| [0, 2, 4, 6].iter().fold(0, |above, shift| 4 * above + (four >> shift & 3));
+    image_of(call, lent, |_, [_, table, ..]| {
+        table.items.iter_mut().for_each(|byte| *byte = turned(*byte));
+    })
+}
+
+fn swaps_the_bits_of_an_entry(call: &Call, lent: &mut Lent) -> Reply {
+    image_of(call, lent, |_, [_, table, ..]| {
+        table.items.iter_mut().for_each(|byte| *byte = (*byte & 0x55) << 1 | *byte >> 1 & 0x55);
+    })
+}
+
+fn writes_free_blocks(call: &Call, lent: &mut Lent) -> Reply {
+    image_of(call, lent, |lent, [_, _, blocks, _]| {
+        *blocks = Section { count: lent.blocks() as u16, items: lent[Pool].to_vec() };
+    })
+}
+
+fn writes_heads_alone(call: &Call, lent: &mut Lent) -> Reply {
+    image_of(call, lent, |lent, [_, _, blocks, _]| {
+        let heads = lent.used().filter(|block| lent.entry(*block) == HEAD);
+        blocks.items = heads.flat_map(|block| lent[Pool][bytes_of(block)].to_vec()).collect();
+        blocks.count = (blocks.items.len() / 16) as u16;
+    })
+}
+
+fn writes_blocks_falling(call: &Call, lent: &mut Lent) -> Reply {
+    image_of(call, lent, |_, [_, _, blocks, _]| {
+        blocks.items = blocks.items.chunks(16).rev().flatten().copied().collect();
+    })
+}
+
+fn swaps_blocks_and_roots(call: &Call, lent: &mut Lent) -> Reply {
+    image_of(call, lent, |_, sections| sections.swap(2, 3))
+}
+
+/// The word of the head's address, if the root leads to an object.
+fn head_of_root(heap: &ListHeap, root: u32) -> Option<u32> {
+    let object = heap.owner(heap.block_at(root)?)?;
+    Some((heap.base + 16 * heap.objects[object].start) as u32)
+}
+
+/// An image with other roots.
+fn image_with_roots(
+    call: &Call,
+    lent: &mut Lent,
+    roots_of: impl Fn(&ListHeap, &[u32]) -> Vec<u32>,
+) -> Reply {
+    image_of(call, lent, |lent, [.., roots]| {
+        let given = listheap::words_of(&roots.items);
+        let words = on_list(&mut lent.clone(), |heap| Ok(roots_of(heap, &given)));
+        let words = words.expect("a heap in order");
+        roots.count = words.len() as u16;
+        roots.items = words.into_iter().flat_map(u32::to_le_bytes).collect();
+    })
+}
+
+fn leads_roots_to_heads(call: &Call, lent: &mut Lent) -> Reply {
+    image_with_roots(call, lent, |heap, roots| {
+        roots.iter().map(|root| head_of_root(heap, *root).unwrap_or(*root)).collect()
+    })
+}
+
+fn drops_roots_that_lead_nowhere(call: &Call, lent: &mut Lent) -> Reply {
+    image_with_roots(call, lent, |heap, roots| {
+        roots.iter().copied().filter(|root| head_of_root(heap, *root).is_some()).collect()
+    })
+}
+
+/// Where there are none.
+fn ends_before_the_roots(call: &Call, lent: &mut Lent) -> Reply {
+    image_by(call, lent, |lent| {
+        let sections = lent.sections();
+        let [.., roots] = &sections;
+        image::file(if roots.count == 0 { &sections[..3] } else { &sections })
+    })
+}
+
+fn takes_an_output_a_byte_short(call: &Call, lent: &mut Lent) -> Reply {
+    let reply = second(call, lent);
+    if reply.refusal != 10 || lent[Image].len() + 1 != lent.image_bytes() {
+        return reply;
+    }
+    let image = image::file(&lent.sections());
+    lent[Image].copy_from_slice(&image[..image.len() - 1]);
+    Reply::accepted(call, &[image.len() as i64])
+}
+
+fn clears_the_output_behind_the_image(call: &Call, lent: &mut Lent) -> Reply {
+    let reply = second(call, lent);
+    if let (Call::WriteImage, 0) = (call, reply.refusal) {
+        lent[Image][reply.parts["length"] as usize..].fill(0);
+    }
+    reply
+}
+
+/// And then finds the output too short.
+fn writes_what_fits(call: &Call, lent: &mut Lent) -> Reply {
+    let reply = second(call, lent);
+    if reply.refusal == 10 {
+        let image = image::file(&lent.sections());
+        let fits = lent[Image].len();
+        lent[Image].copy_from_slice(&image[..fits]);
+    }
+    reply
+}
+
+fn answers_the_length_of_a_refused_image(call: &Call, lent: &mut Lent) -> Reply {
+    let mut reply = second(call, lent);
+    if reply.refusal == 10 {
+        reply.parts.insert("length", lent.image_bytes() as i64);
+    }
+    reply
+}
+
+fn answers_the_length_of_the_output(call: &Call, lent: &mut Lent) -> Reply {
+    let mut reply = second(call, lent);
+    if let (Call::WriteImage, 0) = (call, reply.refusal) {
+        reply.parts.insert("length", lent[Image].len() as i64);
+    }
+    reply
+}
+
+/// A right heap that refuses an image so where the test says it, in the place of these right answers.
+fn image_refused(
+    call: &Call,
+    lent: &mut Lent,
+    number: u32,
+    right: &[u32],
+    test: impl Fn(&Lent) -> bool,
+) -> Reply {
+    let refusal = second(call, &mut lent.clone()).refusal;
+    if *call == Call::WriteImage && right.contains(&refusal) && test(lent) {
+        return Reply::refused(call, number);
+    }
+    second(call, lent)
+}
+
+fn takes_no_longer_output(call: &Call, lent: &mut Lent) -> Reply {
+    image_refused(call, lent, 10, &[0], |lent| lent[Image].len() > lent.image_bytes())
+}
+
+fn tests_the_output_first(call: &Call, lent: &mut Lent) -> Reply {
+    image_refused(call, lent, 10, &[2, 3], |lent| lent[Image].len() < lent.image_bytes())
+}
+
+fn tests_the_roots_before_the_table(call: &Call, lent: &mut Lent) -> Reply {
+    image_refused(call, lent, 3, &[2], |lent| lent[Roots].len() > 4 * 4096)
+}
+
+fn takes_4095_roots_at_most(call: &Call, lent: &mut Lent) -> Reply {
+    image_refused(call, lent, 3, &[0, 10], |lent| lent[Roots].len() == 4 * 4096)
+}
+
+/// A right heap that is handed a part of the roots for an image.
+fn image_from_roots(call: &Call, lent: &mut Lent, bytes: usize) -> Reply {
+    let roots = lent[Roots].clone();
+    if *call == Call::WriteImage {
+        lent[Roots] = Guarded::new(&roots[..bytes]);
+    }
+    let reply = second(call, lent);
+    lent[Roots] = roots;
+    reply
+}
+
+/// And leaves the last ones out.
+fn takes_more_than_4096_roots(call: &Call, lent: &mut Lent) -> Reply {
+    match lent[Roots].len() {
+        length if length % 4 == 0 => image_from_roots(call, lent, length.min(4 * 4096)),
+        _ => second(call, lent),
+    }
+}
+
+fn takes_a_piece_of_a_root(call: &Call, lent: &mut Lent) -> Reply {
+    image_from_roots(call, lent, lent[Roots].len() / 4 * 4)
+}
+
+/// Of its first byte.
+fn keeps_bits_of_the_output(call: &Call, lent: &mut Lent) -> Reply {
+    let before = lent[Image].clone();
+    let reply = second(call, lent);
+    if let (Call::WriteImage, 0) = (call, reply.refusal) {
+        lent[Image][0] |= before[0];
     }
     reply
 }
