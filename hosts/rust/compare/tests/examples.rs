@@ -2,7 +2,7 @@
 //! Base 4,096 throughout, and eight blocks up to example 16. Decimal numbers spell the entries of a table,
 //! four to a number; beside them stand the bytes of its two planes.
 
-use compare::Buffer::{Pool, Stack, Table};
+use compare::Buffer::{Image, Pool, Roots, Stack, Table};
 use compare::{library, second, wrapper, Call, Guarded, Lent, Reply, Subject};
 
 const BASE: u64 = 4096;
@@ -60,6 +60,21 @@ impl Example<'_> {
         assert_eq!((self.subject)(&call, &mut self.lent), expected, "{call:?}");
         assert_eq!(self.lent.numbers(), numbers, "the entries after {call:?}");
         self
+    }
+
+    /// The image with these roots has these bytes, in an output that is longer, and nothing else changes.
+    fn has_image(&mut self, roots: &[u32], bytes: &[u8]) {
+        self.lent.set_roots(roots);
+        self.lent.set_output(bytes.len() + 5);
+        let before = self.lent.clone();
+        let expected = Reply::accepted(&Call::WriteImage, &[bytes.len() as i64]);
+        assert_eq!((self.subject)(&Call::WriteImage, &mut self.lent), expected);
+        let (image, behind) = self.lent[Image].split_at(bytes.len());
+        assert_eq!(image, bytes);
+        assert_eq!(behind, &before[Image][bytes.len()..], "the bytes behind the image");
+        for buffer in [Pool, Table, Roots] {
+            assert_eq!(self.lent[buffer][..], before[buffer][..], "the {buffer}");
+        }
     }
 
     fn refuses(&mut self, call: Call, number: u32) -> &mut Self {
@@ -263,5 +278,52 @@ fn example_19_a_free_run_that_is_not_aligned() {
         heap.gives(free(1), [-4], [1, 84]).planes([0xE1, 0x00]);
         heap.gives(Call::Survey, [4, 4, 4], [1, 84]).refuses(allocate(64), 9);
         heap.gives(allocate(48), [1, 3], [165, 84]).planes([0xE3, 0x0C]);
+    });
+}
+
+#[test]
+fn example_23_the_image_of_one_block() {
+    on_every_heap(|heap| {
+        let image = [
+            &[0x01, 0x00, 0x00, 0x10, 0x00, 0x00][..],
+            &[0x01, 0x00, 0x01],
+            &[0x01, 0x00],
+            &[0x00; 16],
+            &[0x01, 0x00, 0x00, 0x10, 0x00, 0x00],
+        ];
+        heap.from([1]).planes([0x01, 0x00]).has_image(&[4096], &image.concat());
+        heap.lent.set_output(32);
+        heap.refuses(Call::WriteImage, 10);
+    });
+}
+
+#[test]
+fn example_24_the_image_of_an_empty_heap() {
+    on_every_heap(|heap| {
+        let image = [
+            &[0x01, 0x00, 0x00, 0x10, 0x00, 0x00][..],
+            &[0x02, 0x00, 0x00, 0x00],
+            &[0x00, 0x00],
+            &[0x00, 0x00],
+        ];
+        heap.from([0, 0]).lent[Pool].fill(0x77);
+        heap.has_image(&[], &image.concat());
+    });
+}
+
+#[test]
+fn example_25_the_image_of_two_blocks_between_free_ones() {
+    on_every_heap(|heap| {
+        heap.from([0x24]).planes([0x02, 0x04]);
+        let pool: Vec<u8> = (0..64).collect();
+        heap.lent[Pool].copy_from_slice(&pool);
+        let image = [
+            &[0x01, 0x00, 0x00, 0x10, 0x00, 0x00][..],
+            &[0x01, 0x00, 0x24],
+            &[0x02, 0x00],
+            &pool[16..48],
+            &[0x02, 0x00, 0x20, 0x10, 0x00, 0x00, 0xFF, 0xFF, 0xFF, 0xFF],
+        ];
+        heap.has_image(&[4128, u32::MAX], &image.concat());
     });
 }
