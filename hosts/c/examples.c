@@ -1,6 +1,7 @@
 /*
  * The checked examples of the heap's rules through the C header: base 4,096, and 8 blocks up to example 16.
- * Beside each table stand the bytes of its two planes. The last examples are about the planes alone.
+ * Beside each table stand the bytes of its two planes. Examples 20 to 22 are about the planes alone, the last
+ * ones about images.
  *
  * Each runs once for each place of the lent buffers. Against a page that cannot be touched, any access past
  * that border ends the program, also one from inside the archive. In memory from malloc, valgrind sees each
@@ -38,7 +39,7 @@ static bool same(const char *what, long long got, long long expected)
 static enum { AT_FRONT, AT_END, FROM_MALLOC, PLACES } place;
 
 /* Each buffer has a page of its own. So many bytes before and after that page cannot be touched. */
-enum buffer { POOL, TABLE, ROOTS, STACK, BUFFERS };
+enum buffer { POOL, TABLE, ROOTS, STACK, IMAGE, BUFFERS };
 enum { PAGE = 4096, FENCE = 256 * PAGE };
 static uint8_t *pages[BUFFERS];
 static uint8_t *from_malloc[BUFFERS];
@@ -230,6 +231,33 @@ static bool collects(const uint32_t *root, size_t stack_entries, uint32_t kept, 
         && all_are("mark stack byte", stack, stack_len, 0);
 }
 
+/* Writes the image with these roots to an output of this length: the call is accepted if it is long enough
+ * for the image, which has these bytes. All other bytes of the output stay. */
+static bool writes_image(size_t output_len, const uint8_t *words, size_t roots_len, const uint8_t *bytes, size_t count)
+{
+    uint8_t *roots = lent(ROOTS, roots_len), *output = lent(IMAGE, output_len);
+    bool fits = count <= output_len;
+    size_t written = fits ? count : 0;
+    memcpy(roots, words, roots_len);
+    memset(output, 0xEE, output_len);
+    uint32_t length = RUBBISH;
+    uint32_t refusal = blockheap_write_image(HEAP, roots, roots_len, output, output_len, &length);
+    return same("refusal", refusal, fits ? BLOCKHEAP_OK : BLOCKHEAP_OUTPUT_TOO_SHORT)
+        && same("length", length, (long long)written) && bytes_are("image byte", output, bytes, written)
+        && all_are("byte behind the image", output + written, output_len - written, 0xEE);
+}
+
+/* In an output of every length up to one that is longer than the image. */
+static bool has_image(const uint8_t *words, size_t roots_len, const uint8_t *bytes, size_t count)
+{
+    for (size_t output_len = 0; output_len <= count + 2; output_len++)
+        if (!writes_image(output_len, words, roots_len, bytes, count)) {
+            printf("    (an output of %zu bytes)\n", output_len);
+            return false;
+        }
+    return true;
+}
+
 /* The heap of examples 9 to 11: word 0 of block 4 leads to block 0. */
 static bool from_linked(void)
 {
@@ -395,13 +423,15 @@ static bool example_19(void)
         && allocates(48, BLOCKHEAP_OK, 1, 3) && table_is(165, 84) && planes_are(0xe3, 0x0c);
 }
 
-/* Whether every call but init is refused so, and writes neither pool nor mark stack. */
+/* Whether every call but init is refused so, and writes neither pool, mark stack nor image. */
 static bool calls_refuse(uint32_t refusal)
 {
-    uint8_t *roots = lent(ROOTS, 0), *stack = lent(STACK, 4);
+    enum { OUTPUT = 300 };
+    uint8_t *roots = lent(ROOTS, 0), *stack = lent(STACK, 4), *image = lent(IMAGE, OUTPUT);
     uint32_t one, other, third;
     int32_t change;
     memset(stack, 0xEE, 4);
+    memset(image, 0xEE, OUTPUT);
     return same("allocate", blockheap_allocate(HEAP, 1, &one, &change), refusal)
         && same("free", blockheap_free(HEAP, 0, &change), refusal)
         && same("reallocate", blockheap_reallocate(HEAP, 0, 1, &one, &change), refusal)
@@ -409,7 +439,9 @@ static bool calls_refuse(uint32_t refusal)
         && same("survey", blockheap_survey(HEAP, &one, &other, &third), refusal)
         && same("load", blockheap_load(HEAP, 0, 0, &one), refusal)
         && same("store", blockheap_store(HEAP, 0, 0, 1), refusal)
-        && all_are("byte of the pool", pool, pool_len, 0) && all_are("mark stack byte", stack, 4, 0xEE);
+        && same("write image", blockheap_write_image(HEAP, roots, 0, image, OUTPUT, &one), refusal)
+        && all_are("byte of the pool", pool, pool_len, 0) && all_are("mark stack byte", stack, 4, 0xEE)
+        && all_are("image byte", image, OUTPUT, 0xEE);
 }
 
 /* A spare bit that is 1: every call but init refuses the table and leaves it as it was, and init clears it. */
@@ -458,6 +490,61 @@ static bool example_22(void)
         && frees(0, BLOCKHEAP_OK, -12) && surveys(0, 0, 12) && planes_are(0x00, 0x00, 0x00, 0x00);
 }
 
+static bool example_23(void)
+{
+    return from(1) && planes_are(0x01, 0x00)
+        && has_image(BYTES(0x00, 0x10, 0x00, 0x00),
+                     BYTES(0x01, 0x00, 0x00, 0x10, 0x00, 0x00,
+                           0x01, 0x00, 0x01,
+                           0x01, 0x00, 0, 0, 0, 0, 0, 0, 0, 0, 0, 0, 0, 0, 0, 0, 0, 0,
+                           0x01, 0x00, 0x00, 0x10, 0x00, 0x00))
+        && table_is(1) && all_are("byte of the pool", pool, pool_len, 0);
+}
+
+static bool example_24(void)
+{
+    bool made = from(0, 0);
+    memset(pool, 0x77, pool_len);
+    return made && planes_are(0x00, 0x00)
+        && has_image(pool, 0,
+                     BYTES(0x01, 0x00, 0x00, 0x10, 0x00, 0x00,
+                           0x02, 0x00, 0x00, 0x00,
+                           0x00, 0x00,
+                           0x00, 0x00));
+}
+
+static bool example_25(void)
+{
+    bool made = from(0x24);
+    for (size_t at = 0; at < pool_len; at++)
+        pool[at] = (uint8_t)at;
+    return made && planes_are(0x02, 0x04)
+        && has_image(BYTES(0x20, 0x10, 0x00, 0x00, 0xff, 0xff, 0xff, 0xff),
+                     BYTES(0x01, 0x00, 0x00, 0x10, 0x00, 0x00,
+                           0x01, 0x00, 0x24,
+                           0x02, 0x00, 16, 17, 18, 19, 20, 21, 22, 23, 24, 25, 26, 27, 28, 29, 30, 31,
+                           32, 33, 34, 35, 36, 37, 38, 39, 40, 41, 42, 43, 44, 45, 46, 47,
+                           0x02, 0x00, 0x20, 0x10, 0x00, 0x00, 0xff, 0xff, 0xff, 0xff));
+}
+
+/* The image with roots of so many bytes, in an output of no bytes, is refused so. */
+static bool refuses_image(size_t roots_len, uint32_t refusal)
+{
+    uint8_t *roots = lent(ROOTS, roots_len), *output = lent(IMAGE, 0);
+    uint32_t length = RUBBISH;
+    memset(roots, 0, roots_len);
+    return same("refusal", blockheap_write_image(HEAP, roots, roots_len, output, 0, &length), refusal)
+        && same("length", length, 0);
+}
+
+static bool example_26(void)
+{
+    return from(1) && refuses_image(4, BLOCKHEAP_OUTPUT_TOO_SHORT)
+        && from(3) && refuses_image(4, BLOCKHEAP_BAD_TABLE)
+        && from(3) && refuses_image(5, BLOCKHEAP_BAD_SHAPE)
+        && from(1) && refuses_image(3, BLOCKHEAP_BAD_SHAPE);
+}
+
 static const struct {
     const char *title;
     bool (*holds)(void);
@@ -484,6 +571,10 @@ static const struct {
     {"spare bits", example_20},
     {"a t and lengths that do not fit", example_21},
     {"the last blocks where t is odd", example_22},
+    {"the image of one block", example_23},
+    {"the image of an empty heap", example_24},
+    {"the image of two blocks among free ones", example_25},
+    {"the order of an image's refusals", example_26},
 };
 
 static bool holds_everywhere(bool (*holds)(void))

@@ -1,5 +1,6 @@
 /*
- * What bh.h adds to the calls, at its edges: makers, blocks and addresses, words, null pointers, refusals.
+ * What bh.h adds to the calls, at its edges: makers, blocks and addresses, words, null pointers, lengths of
+ * images, refusals.
  */
 #include <stdbool.h>
 #include <stdio.h>
@@ -28,6 +29,11 @@ static void check_lengths(void)
               && BLOCKHEAP_TABLE_BYTES_OF_T(BLOCKHEAP_MAX_T) == BLOCKHEAP_MAX_TABLE_BYTES);
     check("the pool's length gives the table's",
           BLOCKHEAP_TABLE_BYTES(64) == 2 && BLOCKHEAP_TABLE_BYTES(128) == 2 && BLOCKHEAP_TABLE_BYTES(192) == 4);
+    check("an image has counts, a base, a table, blocks and roots",
+          BLOCKHEAP_IMAGE_BYTES(1, 1, 1) == 33 && BLOCKHEAP_IMAGE_BYTES(3, 0, 0) == 15);
+    check("the longest image is that of a full heap",
+          BLOCKHEAP_FULL_IMAGE_BYTES(1, 2) == 85
+              && BLOCKHEAP_FULL_IMAGE_BYTES(BLOCKHEAP_MAX_T, BLOCKHEAP_MAX_ROOTS) == BLOCKHEAP_MAX_IMAGE_BYTES);
 }
 
 /* Whether a maker gave the heap this t and the lengths that go with it, and the library accepts it. */
@@ -162,6 +168,27 @@ static void check_lists(void)
           !bh_collect(&heap, NULL, 0, NULL, 0, &kept, NULL, NULL) && kept == 0);
 }
 
+/* Of the heap that check_lists leaves, once there is an object of two blocks. */
+static void check_images(void)
+{
+    static uint8_t roots[BLOCKHEAP_LIST_BYTES(1)], image[BLOCKHEAP_FULL_IMAGE_BYTES(2, 1)];
+    struct blockheap misplaced = heap;
+    uint32_t block, length = 99;
+    check("an image is measured before it is written",
+          !bh_allocate(&heap, 17, &block, NULL) && bh_image_bytes(&heap, 1) == BLOCKHEAP_IMAGE_BYTES(2, 2, 1));
+    bh_put_word(roots, 0, bh_address(&heap, block));
+    check("it has that length", !bh_write_image(&heap, roots, sizeof roots, image, sizeof image, &length)
+                                    && length == bh_image_bytes(&heap, 1));
+    check("it begins with the base and ends with the roots",
+          bh_get_word(image + 2, 0) == BASE && memcmp(image + length - sizeof roots, roots, sizeof roots) == 0);
+    check("null pointers are no roots, and a length that is not wanted",
+          !bh_write_image(&heap, NULL, 0, image, bh_image_bytes(&heap, 0), NULL));
+    check("a null pointer is an output of no bytes",
+          bh_write_image(&heap, NULL, 0, NULL, 0, &length) == BLOCKHEAP_OUTPUT_TOO_SHORT && length == 0);
+    misplaced.base++;
+    check("a heap that is refused has no image", bh_image_bytes(&misplaced, 0) == 0);
+}
+
 static bool has_name_and_text(uint32_t refusal)
 {
     return strcmp(bh_refusal_name(refusal), "UNKNOWN") != 0
@@ -171,10 +198,10 @@ static bool has_name_and_text(uint32_t refusal)
 static void check_refusals(void)
 {
     bool all = true;
-    for (uint32_t refusal = BLOCKHEAP_OK; refusal <= BLOCKHEAP_NO_ROOM; refusal++)
+    for (uint32_t refusal = BLOCKHEAP_OK; refusal <= BLOCKHEAP_OUTPUT_TOO_SHORT; refusal++)
         all = all && has_name_and_text(refusal);
     check("every refusal has a name and a sentence", all);
-    check("any other number has a sentence too", strlen(bh_refusal_text(BLOCKHEAP_NO_ROOM + 1)) > 0);
+    check("any other number has a sentence too", strlen(bh_refusal_text(BLOCKHEAP_OUTPUT_TOO_SHORT + 1)) > 0);
 }
 
 static void check_version(void)
@@ -195,6 +222,7 @@ int main(void)
     check_entries();
     check_objects();
     check_lists();
+    check_images();
     check_refusals();
     check_version();
     return failed != 0;
