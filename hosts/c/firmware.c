@@ -7,7 +7,8 @@
 #include "refusals.h" /* must, say_refused */
 
 /* A static pool of 1,024 bytes with its table: 64 blocks. Block 0 has the address 0x20000000. */
-BH_DEFINE(heap, 0x20000000, 1024);
+enum { POOL_BYTES = 1024 };
+BH_DEFINE(heap, 0x20000000, POOL_BYTES);
 
 /* Frees every object that no chain of addresses leads to from the gauge. */
 static void collect(uint32_t gauge)
@@ -78,6 +79,17 @@ static void survey(void)
            (unsigned)bh_blocks(&heap), (unsigned)objects, (unsigned)longest);
 }
 
+/* The whole heap as a file for whoever asks for it, with the gauge as its root. */
+static void download(uint32_t gauge)
+{
+    static uint8_t image[BLOCKHEAP_FULL_IMAGE_BYTES(BLOCKHEAP_T_OF_POOL(POOL_BYTES), 1)];
+    uint8_t roots[BLOCKHEAP_LIST_BYTES(1)];
+    uint32_t length;
+    bh_put_word(roots, 0, bh_address(&heap, gauge));
+    must(bh_write_image(&heap, roots, sizeof roots, image, sizeof image, &length));
+    printf("download: an image of %u bytes\n", (unsigned)length);
+}
+
 int main(void)
 {
     uint32_t gauge, value;
@@ -96,5 +108,6 @@ int main(void)
     say_refused("free inside the readings", bh_free(&heap, readings_of(gauge) + 1, NULL));
     must(bh_load(&heap, readings_of(gauge), 3, &value));
     printf("reading 3 is still %u\n", (unsigned)value);
+    download(gauge);
     return 0;
 }
