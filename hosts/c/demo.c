@@ -2,8 +2,10 @@
  * A small rain logger on the block heap.
  *
  * The gauge tips while it rains, and each tip is noted in a rain buffer that grows by reallocate. A script
- * runs at every tip and leaves garbage behind. When there is no room, the logger collects and asks again.
+ * runs at every tip and leaves garbage behind. When there is no room, the logger collects and asks again. At
+ * the end it gives its heap away as an image, and writes it to the file that its argument names, if any.
  */
+#include <stdbool.h>
 #include <stdio.h>
 
 #include "bh.h"
@@ -147,11 +149,11 @@ static void start_logger(void)
 }
 
 /* Whether every tip is in the buffer that the station's record leads to. */
-static int buffer_is_right(void)
+static bool buffer_is_right(void)
 {
     uint32_t found, time;
     must(bh_load(&heap, station, STATION_BUFFER, &found));
-    int right = found == bh_address(&heap, buffer);
+    bool right = found == bh_address(&heap, buffer);
     for (uint32_t number = 0; number < tips(); number++) {
         must(bh_load(&heap, buffer, FIRST_TIP + number, &time));
         right = right && time == tip_time(number);
@@ -159,7 +161,53 @@ static int buffer_is_right(void)
     return right;
 }
 
-int main(void)
+/* Shows a section of an image, and answers where the next one begins. */
+static const uint8_t *show_section(const char *name, size_t item_bytes, const uint8_t *section)
+{
+    enum { SHOWN = 16 };
+    const uint8_t *items = section + 2;
+    unsigned count = section[0] | (unsigned)section[1] << 8;
+    size_t bytes = item_bytes * count;
+    printf("  %-8s %5u ", name, count);
+    for (size_t at = 0; at < bytes && at < SHOWN; at++)
+        printf(" %02x", items[at]);
+    puts(bytes > SHOWN ? " ..." : "");
+    return items + bytes;
+}
+
+static void show_image(const uint8_t *image, size_t length)
+{
+    printf("  an image of %zu bytes\n  section  count  first bytes\n", length);
+    const uint8_t *section = show_section("base", BLOCKHEAP_WORD_BYTES, image);
+    section = show_section("table", 1, section);
+    section = show_section("blocks", BLOCKHEAP_BLOCK_BYTES, section);
+    show_section("roots", BLOCKHEAP_WORD_BYTES, section);
+}
+
+static bool save(const char *path, const uint8_t *bytes, size_t count)
+{
+    FILE *file = fopen(path, "wb");
+    bool written = file && fwrite(bytes, 1, count, file) == count;
+    bool saved = file && fclose(file) == 0 && written;
+    printf(saved ? "  it is in %s\n" : "  it could not be written to %s\n", path);
+    return saved;
+}
+
+/* Writes the image, with the station's record as its root, and saves it if there is a path. */
+static bool download(const char *path)
+{
+    static uint8_t image[BLOCKHEAP_FULL_IMAGE_BYTES(BLOCKHEAP_T_OF_POOL(POOL_BYTES), 1)];
+    uint8_t roots[BLOCKHEAP_LIST_BYTES(1)];
+    uint32_t length;
+    bh_put_word(roots, 0, bh_address(&heap, station));
+    must(bh_write_image(&heap, roots, sizeof roots, image, sizeof image, &length));
+    show_image(image, length);
+    bool saved = !path || save(path, image, length);
+    putchar('\n');
+    return saved;
+}
+
+int main(int argc, char **argv)
 {
     printf("A rain logger on a pool of %d bytes: %u blocks from address 0x%08x.\n", POOL_BYTES,
            (unsigned)bh_blocks(&heap), (unsigned)BASE);
@@ -200,9 +248,12 @@ int main(void)
     puts("  the script ends, and nothing leads to its buffer");
     collect(station);
 
+    puts("10. A member downloads the heap as a file, with the station's record as its root.");
+    bool downloaded = download(argc > 1 ? argv[1] : NULL);
+
     uint32_t count = tips();
-    int right = buffer_is_right();
+    bool right = buffer_is_right();
     printf("%u tips, %u.%u mm of rain: %s\n", (unsigned)count, (unsigned)(count / 5),
            (unsigned)(count % 5 * 2), right ? "every tip is in the buffer." : "THE BUFFER IS WRONG.");
-    return !right;
+    return !right || !downloaded;
 }
