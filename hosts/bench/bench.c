@@ -24,6 +24,8 @@ static uint8_t pool[BLOCKHEAP_MAX_POOL_BYTES];
 static uint8_t table[BLOCKHEAP_MAX_TABLE_BYTES], prepared_table[BLOCKHEAP_MAX_TABLE_BYTES];
 static uint8_t roots[GRAPH_ROOTS * BLOCKHEAP_WORD_BYTES];
 static uint8_t stack[BLOCKHEAP_MAX_STACK_ENTRIES * BLOCKHEAP_WORD_BYTES];
+static uint8_t image[BLOCKHEAP_MAX_IMAGE_BYTES], copy_of_image[BLOCKHEAP_MAX_IMAGE_BYTES];
+static uint32_t image_length;
 static uint64_t t;
 static size_t blocks, roots_len;
 
@@ -293,6 +295,45 @@ static void collect(void)
     add((uint32_t)change);
 }
 
+static void all_blocks_used(void)
+{
+    only_heads();
+    set_random_roots();
+}
+
+static void every_second_block_used(void)
+{
+    fill_with_holes(1, 1, 2);
+    set_random_roots();
+}
+
+static void write_image(void)
+{
+    must(blockheap_write_image(HEAP, roots, roots_len, image, sizeof image, &image_length));
+    add(image_length);
+    add(image[random_below(image_length)]);
+}
+
+static void image_of_all_blocks(void)
+{
+    all_blocks_used();
+    write_image();
+}
+
+static void copy_image(void)
+{
+    memcpy(copy_of_image, image, image_length);
+    add(copy_of_image[random_below(image_length)]);
+}
+
+/* Nothing is done but to check the heap. */
+static void check_table(void)
+{
+    uint32_t object;
+    int32_t change;
+    add(blockheap_allocate(HEAP, 0, &object, &change));
+}
+
 static const struct work {
     const char *name, *about;
     void (*prepare)(void);
@@ -322,6 +363,14 @@ static const struct work {
      words_to_five_heads, collect},
     {"collect, words to five tails", "the same with their last blocks: the worst back scans that are known",
      words_to_five_last_blocks, collect},
+    {"image, all blocks used", "write the image of a heap with an object in each block and 64 roots", all_blocks_used,
+     write_image},
+    {"image, every second block", "the same with an object in every second block", every_second_block_used,
+     write_image},
+    {"copy of an image", "memcpy of the image with all blocks used, by this program and not by the library",
+     image_of_all_blocks, copy_image},
+    {"check of the table", "allocate 0 bytes in the same heap, which is refused once its table is checked",
+     all_blocks_used, check_table},
 };
 enum { WORKS = sizeof works / sizeof works[0] };
 

@@ -319,6 +319,63 @@ uint32_t blockheap_collect(uint64_t base, uint64_t t, const uint8_t *pool, size_
     return BLOCKHEAP_OK;
 }
 
+static size_t count_used(const uint8_t *table, size_t blocks)
+{
+    size_t used = 0;
+    for (size_t block = 0; block < blocks; block++)
+        used += entry_at(table, block) != BLOCKHEAP_FREE;
+    return used;
+}
+
+/* Writes a section's count, or its bytes, and answers what follows. */
+static uint8_t *put_count(uint8_t *at, size_t count)
+{
+    at[0] = (uint8_t)count;
+    at[1] = (uint8_t)(count >> 8);
+    return at + 2;
+}
+
+static uint8_t *put_bytes(uint8_t *at, const uint8_t *bytes, size_t count)
+{
+    memcpy(at, bytes, count);
+    return at + count;
+}
+
+static uint8_t *put_used_blocks(uint8_t *at, const uint8_t *pool, const uint8_t *table, size_t blocks)
+{
+    for (size_t block = 0; block < blocks; block++)
+        if (entry_at(table, block) != BLOCKHEAP_FREE)
+            at = put_bytes(at, pool + BLOCKHEAP_BLOCK_BYTES * block, BLOCKHEAP_BLOCK_BYTES);
+    return at;
+}
+
+uint32_t blockheap_write_image(uint64_t base, uint64_t t, const uint8_t *pool, size_t pool_len,
+                               const uint8_t *table, size_t table_len, const uint8_t *roots, size_t roots_len,
+                               uint8_t *image, size_t image_len, uint32_t *length)
+{
+    *length = 0;
+    if (roots_len % BLOCKHEAP_WORD_BYTES != 0)
+        return BLOCKHEAP_BAD_SHAPE;
+    uint32_t refusal = check_heap(base, t, pool_len, table, table_len);
+    if (refusal)
+        return refusal;
+    size_t count = roots_len / BLOCKHEAP_WORD_BYTES, used = count_used(table, 4 * t);
+    if (count > BLOCKHEAP_MAX_ROOTS)
+        return BLOCKHEAP_TOO_MANY_ROOTS;
+    if (image_len < BLOCKHEAP_IMAGE_BYTES(t, used, count))
+        return BLOCKHEAP_OUTPUT_TOO_SHORT;
+    uint8_t *at = put_count(image, 1);
+    set_word(at, (uint32_t)base);
+    at = put_count(at + BLOCKHEAP_WORD_BYTES, t);
+    at = put_bytes(at, table, t);
+    at = put_count(at, used);
+    at = put_used_blocks(at, pool, table, 4 * t);
+    at = put_count(at, count);
+    at = put_bytes(at, roots, roots_len);
+    *length = (uint32_t)(at - image);
+    return BLOCKHEAP_OK;
+}
+
 uint32_t blockheap_survey(uint64_t base, uint64_t t, const uint8_t *pool, size_t pool_len,
                           const uint8_t *table, size_t table_len, uint32_t *used, uint32_t *objects,
                           uint32_t *longest)
