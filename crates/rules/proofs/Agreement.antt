@@ -16,7 +16,7 @@ use Rattle.rules.specs.Memory.{Memory, memory, heapIn, Sound, Result, tu
 use Rattle.rules.specs.Planes.{planeBytes, entriesIn, planesOf, planes}
 use Rattle.rules.specs.Agreement.{inPlanes, resultInPlanes, CallInPlanes, RunInPlanes, withEntry, HoldSame, WritingAgrees, CallsAlike, RunsAlike, FormsAgree}
 use Rattle.rules.proofs.Memory.{Written, kept-by, after-written, follows-sound, sound-next, packed-faithful, packed-sound, table-fits}
-use Rattle.rules.proofs.Sizes.{small-set}
+use Rattle.rules.proofs.Lists.{bounded-set}
 use Rattle.rules.proofs.Entries.{length-entriesOf, entriesOf-lt, entriesOf-tableOf}
 use Rattle.rules.proofs.Planes.{length-entriesIn, length-planesOf, read-planes, planes-clean, planes-faithful}
 
@@ -28,7 +28,7 @@ written f faithful m k e s small =
     let fits = table-fits f m (s .fits) in
     let long : length es ≡ length (f .read (m .table)) = length-set (f .read (m .table)) k e in (
       record { fits = faithful .write-fits (m .table) es fits long; clean = faithful .write-clean (m .table) es fits long },
-      faithful .read-write (m .table) es fits long (small-set (f .read (m .table)) k e (faithful .small (m .table)) small),
+      faithful .read-write (m .table) es fits long (bounded-set (f .read (m .table)) k e (faithful .small (m .table)) small),
     )
 
 module _ (f g : Form) (faithful : Faithful f) (faithful′ : Faithful g) where

@@ -6,18 +6,17 @@ use mathlib.Core.Bool.{Bool, true, false, not}
 use mathlib.Core.List.{List, [], _∷_, _++_, append-assoc}
 use Prim.Native.Nat.{ℕ, zero, suc, _+_, _*_, _/_, _%_, _≤_, _<_}
 use native.Mathlib.Omega.{arith}
-use lib.ListN.{length, getD, take, drop, length-append, length-take, length-drop, List·getD-append}
-use lib.Seq.{ext-getD, getD-take, getD-drop, length-take-le, getD-append-add}
+use lib.ListN.{length, getD, take, drop, replicate, length-append, length-take, length-drop, List·getD-append}
+use lib.Seq.{ext-getD, getD-take, getD-drop, length-take-le, getD-append-add, drop-drop, take-add}
 use borrow.Author.Tests.{ne-eqb, eqb-false}
 use Rattle.rules.specs.Tests.{pick, count}
 use Rattle.rules.specs.Words.{bytesOf, twoBytesOf}
 use Rattle.rules.specs.Entries.{FREE, tableOf}
-use Rattle.rules.specs.Tables.{entryAt, isFree, isUsed, used}
+use Rattle.rules.specs.Tables.{entryAt, isFree, used}
 use Rattle.rules.specs.Outcomes.{Heap}
 use Rattle.rules.specs.Images.{section, sections, blockBytes, usedFrom, imageOf}
 use Rattle.rules.proofs.Words.{length-bytesOf}
 use Rattle.rules.proofs.Entries.{length-tableOf}
-use Rattle.rules.proofs.Lists.{one, count-cons}
 
 -- ---- the bytes of the used blocks
 
@@ -124,21 +123,39 @@ used-append pool k (e ∷ es) fs =
     let next : suc k + length es ≡ k + suc (length es) = omega arith in
     rw (used-append pool (suc k) es fs, next) (sym (append-assoc (pick (isFree e) [] (blockBytes pool k)) (usedFrom pool (suc k) es) (usedFrom pool (k + suc (length es)) fs)))
 
+-- n FREE blocks have none
+pub used-gap : (pool : List ℕ) (k n : ℕ) (es : List ℕ) → usedFrom pool k (replicate n FREE ++ es) ≡ usedFrom pool (k + n) es
+unfolding usedFrom
+used-gap pool k zero es = let here : k + 0 ≡ k = omega arith in rw here
+used-gap pool k (suc n) es = let next : k + suc n ≡ suc k + n = omega arith in rw next (used-gap pool (suc k) n es)
+
+-- those of blocks of which none is FREE are one part of the pool
+pub used-run : (pool : List ℕ) (k : ℕ) (es : List ℕ) → ((i : ℕ) → i < length es → entryAt es i ≢ FREE) → usedFrom pool k es ≡ take (16 * length es) (drop (16 * k) pool)
+unfolding usedFrom blockBytes
+used-run pool k [] all = refl
+used-run pool k (e ∷ es) all =
+    let next : 16 * suc k ≡ 16 * k + 16 = omega arith in
+    let more : 16 * suc (length es) ≡ 16 + 16 * length es = omega arith in
+    rw (ne-eqb e FREE (all 0 (omega arith)), used-run pool (suc k) es (λ i h. all (suc i) (omega arith)), next, ← drop-drop 16 (16 * k) pool, more)
+    (sym (take-add 16 (16 * length es) (drop (16 * k) pool)))
+
 -- ---- the length of an image
 
 pub length-section : (n : ℕ) (body : List ℕ) → length (section n body) ≡ 2 + length body
 unfolding section twoBytesOf
 length-section n body = omega arith
 
+pub length-sections : (base : ℕ) (es blocks roots : List ℕ) → length (sections base es blocks roots) ≡ 12 + length es / 4 + length blocks + length roots
+unfolding sections
+length-sections base es blocks roots =
+    let e : length es / 4 ≡ length (tableOf es) = sym (length-tableOf es) in
+    simp (length-append, length-section) (omega (arith, length-bytesOf base, e))
+
 pub length-image : (base : ℕ) (h : Heap) (roots : List ℕ) → length (h .pool) ≡ 16 * length (h .entries)
     → length (imageOf base h roots) ≡ 12 + length (h .entries) / 4 + 16 * used (h .entries) + length roots
-unfolding imageOf sections
+unfolding imageOf
 length-image base h roots long =
-    let e : length es / 4 ≡ length (tableOf es) = sym (length-tableOf es) in
-    simp (length-append, length-section) (omega (arith, length-bytesOf base, e, length-used (h .pool) 0 es (omega arith)))
-  where
-    es : List ℕ
-    es = h .entries
+    length-sections base (h .entries) (usedFrom (h .pool) 0 (h .entries)) roots ∙ omega (arith, length-used (h .pool) 0 (h .entries) (omega arith))
 
 -- ---- where its bytes lie
 

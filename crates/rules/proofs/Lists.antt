@@ -1,4 +1,4 @@
--- Laws of lists: a run of stores, a count, how many at the front pass a test, a table of values.
+-- Laws of lists: a run of stores, a part of a list, elements below a bound, a count, how many at the front pass a test, a table of values.
 -- Assumes nothing.
 use mathlib.Core.Path.{_≡_, refl, sym, ap, _∙_}
 use mathlib.Core.Bool.{Bool, true, false}
@@ -6,8 +6,8 @@ use mathlib.Core.List.{List, [], _∷_, _++_}
 use Prim.Native.Nat.{ℕ, zero, suc, _+_, _≤_, _<_}
 use native.Mathlib.Decide.{ℕ-discrete, decLt}
 use native.Mathlib.Omega.{arith}
-use lib.ListN.{length, getD, set, replicate, length-set}
-use lib.Seq.{sets, getD-set-same, getD-set-other}
+use lib.ListN.{length, getD, set, take, drop, replicate, length-set}
+use lib.Seq.{sets, getD-set-same, getD-set-other, set-out, drop-cons, getD-drop}
 use Rattle.rules.specs.Tests.{pick, count, leading, tabulate}
 
 -- ---- a run of stores
@@ -62,6 +62,58 @@ sets-snoc l at vs v = sets-append l at vs (v ∷ [])
 pub replicate-snoc : (n v : ℕ) → replicate (suc n) v ≡ replicate n v ++ (v ∷ [])
 replicate-snoc zero v = refl
 replicate-snoc (suc n) v = ap (λ (l : List ℕ). v ∷ l) (replicate-snoc n v)
+
+-- ---- a part of a list
+
+-- the elements from a on, of which the first are given
+pub drop-part : (xs : List ℕ) (a : ℕ) (vs : List ℕ) (d : ℕ) → a + length vs ≤ length xs → ((i : ℕ) → i < length vs → getD xs (a + i) d ≡ getD vs i d)
+    → drop a xs ≡ vs ++ drop (a + length vs) xs
+drop-part xs a [] d room same = let e : a + 0 ≡ a = omega arith in rw e
+drop-part xs a (v ∷ vs) d room same =
+    let e : a + 0 ≡ a = omega arith in
+    let f : a + suc (length vs) ≡ suc a + length vs = omega arith in
+    let first : getD xs a d ≡ v = rw e at (same 0 (omega arith)) in
+    let rest = drop-part xs (suc a) vs d (omega arith) (λ i h. let g : suc a + i ≡ a + suc i = omega arith in rw g (same (suc i) (omega arith))) in
+    rw (drop-cons xs a d (omega arith), first, rest, f)
+
+-- ---- elements below a bound
+
+-- every element is below n
+abbrev pub Bounded : ℕ → List ℕ → Type 0
+Bounded n xs = (i : ℕ) → getD xs i 0 < n
+
+-- stores and parts of such lists are so too
+module _ {n : ℕ} where
+  pub bounded-set : (xs : List ℕ) (k v : ℕ) → Bounded n xs → v < n → Bounded n (set xs k v)
+  bounded-set xs k v b h i = go (ℕ-discrete i k) (decLt k (length xs))
+    where
+      go : Dec (i ≡ k) → Dec (k < length xs) → getD (set xs k v) i 0 < n
+      go (yes q) (yes l) = rw (q, getD-set-same xs k v 0 l) h
+      go (yes q) (no l) = rw (set-out xs k v (omega arith)) (b i)
+      go (no q) _ = rw (getD-set-other xs k i v 0 q) (b i)
+
+  pub bounded-sets : (xs : List ℕ) (at : ℕ) (vs : List ℕ) → Bounded n xs → Bounded n vs → Bounded n (sets xs at vs)
+  bounded-sets xs at [] b h = b
+  bounded-sets xs at (v ∷ vs) b h = bounded-sets (set xs at v) (suc at) vs (bounded-set xs at v b (h 0)) (λ i. h (suc i))
+
+  pub bounded-replicate : (m v : ℕ) → v < n → Bounded n (replicate m v)
+  bounded-replicate zero v h i = omega arith
+  bounded-replicate (suc m) v h zero = h
+  bounded-replicate (suc m) v h (suc i) = bounded-replicate m v h i
+
+  pub bounded-append : (xs ys : List ℕ) → Bounded n xs → Bounded n ys → Bounded n (xs ++ ys)
+  bounded-append [] ys b c i = c i
+  bounded-append (x ∷ xs) ys b c zero = b 0
+  bounded-append (x ∷ xs) ys b c (suc i) = bounded-append xs ys (λ j. b (suc j)) c i
+
+  pub bounded-take : (m : ℕ) (xs : List ℕ) → Bounded n xs → Bounded n (take m xs)
+  bounded-take zero xs b i = omega (arith, b 0)
+  bounded-take (suc m) [] b i = b i
+  bounded-take (suc m) (x ∷ xs) b zero = b 0
+  bounded-take (suc m) (x ∷ xs) b (suc i) = bounded-take m xs (λ j. b (suc j)) i
+
+  pub bounded-drop : (m : ℕ) (xs : List ℕ) → Bounded n xs → Bounded n (drop m xs)
+  bounded-drop m xs b i = rw (getD-drop m xs i 0) (b (m + i))
 
 -- ---- how many elements pass a test
 

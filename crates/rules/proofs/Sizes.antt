@@ -1,23 +1,25 @@
--- What every call keeps: the number of entries and of bytes, and that two bits hold each entry.
+-- What every call keeps: the number of entries and of bytes, that two bits hold each entry, and that the pool's elements are bytes.
 -- Assumes nothing.
 use mathlib.Core.Path.{_≡_, refl, _∙_}
 use mathlib.Core.Bool.{Bool, true, false}
-use mathlib.Core.List.{List, [], _∷_}
+use mathlib.Core.List.{List, [], _∷_, _++_}
 use Prim.Native.Nat.{ℕ, zero, suc, _+_, _*_, _-_, _<_}
 use native.Mathlib.Omega.{arith}
-use native.Mathlib.Decide.{ℕ-discrete, decLt}
 use lib.Dec.{eqb}
-use lib.ListN.{length, set, replicate, length-set, length-replicate}
-use lib.Seq.{sets, length-sets, getD-set-same, getD-set-other, set-out}
+use lib.ListN.{length, take, drop, replicate, length-set, length-replicate}
+use lib.Seq.{sets, length-sets}
 use Rattle.rules.specs.Tests.{pick}
 use Rattle.rules.specs.Entries.{FREE, HEAD, TAIL, MARK}
-use Rattle.rules.specs.Tables.{entryAt, placed, released, extended}
+use Rattle.rules.specs.Words.{bytesOf, withWord}
+use Rattle.rules.specs.Tables.{placed, released, extended}
 use Rattle.rules.specs.Forms.{Small}
-use Rattle.rules.specs.Outcomes.{Heap, Answer, Outcome, onlyRefusal, leavesWith, unlessRefused}
+use Rattle.rules.specs.Outcomes.{Heap, Answer, Outcome, onlyRefusal, leavesWith, unlessRefused, clearedBlocks}
+use Rattle.rules.specs.Meaning.{AllBytes}
 use Rattle.rules.specs.Marking.{Context, State, state, walk, trace, markRoot, markRoots, passBlock, pass, markAll, sweptEntry, freeingAfter, sweepFrom, sweep}
 use Rattle.rules.specs.Calls.{init, taken, placing, allocate, freed, free, Way, stay, shrink, grow, move, noWay, shrunk, grown, moved, along, reallocate, collecting, collect, survey, load, store, writeImage}
 use Rattle.rules.specs.Runs.{Call, Init, Allocate, Free, Reallocate, Collect, Survey, Load, Store, WriteImage, step}
-use Rattle.rules.proofs.Words.{length-withWord}
+use Rattle.rules.proofs.Lists.{bounded-sets, bounded-replicate, bounded-append, bounded-take, bounded-drop}
+use Rattle.rules.proofs.Words.{bytesOf-lt, length-withWord}
 use Rattle.rules.proofs.Pools.{cleared-length, moved-length}
 use Rattle.rules.proofs.Marking.{Rooted, idle, takes, rooted, Passed, skips, walks, passed, drain-keeps, pass-keeps, rescan-keeps, Sane, sane-start, sane-pop, sane-walk, sweep-length}
 
@@ -57,23 +59,6 @@ marking-length c ws es = rescan-keeps c (Sane c (length es)) sane-pass _ 0 (sane
 
 -- ---- entries of two bits
 
-pub small-set : (es : List ℕ) (k v : ℕ) → Small es → v < 4 → Small (set es k v)
-small-set es k v s h i = go (ℕ-discrete i k) (decLt k (length es))
-  where
-    go : Dec (i ≡ k) → Dec (k < length es) → entryAt (set es k v) i < 4
-    go (yes q) (yes l) = rw (q, getD-set-same es k v FREE l) h
-    go (yes q) (no l) = rw (set-out es k v (omega arith)) (s i)
-    go (no q) _ = rw (getD-set-other es k i v FREE q) (s i)
-
-small-sets : (es : List ℕ) (at : ℕ) (vs : List ℕ) → Small es → Small vs → Small (sets es at vs)
-small-sets es at [] s h = s
-small-sets es at (v ∷ vs) s h = small-sets (set es at v) (suc at) vs (small-set es at v s (h 0)) (λ i. h (suc i))
-
-small-all : (n v : ℕ) → v < 4 → Small (replicate n v)
-small-all zero v h i = omega arith
-small-all (suc n) v h zero = h
-small-all (suc n) v h (suc i) = small-all n v h i
-
 small-swept : (freeing : Bool) (es : List ℕ) → Small (sweepFrom freeing es)
 unfolding sweepFrom sweptEntry
 small-swept freeing [] i = omega arith
@@ -87,6 +72,25 @@ small-swept freeing (e ∷ es) zero = go (eqb e HEAD) (eqb e MARK) (eqb e TAIL) 
     go false false false d = omega arith
 small-swept freeing (e ∷ es) (suc i) = small-swept (freeingAfter freeing e) es i
 
+-- ---- a pool of bytes
+
+bytes-cleared : (pool : List ℕ) (s b : ℕ) → AllBytes pool → AllBytes (clearedBlocks pool s b)
+unfolding clearedBlocks
+bytes-cleared pool s b y = bounded-sets pool (16 * s) (replicate (16 * b) 0) y (bounded-replicate (16 * b) 0 (omega arith))
+
+bytes-moved : (h : Heap) (k b c s : ℕ) → AllBytes (h .pool) → AllBytes (moved h k b c s .pool)
+unfolding moved
+bytes-moved h k b c s y =
+    let old : List ℕ = drop (16 * k) (h .pool) in
+    let front : List ℕ = take (16 * b) old in
+    let rest : List ℕ = replicate (16 * (c - b)) 0 in
+    bounded-sets (h .pool) (16 * s) (front ++ rest) y
+    (bounded-append front rest (bounded-take (16 * b) old (bounded-drop (16 * k) (h .pool) y)) (bounded-replicate (16 * (c - b)) 0 (omega arith)))
+
+bytes-stored : (pool : List ℕ) (i w : ℕ) → AllBytes pool → AllBytes (withWord pool i w)
+unfolding withWord
+bytes-stored pool i w y = bounded-sets pool (4 * i) (bytesOf w) y (bytesOf-lt w)
+
 -- ---- every call
 
 pub record Kept (es es′ : List ℕ) : Type 0 where
@@ -97,7 +101,7 @@ kept-same : (es : List ℕ) → Kept es es
 kept-same es = record { long = refl; small = λ s. s }
 
 kept-sets : (es : List ℕ) (at : ℕ) (vs : List ℕ) → Small vs → Kept es (sets es at vs)
-kept-sets es at vs h = record { long = length-sets es at vs; small = λ s. small-sets es at vs s h }
+kept-sets es at vs h = record { long = length-sets es at vs; small = λ s. bounded-sets es at vs s h }
 
 kept-placed : (es : List ℕ) (s b : ℕ) → Kept es (placed es s b)
 unfolding placed
@@ -105,22 +109,23 @@ kept-placed es s b = kept-sets es s (HEAD ∷ replicate (b - 1) TAIL) go
   where
     go : Small (HEAD ∷ replicate (b - 1) TAIL)
     go zero = omega arith
-    go (suc i) = small-all (b - 1) TAIL (omega arith) i
+    go (suc i) = bounded-replicate (b - 1) TAIL (omega arith) i
 
 kept-released : (es : List ℕ) (s b : ℕ) → Kept es (released es s b)
 unfolding released
-kept-released es s b = kept-sets es s (replicate b FREE) (small-all b FREE (omega arith))
+kept-released es s b = kept-sets es s (replicate b FREE) (bounded-replicate b FREE (omega arith))
 
 kept-extended : (es : List ℕ) (s b : ℕ) → Kept es (extended es s b)
 unfolding extended
-kept-extended es s b = kept-sets es s (replicate b TAIL) (small-all b TAIL (omega arith))
+kept-extended es s b = kept-sets es s (replicate b TAIL) (bounded-replicate b TAIL (omega arith))
 
 pub record Keeps (h : Heap) (o : Outcome) : Type 0 where
   pub entries : Kept (h .entries) (o .heap .entries)
   pub bytes : length (o .heap .pool) ≡ length (h .pool)
+  pub all-bytes : AllBytes (h .pool) → AllBytes (o .heap .pool)
 
 keeps-all : (h : Heap) (a : Answer) (stack : List ℕ) → Keeps h (leavesWith a h stack)
-keeps-all h a stack = record { entries = kept-same (h .entries); bytes = refl }
+keeps-all h a stack = record { entries = kept-same (h .entries); bytes = refl; all-bytes = λ y. y }
 
 keeps-unless : (n : ℕ) (h : Heap) (stack : List ℕ) {acted : Outcome} → Keeps h acted → Keeps h (unlessRefused n h stack acted)
 unfolding unlessRefused
@@ -130,26 +135,26 @@ keeps-unless (suc r) h stack k = keeps-all h (onlyRefusal (suc r)) stack
 keeps-along : (way : Way) (h : Heap) (k b c : ℕ) → Keeps h (along way h k b c)
 unfolding along placing shrunk grown moved
 keeps-along stay h k b c = keeps-all h _ []
-keeps-along shrink h k b c = record { entries = kept-released (h .entries) (k + c) (b - c); bytes = refl }
-keeps-along grow h k b c = record { entries = kept-extended (h .entries) (k + b) (c - b); bytes = cleared-length (h .pool) (k + b) (c - b) }
+keeps-along shrink h k b c = record { entries = kept-released (h .entries) (k + c) (b - c); bytes = refl; all-bytes = λ y. y }
+keeps-along grow h k b c = record { entries = kept-extended (h .entries) (k + b) (c - b); bytes = cleared-length (h .pool) (k + b) (c - b); all-bytes = bytes-cleared (h .pool) (k + b) (c - b) }
 keeps-along (move s) h k b c =
     let p = kept-placed (h .entries) s c in
     let r = kept-released (placed (h .entries) s c) k b in
-    record { entries = record { long = r .long ∙ p .long; small = λ x. r .small (p .small x) }; bytes = moved-length h k b c s }
+    record { entries = record { long = r .long ∙ p .long; small = λ x. r .small (p .small x) }; bytes = moved-length h k b c s; all-bytes = bytes-moved h k b c s }
 keeps-along noWay h k b c = keeps-all h _ []
 
 pub step-keeps : (c : Call) (stack : List ℕ) (h : Heap) → Keeps h (step c stack h)
 unfolding step init allocate free reallocate collect survey load store writeImage placing taken freed collecting sweep
 step-keeps (Init base) stack h =
     keeps-unless _ h []
-    (record { entries = record { long = length-replicate {A = ℕ} (length (h .entries)) FREE; small = λ s. small-all (length (h .entries)) FREE (omega arith) }; bytes = refl })
-step-keeps (Allocate base bytes) stack h = keeps-unless _ h [] (record { entries = kept-placed (h .entries) _ _; bytes = cleared-length (h .pool) _ _ })
-step-keeps (Free base k) stack h = keeps-unless _ h [] (record { entries = kept-released (h .entries) k _; bytes = refl })
+    (record { entries = record { long = length-replicate {A = ℕ} (length (h .entries)) FREE; small = λ s. bounded-replicate (length (h .entries)) FREE (omega arith) }; bytes = refl; all-bytes = λ y. y })
+step-keeps (Allocate base bytes) stack h = keeps-unless _ h [] (record { entries = kept-placed (h .entries) _ _; bytes = cleared-length (h .pool) _ _; all-bytes = bytes-cleared (h .pool) _ _ })
+step-keeps (Free base k) stack h = keeps-unless _ h [] (record { entries = kept-released (h .entries) k _; bytes = refl; all-bytes = λ y. y })
 step-keeps (Reallocate base k bytes) stack h = keeps-unless _ h [] (keeps-along _ h k _ _)
 step-keeps (Collect base roots) stack h =
     keeps-unless _ h stack
-    (record { entries = record { long = sweep-length false _ ∙ marking-length _ _ (h .entries); small = λ s. small-swept false _ }; bytes = refl })
+    (record { entries = record { long = sweep-length false _ ∙ marking-length _ _ (h .entries); small = λ s. small-swept false _ }; bytes = refl; all-bytes = λ y. y })
 step-keeps (Survey base) stack h = keeps-unless _ h [] (keeps-all h _ [])
 step-keeps (Load base k i) stack h = keeps-unless _ h [] (keeps-all h _ [])
-step-keeps (Store base k i w) stack h = keeps-unless _ h [] (record { entries = kept-same (h .entries); bytes = length-withWord (h .pool) (4 * k + i) w })
-step-keeps (WriteImage base roots room) stack h = keeps-unless _ h [] (record { entries = kept-same (h .entries); bytes = refl })
+step-keeps (Store base k i w) stack h = keeps-unless _ h [] (record { entries = kept-same (h .entries); bytes = length-withWord (h .pool) (4 * k + i) w; all-bytes = bytes-stored (h .pool) (4 * k + i) w })
+step-keeps (WriteImage base roots room) stack h = keeps-unless _ h [] (record { entries = kept-same (h .entries); bytes = refl; all-bytes = λ y. y })

@@ -1,15 +1,16 @@
--- Laws of words in bytes: a number and its four bytes say the same, and a stored word is read back and changes nothing else.
+-- Laws of words in bytes: a number and its four bytes say the same, both ways, and a stored word is read back and changes nothing else.
 -- Assumes nothing.
-use mathlib.Core.Path.{_≡_, refl, sym, _∙_}
+use mathlib.Core.Path.{_≡_, refl, sym, ap, _∙_}
 use mathlib.Core.Logic.{_≢_}
-use mathlib.Core.List.{List, _++_}
-use Prim.Native.Nat.{ℕ, _+_, _*_, _-_, _/_, _%_, _^_, _≤_, _<_}
+use mathlib.Core.List.{List, [], _∷_, _++_}
+use Prim.Native.Nat.{ℕ, zero, suc, _+_, _*_, _-_, _/_, _%_, _^_, _≤_, _<_}
 use native.Mathlib.Nat.{div-div-eq-div-mul}
 use native.Mathlib.Decide.{decLt}
 use native.Mathlib.Omega.{arith}
-use lib.ListN.{length, getD, length-append, List·getD-append}
-use lib.Seq.{ext-getD, getD-append-add, length-sets}
+use lib.ListN.{length, getD, take, drop, length-append, List·getD-append}
+use lib.Seq.{ext-getD, drop-cons, getD-append-add, length-sets}
 use Rattle.rules.specs.Words.{number, bytesOf, wordAt, withWord, wordsOf}
+use Rattle.rules.specs.Meaning.{AllBytes}
 use Rattle.rules.proofs.Lists.{sets-before, sets-after, sets-in, length-tabulate, getD-tabulate}
 
 -- ---- a number and its bytes
@@ -33,6 +34,26 @@ pub length-bytesOf : (w : ℕ) → length (bytesOf w) ≡ 4
 unfolding bytesOf
 length-bytesOf w = refl
 
+-- they are bytes
+pub bytesOf-lt : (w : ℕ) → AllBytes (bytesOf w)
+unfolding bytesOf
+bytesOf-lt w zero = omega arith
+bytesOf-lt w (suc zero) = omega arith
+bytesOf-lt w (suc (suc zero)) = omega arith
+bytesOf-lt w (suc (suc (suc zero))) = omega arith
+bytesOf-lt w (suc (suc (suc (suc i)))) = omega arith
+
+-- the bytes of the number in four bytes are those
+pub bytesOf-number : (a b c d : ℕ) → a < 256 → b < 256 → c < 256 → d < 256 → bytesOf (number a b c d) ≡ a ∷ b ∷ c ∷ d ∷ []
+unfolding bytesOf number
+bytesOf-number a b c d la lb lc ld =
+    let n = a + 256 * b + 65536 * c + 16777216 * d in
+    let e0 : n % 256 ≡ a = omega arith in
+    let e1 : n / 256 % 256 ≡ b = let q : n / 256 ≡ b + 256 * c + 65536 * d = omega arith in rw q (omega arith) in
+    let e2 : n / 65536 % 256 ≡ c = let q : n / 65536 ≡ c + 256 * d = omega arith in rw q (omega arith) in
+    let e3 : n / 16777216 % 256 ≡ d = let q : n / 16777216 ≡ d = omega arith in rw q (omega arith) in
+    rw (e0, e1, e2, e3)
+
 -- ---- a word of a list of bytes
 
 -- a word depends on its four bytes alone
@@ -43,6 +64,17 @@ wordAt-same bs cs i j same =
     let ej : 4 * j + 0 ≡ 4 * j = omega arith in
     let e0 : getD bs (4 * i) 0 ≡ getD cs (4 * j) 0 = rw (ei, ej) at (same 0 (omega arith)) in
     rw (e0, same 1 (omega arith), same 2 (omega arith), same 3 (omega arith))
+
+-- the bytes of word i are those that it was read from
+pub bytesOf-wordAt : (bs : List ℕ) (i : ℕ) → AllBytes bs → 4 * i + 4 ≤ length bs → bytesOf (wordAt bs i) ≡ take 4 (drop (4 * i) bs)
+unfolding wordAt
+bytesOf-wordAt bs i bytes room =
+    let e1 : suc (4 * i) ≡ 4 * i + 1 = omega arith in
+    let e2 : suc (4 * i + 1) ≡ 4 * i + 2 = omega arith in
+    let e3 : suc (4 * i + 2) ≡ 4 * i + 3 = omega arith in
+    let four : drop (4 * i) bs ≡ getD bs (4 * i) 0 ∷ getD bs (4 * i + 1) 0 ∷ getD bs (4 * i + 2) 0 ∷ getD bs (4 * i + 3) 0 ∷ drop (suc (4 * i + 3)) bs =
+    rw (drop-cons bs (4 * i) 0 (omega arith), e1, drop-cons bs (4 * i + 1) 0 (omega arith), e2, drop-cons bs (4 * i + 2) 0 (omega arith), e3, drop-cons bs (4 * i + 3) 0 (omega arith)) in
+    bytesOf-number _ _ _ _ (bytes (4 * i)) (bytes (4 * i + 1)) (bytes (4 * i + 2)) (bytes (4 * i + 3)) ∙ sym (ap (take 4) four)
 
 pub length-wordsOf : (bs : List ℕ) → length (wordsOf bs) ≡ length bs / 4
 unfolding wordsOf

@@ -16,7 +16,7 @@ use Rattle.rules.specs.Refusals.{firstOf, goodShape, wholeWords}
 use Rattle.rules.specs.Images.{section, sections, blockBytes, usedFrom, imageOf}
 use Rattle.rules.specs.Calls.{writeImage}
 use Rattle.rules.specs.Runs.{WriteImage, step}
-use Rattle.rules.specs.Memory.{Memory, memory, Result, withBuffer, orRefused, perform}
+use Rattle.rules.specs.Memory.{Memory, memory, Result, filling, withBuffer, orRefused, perform}
 use Rattle.rules.specs.Examples.{zeros, fives, sevens}
 
 -- the result of a writing with its buffer, and what it should be
@@ -39,12 +39,12 @@ into buffer s = withBuffer buffer (perform (planes (s .t)) (WriteImage (s .base)
 abbrev pub writes : Source → List ℕ → List ℕ → List ℕ → ImageExample
 writes s buffer image after = record {
   is = into buffer s;
-  ought = record { answer = writtenTo (length image); memory = s .memory; stack = []; filled = image ++ after };
+  ought = filling (writtenTo (length image)) (s .memory) (image ++ after);
 }
 
 -- or it is refused, and they are as they were
 abbrev pub refuses : Source → List ℕ → ℕ → ImageExample
-refuses s buffer r = record { is = into buffer s; ought = record { answer = onlyRefusal r; memory = s .memory; stack = []; filled = buffer } }
+refuses s buffer r = record { is = into buffer s; ought = filling (onlyRefusal r) (s .memory) buffer }
 
 -- ---- the heaps
 

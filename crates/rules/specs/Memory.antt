@@ -55,7 +55,11 @@ pub record Result : Type 0 where
 abbrev pub result : Answer → Memory → List ℕ → Result
 result a m stack = record { answer = a; memory = m; stack = stack; filled = [] }
 
--- the same, of a call that was lent a buffer to fill, with all of the buffer: what the call wrote, and behind it what was there
+-- of a call that takes no mark stack and fills a buffer
+abbrev pub filling : Answer → Memory → List ℕ → Result
+filling a m bytes = record { answer = a; memory = m; stack = []; filled = bytes }
+
+-- the result with all of the buffer that was lent to be filled: what the call wrote, and behind it what was there
 abbrev pub withBuffer : List ℕ → Result → Result
 withBuffer buffer r = record { answer = r .answer; memory = r .memory; stack = r .stack; filled = r .filled ++ drop (length (r .filled)) buffer }
 
