@@ -41,6 +41,7 @@ module _ {p : Plain} {h : Heap} (r : Represents p h) where
       (λ _. record {
         answer = refl;
         heap = represents-other r _ [] refl (length-replicate (length (h .entries)) FREE) (empty-laid (h .pool) (length (h .entries)));
+        filled = λ _. refl;
       })
 
   -- ---- survey
@@ -48,7 +49,7 @@ module _ {p : Plain} {h : Heap} (r : Represents p h) where
   pub survey-agrees : (base : ℕ) (stack : List ℕ) → Agrees (reply (Survey base) stack p) (survey base h)
   unfolding reply survey unlessRefused firstOf
   survey-agrees base stack =
-      agree-heap r base [] [] _ _ (record { answer = rw (laid-used (r .laid), laid-objects (r .laid), laid-longest (r .laid), r .size); heap = r })
+      agree-heap r base [] [] _ _ (record { answer = rw (laid-used (r .laid), laid-objects (r .laid), laid-longest (r .laid), r .size); heap = r; filled = λ _. refl })
 
   -- ---- load and store
 
@@ -61,7 +62,7 @@ module _ {p : Plain} {h : Heap} (r : Represents p h) where
       agree-heap r base (outside h k ∷ noHead h k ∷ noWord h k i ∷ []) [] _ _
       (agree-named r k (noWord h k i ∷ []) _ (loadedFrom p i)
       (λ o q s y x. agree-test r (noWord h k i) [] (leb (4 * o .blocks) i) [] _ _ (omega arith) (word-test k i o x)
-      (λ e. record { answer = rw (y .words .at i (leb-false (4 * o .blocks) i e), s); heap = r })))
+      (λ e. record { answer = rw (y .words .at i (leb-false (4 * o .blocks) i e), s); heap = r; filled = λ _. refl })))
 
   -- pool and table with word i of the object o stored
   module _ (k i w : ℕ) (o : Object) (s : o .start ≡ k) (y : Lies (h .pool) (h .entries) o) (x : Extent (h .entries) k (o .blocks)) (inside : i < 4 * o .blocks) where
@@ -108,4 +109,5 @@ module _ {p : Plain} {h : Heap} (r : Represents p h) where
         answer = refl;
         heap = represents-other r _ _ (length-withWord (h .pool) (4 * k + i) w) refl
             (laid-replace d o (stored k i w o s y x l) s s (store-lies k i w o s y x l) (λ os t. laid-kept d t (omega arith)) (r .laid) q);
+        filled = λ _. refl;
       })))

@@ -1,4 +1,5 @@
--- A heap that represents a plain list, and an outcome that agrees with a reply: the same answer, and a heap that represents the list that is left.
+-- A heap that represents a plain list, and an outcome that agrees with a reply: the same answer, a heap that represents the list that is left and, if the pool's elements are
+-- bytes, the same bytes in a buffer.
 -- A call's tests are gone through one by one on both sides.
 -- Assumes nothing.
 use mathlib.Core.Path.{_≡_, refl, sym, ap, _∙_}
@@ -12,8 +13,8 @@ use lib.ListN.{length}
 use borrow.Author.Tests.{eq-eqb, ne-eqb, le-leb}
 use Rattle.rules.specs.Pointers.{goodBase}
 use Rattle.rules.specs.Entries.{HEAD}
-use Rattle.rules.specs.Meaning.{Extent}
-use Rattle.rules.specs.Outcomes.{Heap, Outcome, onlyRefusal, changeFrom, unlessRefused}
+use Rattle.rules.specs.Meaning.{AllBytes, Extent}
+use Rattle.rules.specs.Outcomes.{Heap, Outcome, onlyRefusal, changeFrom, leavesWith, unlessRefused}
 use Rattle.rules.specs.Refusals.{Test, firstOf, goodShape, badShape, illFormed, heapTests, outside, noHead}
 use Rattle.rules.specs.Calls.{placing}
 use Rattle.rules.proofs.Refusals.{first-yes, first-no, refuses}
@@ -38,10 +39,11 @@ represents-other {p} {h} r h′ os pl el d =
 pub record Agrees (r : Reply) (o : Outcome) : Type 0 where
   pub answer : o .answer ≡ r .answer
   pub heap : Represents (r .heap) (o .heap)
+  pub filled : AllBytes (o .heap .pool) → o .filled ≡ r .filled
 
 module _ {p : Plain} {h : Heap} (r : Represents p h) where
-  pub agree-refused : (n : ℕ) (stack : List ℕ) → Agrees (refuse n p) (record { answer = onlyRefusal n; heap = h; stack = stack })
-  agree-refused n stack = record { answer = refl; heap = r }
+  pub agree-refused : (n : ℕ) (stack : List ℕ) → Agrees (refuse n p) (leavesWith (onlyRefusal n) h stack)
+  agree-refused n stack = record { answer = refl; heap = r; filled = λ _. refl }
 
   -- a test on both sides
   pub agree-test : (t : Test) (ts : List Test) (b : Bool) (stack : List ℕ) (acted : Outcome) (x : Reply) → 0 < t .number → t .holds ≡ b
@@ -86,4 +88,4 @@ module _ {p : Plain} {h : Heap} (r : Represents p h) where
   -- an accepted call that answers a block and the change
   pub agree-placing : (k : ℕ) (os : List Object) (h′ : Heap) → Represents (record { size = p .size; objects = os }) h′ → Agrees (places p k os) (placing h k h′)
   unfolding places placing changeFrom
-  agree-placing k os h′ r′ = record { answer = rw (laid-used (r .laid), laid-used (r′ .laid)); heap = r′ }
+  agree-placing k os h′ r′ = record { answer = rw (laid-used (r .laid), laid-used (r′ .laid)); heap = r′; filled = λ _. refl }

@@ -1,4 +1,4 @@
--- What the theorems come to. No answer depends on the table's form; the sum of changes is one over the answers; the list's collection keeps
+-- What the theorems come to. No answer and no image depends on the table's form; the sum of changes is one over the answers; the list's collection keeps
 -- the reachable objects of all memory that an init accepts; these are fixed by that, and stand in rising order, each once.
 -- Assumes nothing.
 use mathlib.Core.Path.{_≡_, refl, sym, subst, _∙_}
@@ -15,20 +15,21 @@ use Rattle.rules.specs.Words.{wordsOf}
 use Rattle.rules.specs.Pointers.{goodBase}
 use Rattle.rules.specs.Tables.{used}
 use Rattle.rules.specs.Forms.{Form, Faithful}
+use Rattle.rules.specs.Meaning.{AllBytes}
 use Rattle.rules.specs.Outcomes.{Answer}
 use Rattle.rules.specs.Refusals.{wholeWords}
 use Rattle.rules.specs.Runs.{Init, Collect, Turn}
-use Rattle.rules.specs.Memory.{Memory, heapIn, AcceptedIn, perform, turnIn, afterIn, answersIn}
+use Rattle.rules.specs.Memory.{Memory, heapIn, AcceptedIn, perform, turnIn, afterIn, answersIn, filledIn}
 use Rattle.rules.proofs.Refusals.{shape-true}
 use Rattle.plain.specs.Objects.{Object, Plain, end, Rising, done, next}
 use Rattle.plain.specs.Tracing.{isIn, ledTo, trace, among}
 use Rattle.plain.specs.Reaching.{Reachable, root, edge, Keeps}
 use Rattle.plain.specs.Replies.{Reply, refuseIf, collectedBy, reply, left}
-use Rattle.plain.specs.Refines.{fromInit, AnswersAsList, ListKeepsReachable, counted, changes, UsedIsSum}
+use Rattle.plain.specs.Refines.{fromInit, AnswersAsList, ImagesAsList, ListKeepsReachable, counted, changes, UsedIsSum}
 use Rattle.plain.proofs.Laid as lie
 use Rattle.plain.proofs.Inits.{shape-in}
 use Rattle.plain.proofs.Sums.{used-is-sum}
-use Rattle.plain.proofs.Refinement.{answers-as-list}
+use Rattle.plain.proofs.Refinement.{answers-as-list, images-as-list}
 use Rattle.plain.proofs.Reached.{led-member, left-represents, blank-represents, list-keeps-reachable}
 
 -- ---- any form
@@ -41,6 +42,15 @@ unfolding AnswersAsList
 forms-alike f g faithful faithful′ base m n ts z z′ same =
     let p : Plain = record { size = length (f .read (m .table)); objects = [] } in
     answers-as-list f faithful base m p ts z refl ∙ sym (answers-as-list g faithful′ base n p ts z′ same)
+
+-- nor does what the calls write into buffers: no image depends on the form, nor shows what the pool held before the init
+pub images-alike : (f g : Form) → Faithful f → Faithful g → (base : ℕ) (m n : Memory) (ts : List Turn) → AllBytes (m .pool) → AllBytes (n .pool)
+    → AcceptedIn (perform f (Init base) [] m) → AcceptedIn (perform g (Init base) [] n) → length (f .read (m .table)) ≡ length (g .read (n .table))
+    → filledIn f (fromInit base ts) m ≡ filledIn g (fromInit base ts) n
+unfolding ImagesAsList
+images-alike f g faithful faithful′ base m n ts bytes bytes′ z z′ same =
+    let p : Plain = record { size = length (f .read (m .table)); objects = [] } in
+    images-as-list f faithful base m bytes z p ts refl ∙ sym (images-as-list g faithful′ base n bytes′ z′ p ts same)
 
 -- ---- the sum of changes
 

@@ -10,6 +10,7 @@ pub mod Places
 pub mod Resizes
 pub mod Traces
 pub mod Sweeps
+pub mod Images
 pub mod Refinement
 pub mod Reached
 pub mod Consequences

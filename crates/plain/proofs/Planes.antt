@@ -1,5 +1,5 @@
 -- The theorems used from a table with every spare bit set, and in another form than two planes, the packed one.
--- The init is accepted all the same, and what the calls after it answer is what they answer on the planes of the samples.
+-- The init is accepted all the same, and what the calls after it answer and write is what they do on the planes of the samples.
 -- Assumes nothing.
 use mathlib.Core.Path.{_≡_, refl, _∙_}
 use mathlib.Core.Bool.{false}
@@ -17,13 +17,13 @@ use Rattle.rules.specs.Outcomes.{unlessRefused}
 use Rattle.rules.specs.Refusals.{firstOf, goodShape}
 use Rattle.rules.specs.Calls.{init}
 use Rattle.rules.specs.Runs.{Init, step}
-use Rattle.rules.specs.Memory.{Memory, memory, AcceptedIn, orRefused, perform, afterIn, answersIn}
+use Rattle.rules.specs.Memory.{Memory, memory, AcceptedIn, orRefused, perform, afterIn, answersIn, filledIn}
 use Rattle.rules.proofs.Memory.{packed-faithful}
 use Rattle.rules.proofs.Planes.{same-length, planes-faithful}
 use Rattle.plain.specs.Refines.{counted}
-use Rattle.plain.specs.Examples.{runBase, filling, ending, run, garbage, run-accepted, runAnswers}
-use Rattle.plain.proofs.Consequences.{forms-alike, summed, used-answered}
-use Rattle.plain.proofs.Samples.{garbage-answers}
+use Rattle.plain.specs.Examples.{runBase, filling, ending, run, garbage, run-accepted, runAnswers, imaging, imageRun, imageFillings}
+use Rattle.plain.proofs.Consequences.{forms-alike, images-alike, summed, used-answered}
+use Rattle.plain.proofs.Samples.{garbage-answers, ones-bytes, garbage-images}
 
 -- ---- spare bits
 
@@ -50,6 +50,13 @@ unclean-used =
     let s = rw unclean-answers at (used-answered (planes 3) (planes-faithful 3) runBase unclean (filling ++ ending) (pos 99) (unclean-accepted .0)) in
     cc
 
+-- and the images are the same
+pub unclean-images : filledIn (planes 3) imageRun unclean ≡ imageFillings
+unclean-images =
+    images-alike (planes 3) (planes 3) (planes-faithful 3) (planes-faithful 3) runBase unclean garbage imaging ones-bytes ones-bytes
+    (unclean-accepted .0) (run-accepted .0) (same-length 3 (unclean .table) (garbage .table))
+    ∙ garbage-images .1
+
 -- ---- another form
 
 -- as many blocks in a packed table
@@ -72,3 +79,11 @@ unfolding summed counted filling ending runAnswers
 packed-used =
     let s = rw packed-answers at (used-answered packed packed-faithful runBase packedOnes (filling ++ ending) (pos 99) packed-accepted) in
     cc
+
+-- and the images are the same
+pub packed-images : filledIn packed imageRun packedOnes ≡ imageFillings
+unfolding tabulate entriesIn entriesOf
+packed-images =
+    images-alike packed (planes 3) packed-faithful (planes-faithful 3) runBase packedOnes garbage imaging ones-bytes ones-bytes
+    packed-accepted (run-accepted .0) refl
+    ∙ garbage-images .1

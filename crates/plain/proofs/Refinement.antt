@@ -9,22 +9,25 @@ use lib.ListN.{length, replicate, length-replicate}
 use borrow.Author.Tests.{eq-eqb, le-leb}
 use Rattle.rules.specs.Entries.{FREE}
 use Rattle.rules.specs.Pointers.{addressOf, goodBase}
-use Rattle.rules.specs.Outcomes.{Heap, Answer}
+use Rattle.rules.specs.Outcomes.{Heap}
+use Rattle.rules.specs.Meaning.{AllBytes}
 use Rattle.rules.specs.Refusals.{goodShape}
 use Rattle.rules.specs.Calls.{init}
-use Rattle.rules.specs.Runs.{Call, Init, Allocate, Free, Reallocate, Collect, Survey, Load, Store, Turn, step, answers}
-use Rattle.rules.specs.Memory.{heapIn, perform, answersIn}
+use Rattle.rules.specs.Runs.{Call, Init, Allocate, Free, Reallocate, Collect, Survey, Load, Store, WriteImage, Turn, step, answers, fillings as filledOn}
+use Rattle.rules.specs.Memory.{heapIn, perform, answersIn, filledIn}
 use Rattle.rules.proofs.Refusals.{shape-true}
-use Rattle.rules.proofs.Memory.{answers-in}
+use Rattle.rules.proofs.Sizes.{step-keeps}
+use Rattle.rules.proofs.Memory.{answers-in, filled-in}
 use Rattle.plain.specs.Objects.{Plain}
-use Rattle.plain.specs.Replies.{reply, replies}
-use Rattle.plain.specs.Refines.{AnswersAsList}
+use Rattle.plain.specs.Replies.{reply, replies, fillings}
+use Rattle.plain.specs.Refines.{AnswersAsList, ImagesAsList}
 use Rattle.plain.proofs.Inits.{init-accepted, init-follows, shape-in}
 use Rattle.plain.proofs.Agrees.{Represents, Agrees}
 use Rattle.plain.proofs.Acts.{empty-laid, init-agrees, survey-agrees, load-agrees, store-agrees}
 use Rattle.plain.proofs.Places.{free-agrees, allocate-agrees}
 use Rattle.plain.proofs.Resizes.{reallocate-agrees}
 use Rattle.plain.proofs.Sweeps.{collect-agrees}
+use Rattle.plain.proofs.Images.{image-agrees}
 
 -- each call
 pub step-agrees : (c : Call) (stack : List ℕ) {p : Plain} {h : Heap} → Represents p h → Agrees (reply c stack p) (step c stack h)
@@ -37,9 +40,10 @@ step-agrees (Collect base roots) stack r = collect-agrees r base roots stack
 step-agrees (Survey base) stack r = survey-agrees r base stack
 step-agrees (Load base k i) stack r = load-agrees r base k i stack
 step-agrees (Store base k i w) stack r = store-agrees r base k i w stack
+step-agrees (WriteImage base roots room) stack r = image-agrees r base roots room stack
 
--- an answer and those after it
-both-same : {a b : Answer} {xs ys : List Answer} → a ≡ b → xs ≡ ys → a ∷ xs ≡ b ∷ ys
+-- one and those after it
+both-same : {A : Type 0} {a b : A} {xs ys : List A} → a ≡ b → xs ≡ ys → a ∷ xs ≡ b ∷ ys
 both-same e f = cc
 
 -- calls in a row
@@ -49,6 +53,15 @@ all-agree [] r = refl
 all-agree (t ∷ ts) r =
     let a = step-agrees (t .call) (t .stack) r in
     both-same (a .answer) (all-agree ts (a .heap))
+
+-- and what they write into buffers, from a pool of bytes on
+all-filled : (ts : List Turn) {p : Plain} {h : Heap} → Represents p h → AllBytes (h .pool) → filledOn ts h ≡ fillings ts p
+unfolding filledOn fillings
+all-filled [] r bytes = refl
+all-filled (t ∷ ts) {h = h} r bytes =
+    let a = step-agrees (t .call) (t .stack) r in
+    let still = step-keeps (t .call) (t .stack) h .all-bytes bytes in
+    both-same (a .filled still) (all-filled ts (a .heap) still)
 
 -- an init of a good shape, whatever was there before
 first-init : (base : ℕ) (h : Heap) (p : Plain) → goodShape base h ≡ true → p .size ≡ length (h .entries) → Agrees (reply (Init base) [] p) (init base h)
@@ -60,6 +73,7 @@ first-init base h p good same =
     (record {
       answer = refl;
       heap = record { size = sym l; some = rw l (s .some); few = rw l (s .few); pool = s .pool ∙ ap (λ (n : ℕ). 16 * n) (sym l); laid = empty-laid (h .pool) (length (h .entries)) };
+      filled = λ _. refl;
     })
 
 pub answers-as-list : AnswersAsList
@@ -68,3 +82,11 @@ answers-as-list f faithful base m p ts z same =
     let x = init-follows f faithful base m z in
     let a = first-init base (heapIn f m) p (shape-in f base m z) same in
     both-same (x .answer ∙ a .answer) (answers-in f faithful ts (perform f (Init base) [] m .memory) (x .sound z) ∙ ap (answers ts) (x .heap) ∙ all-agree ts (a .heap))
+
+pub images-as-list : ImagesAsList
+unfolding ImagesAsList filledIn fillings step
+images-as-list f faithful base m bytes z p ts same =
+    let x = init-follows f faithful base m z in
+    let a = first-init base (heapIn f m) p (shape-in f base m z) same in
+    let still = step-keeps (Init base) [] (heapIn f m) .all-bytes bytes in
+    both-same (x .filled ∙ a .filled still) (filled-in f faithful ts (perform f (Init base) [] m .memory) (x .sound z) ∙ ap (filledOn ts) (x .heap) ∙ all-filled ts (a .heap) still)

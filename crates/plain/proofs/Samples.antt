@@ -1,4 +1,4 @@
--- The theorems used on one run, from a table that is not well-formed: what the list answers is computed, and what the heap answers, how many
+-- The theorems used on two runs, from a table that is not well-formed: what the list answers and writes is computed, and what the heap answers and writes, how many
 -- blocks it uses and what a collection keeps follow by the theorems.
 -- Assumes nothing.
 use mathlib.Core.Path.{_≡_, refl, sym, _∙_}
@@ -12,16 +12,18 @@ use Rattle.rules.specs.Tests.{tabulate}
 use Rattle.rules.specs.Tables.{used}
 use Rattle.rules.specs.Pointers.{addressOf, goodBase}
 use Rattle.rules.specs.Planes.{entriesIn, planes}
+use Rattle.rules.specs.Meaning.{AllBytes}
 use Rattle.rules.specs.Calls.{blocksFor}
-use Rattle.rules.specs.Memory.{afterIn, answersIn}
+use Rattle.rules.specs.Memory.{afterIn, answersIn, filledIn}
+use Rattle.rules.proofs.Lists.{bounded-replicate}
 use Rattle.rules.proofs.Planes.{length-entriesIn, planes-faithful}
 use Rattle.plain.specs.Objects.{Object, object, total, find, placeFrom, lowestGap, insert, replace}
 use Rattle.plain.specs.Tracing.{isIn, ledTo, trace, among}
 use Rattle.plain.specs.Reaching.{Reachable, root, edge, Keeps}
 use Rattle.plain.specs.Replies.{places, allocatedAt, onObject, named, loadedFrom, storedIn, reply, left}
-use Rattle.plain.specs.Refines.{AnswersAsList, ListKeepsReachable, counted}
-use Rattle.plain.specs.Examples.{zeros, runBase, filling, ending, runRoots, run, garbage, run-accepted, twelve, runAnswers, run-answers}
-use Rattle.plain.proofs.Refinement.{answers-as-list}
+use Rattle.plain.specs.Refines.{AnswersAsList, ImagesAsList, ListKeepsReachable, counted}
+use Rattle.plain.specs.Examples.{zeros, runBase, filling, ending, runRoots, run, garbage, run-accepted, twelve, runAnswers, run-answers, imaging, imageRun, imageAnswers, imageFillings, image-run}
+use Rattle.plain.proofs.Refinement.{answers-as-list, images-as-list}
 use Rattle.plain.proofs.Reached.{of-at, list-keeps-reachable}
 use Rattle.plain.proofs.Consequences.{summed, used-answered, allOf, leadsInto, Closed, reachable-in}
 
@@ -31,6 +33,21 @@ use Rattle.plain.proofs.Consequences.{summed, used-answered, allOf, lea
 pub garbage-answers : answersIn (planes 3) run garbage ≡ runAnswers
 unfolding AnswersAsList
 garbage-answers = answers-as-list (planes 3) (planes-faithful 3) runBase garbage twelve (filling ++ ending) (run-accepted .0) (sym (length-entriesIn 3 (garbage .table))) ∙ run-answers
+
+-- ---- what it writes
+
+-- a pool of ones is one of bytes
+pub ones-bytes : AllBytes (garbage .pool)
+ones-bytes = bounded-replicate 192 255 (omega arith)
+
+-- the images are those of the list's objects: no byte of them is one that the pool held before
+pub garbage-images : (answersIn (planes 3) imageRun garbage ≡ imageAnswers) × (filledIn (planes 3) imageRun garbage ≡ imageFillings)
+unfolding AnswersAsList ImagesAsList
+garbage-images =
+    let same = sym (length-entriesIn 3 (garbage .table)) in (
+      answers-as-list (planes 3) (planes-faithful 3) runBase garbage twelve imaging (run-accepted .0) same ∙ image-run .0,
+      images-as-list (planes 3) (planes-faithful 3) runBase garbage ones-bytes (run-accepted .0) twelve imaging same ∙ image-run .1,
+    )
 
 -- ---- how many blocks are used
 

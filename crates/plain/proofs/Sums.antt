@@ -15,8 +15,8 @@ use Rattle.rules.specs.Tables.{used, isUsed}
 use Rattle.rules.specs.Entries.{FREE}
 use Rattle.rules.specs.Forms.{Form, Faithful}
 use Rattle.rules.specs.Outcomes.{Heap, Answer, Outcome, onlyRefusal, changeFrom, unlessRefused}
-use Rattle.rules.specs.Calls.{Way, stay, shrink, grow, move, noWay, placing, allocate, free, along, reallocate, collecting, collect, survey, load, store}
-use Rattle.rules.specs.Runs.{Call, Init, Allocate, Free, Reallocate, Collect, Survey, Load, Store, Turn, step}
+use Rattle.rules.specs.Calls.{Way, stay, shrink, grow, move, noWay, placing, allocate, free, along, reallocate, collecting, collect, survey, load, store, writeImage}
+use Rattle.rules.specs.Runs.{Call, Init, Allocate, Free, Reallocate, Collect, Survey, Load, Store, WriteImage, Turn, step}
 use Rattle.rules.specs.Memory.{Memory, Sound, heapIn, AcceptedIn, stackFor, perform, turnIn, afterIn}
 use Rattle.rules.specs.Meaning.{Accepted}
 use Rattle.rules.proofs.Lists.{count-none}
@@ -62,7 +62,7 @@ none-used n = count-none isUsed n FREE refl
 
 -- a call that does not start the sum anew answers the change that it makes
 step-accounted : (c : Call) (stack : List ℕ) (h : Heap) → startsAnew c ≡ false → Accounted h (step c stack h)
-unfolding step allocate free reallocate collect survey load store placing collecting
+unfolding step allocate free reallocate collect survey load store writeImage placing collecting
 step-accounted (Init base) stack h e = absurd (true-not-false refl e)
 step-accounted (Allocate base bytes) stack h e = accounted-refused _ h [] _ (accounted-change h _ refl)
 step-accounted (Free base k) stack h e = accounted-refused _ h [] _ (accounted-change h _ refl)
@@ -71,6 +71,7 @@ step-accounted (Collect base roots) stack h e = accounted-refused _ h stack _ (a
 step-accounted (Survey base) stack h e = accounted-refused _ h [] _ (accounted-same h _ refl refl)
 step-accounted (Load base k i) stack h e = accounted-refused _ h [] _ (accounted-same h _ refl refl)
 step-accounted (Store base k i w) stack h e = accounted-refused _ h [] _ (accounted-same h _ refl refl)
+step-accounted (WriteImage base roots room) stack h e = accounted-refused _ h [] _ (accounted-same h _ refl refl)
 
 -- after an accepted call that starts it anew no block is used
 step-anew : (c : Call) (stack : List ℕ) (h : Heap) → startsAnew c ≡ true → Accepted (step c stack h) → 0 ≡ used (step c stack h .heap .entries)
@@ -83,6 +84,7 @@ step-anew (Collect base roots) stack h e z = absurd (true-not-false e refl)
 step-anew (Survey base) stack h e z = absurd (true-not-false e refl)
 step-anew (Load base k i) stack h e z = absurd (true-not-false e refl)
 step-anew (Store base k i w) stack h e z = absurd (true-not-false e refl)
+step-anew (WriteImage base roots room) stack h e z = absurd (true-not-false e refl)
 
 -- the three ways to count an answer: a refused one, one that adds its change, one that starts anew
 module _ (c : Call) (d : ℤ) where

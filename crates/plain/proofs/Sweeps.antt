@@ -116,6 +116,7 @@ module _ {p : Plain} {h : Heap} (r : Represents p h) where
       record {
         answer = rw (laid-used (r .laid), laid-used d, laid-objects d, e .rescans);
         heap = represents-other r _ _ refl (swept-long (m .last .entries) ∙ e .marks .long) d;
+        filled = λ _. refl;
       }
 
   pub collect-agrees : (base : ℕ) (roots stack : List ℕ) → Agrees (reply (Collect base roots) stack p) (collect base h roots stack)

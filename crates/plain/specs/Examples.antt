@@ -1,5 +1,5 @@
--- The worked examples 1 to 11, a chain and large objects, in heaps of 8, 12 or 16 blocks at base 4,096, computed on the plain list: each call's answer and the list it
--- leaves. And calls in a row.
+-- The worked examples 1 to 11, a chain, large objects and images, in heaps of 4 to 16 blocks at base 4,096, computed on the plain list: each call's answer, the list it
+-- leaves and what it writes into a buffer. And calls in a row.
 -- Assumes nothing.
 use mathlib.Core.Path.{_≡_, refl}
 use mathlib.Core.Bool.{false}
@@ -7,21 +7,24 @@ use mathlib.Core.List.{List, [], _∷_, _++_, map}
 use Prim.Native.Nat.{ℕ, _*_}
 use lib.IntN.{pos}
 use lib.ListN.{length, replicate, set}
-use Rattle.rules.specs.Tests.{tabulate}
+use Rattle.rules.specs.Tests.{count, tabulate}
 use Rattle.rules.specs.Bits.{bitOf, bitAt}
-use Rattle.rules.specs.Words.{number, bytesOf, wordAt, wordsOf}
+use Rattle.rules.specs.Words.{number, bytesOf, twoBytesOf, wordAt, wordsOf}
+use Rattle.rules.specs.Entries.{tableOf}
 use Rattle.rules.specs.Pointers.{addressOf, goodBase}
-use Rattle.rules.specs.Tables.{mayFollow, wellAfter, wellFormed}
+use Rattle.rules.specs.Tables.{mayFollow, wellAfter, wellFormed, used}
+use Rattle.rules.specs.Images.{section, sections}
 use Rattle.rules.specs.Planes.{planeBytes, entryIn, entriesIn, planes}
-use Rattle.rules.specs.Outcomes.{Answer, unlessRefused, onlyRefusal, placedAt, collectedTo, surveyed, loaded}
+use Rattle.rules.specs.Outcomes.{Answer, unlessRefused, onlyRefusal, placedAt, collectedTo, surveyed, loaded, writtenTo}
 use Rattle.rules.specs.Refusals.{firstOf, goodShape, wholeWords}
 use Rattle.rules.specs.Calls.{blocksFor, init}
-use Rattle.rules.specs.Runs.{Call, Init, Allocate, Free, Reallocate, Collect, Survey, Load, Store, Turn, step}
+use Rattle.rules.specs.Runs.{Call, Init, Allocate, Free, Reallocate, Collect, Survey, Load, Store, WriteImage, Turn, step}
 use Rattle.rules.specs.Memory.{Memory, memory, AcceptedIn, orRefused, perform}
 use Rattle.rules.specs.Examples.{minus}
 use Rattle.plain.specs.Objects.{Object, object, Plain, total, find, placeFrom, lowestGap, longestGap, nextStart, insert, remove, replace}
 use Rattle.plain.specs.Tracing.{isIn, ledTo, push, followTo, follow, followAll, emptyFor, empty, subtree, fromRootTo, fromRoots, goThrough, again, againFor, trace, among}
-use Rattle.plain.specs.Replies.{Reply, places, allocatedAt, onObject, named, movedInto, resized, collectedBy, loadedFrom, storedIn, reply, replies}
+use Rattle.plain.specs.Images.{entriesFrom, bytesOfAll, contents, imageOfList}
+use Rattle.plain.specs.Replies.{Reply, places, allocatedAt, onObject, named, movedInto, resized, collectedBy, loadedFrom, storedIn, imageIn, reply, replies, fillings}
 use Rattle.plain.specs.Refines.{fromInit}
 
 -- a call's reply, and what it should be
@@ -37,10 +40,14 @@ abbrev pub eight : List Object → Plain
 eight os = blocks 8 os
 
 abbrev pub exampleIn : ℕ → Reply → Answer → List Object → Example
-exampleIn n r a os = record { is = r; ought = record { answer = a; heap = blocks n os } }
+exampleIn n r a os = record { is = r; ought = record { answer = a; heap = blocks n os; filled = [] } }
 
 abbrev pub example : Reply → Answer → List Object → Example
 example r a os = exampleIn 8 r a os
+
+-- an image is written, and the list stays
+abbrev pub written : ℕ → Reply → List ℕ → List Object → Example
+written n r image os = record { is = r; ought = record { answer = writtenTo (length image); heap = blocks n os; filled = image } }
 
 -- b blocks from s on, all words zero
 abbrev pub zeros : ℕ → ℕ → Object
@@ -77,6 +84,38 @@ oldFull = zeros 0 1 ∷ zeros 1 4 ∷ zeros 5 1 ∷ zeros 6 1 ∷ zeros 7 1 ∷ 
 
 abbrev pub oldFreed : List Object
 oldFreed = zeros 0 1 ∷ zeros 5 1 ∷ zeros 6 1 ∷ zeros 7 1 ∷ []
+
+-- the image of an object of zeros at block 0 of four, with its address as a root: 33 bytes
+abbrev pub oneObject : List ℕ
+oneObject =
+    -- the base
+    1 ∷ 0 ∷ 0 ∷ 16 ∷ 0 ∷ 0
+    -- HEAD FREE FREE FREE
+    ∷ 1 ∷ 0 ∷ 1
+    -- one used block
+    ∷ 1 ∷ 0 ∷ replicate 16 0
+    -- one root
+    ++ 1 ∷ 0 ∷ 0 ∷ 16 ∷ 0 ∷ 0 ∷ []
+
+-- two blocks from block 1 on, with the address of block 4 as word 0, and behind a FREE block an object that holds 5
+abbrev pub apart : List Object
+apart = object 1 2 (set (set (replicate 8 0) 0 4160) 7 0x0102_0304) ∷ object 4 1 (set (replicate 4 0) 1 5) ∷ []
+
+-- the image of these in eight blocks, with two roots: 70 bytes
+abbrev pub twoObjects : List ℕ
+twoObjects =
+    -- the base
+    1 ∷ 0 ∷ 0 ∷ 16 ∷ 0 ∷ 0
+    -- FREE HEAD TAIL FREE, HEAD FREE FREE FREE
+    ∷ 2 ∷ 0 ∷ 36 ∷ 1
+    -- three used blocks
+    ∷ 3 ∷ 0 ∷ 64 ∷ 16 ∷ replicate 26 0 ++ 4 ∷ 3 ∷ 2 ∷ 1
+    ∷ 0 ∷ 0 ∷ 0 ∷ 0 ∷ 5 ∷ replicate 11 0
+    -- the addresses of blocks 1 and 2
+    ++ 2 ∷ 0 ∷ 16 ∷ 16 ∷ 0 ∷ 0 ∷ 32 ∷ 16 ∷ 0 ∷ 0 ∷ []
+
+abbrev pub twoRoots : List ℕ
+twoRoots = bytesOf 4112 ++ bytesOf 4128
 
 unfoldable pub examples : List Example
 examples =
@@ -125,16 +164,22 @@ examples =
     ∷ example (reply (Free 4096 1) [] (eight oldFull)) (placedAt 0 (minus 4)) oldFreed
     ∷ example (reply (Allocate 4096 64) [] (eight oldFreed)) (onlyRefusal 9) oldFreed
     ∷ example (reply (Survey 4096) [] (eight oldFreed)) (surveyed 4 4 4) oldFreed
+    -- images: into a buffer of so many bytes, and of one less; with roots that are no whole words
+    ∷ written 4 (reply (WriteImage 4096 (bytesOf 4096) 33) [] (blocks 4 (zeros 0 1 ∷ []))) oneObject (zeros 0 1 ∷ [])
+    ∷ exampleIn 4 (reply (WriteImage 4096 (bytesOf 4096) 32) [] (blocks 4 (zeros 0 1 ∷ []))) (onlyRefusal 10) (zeros 0 1 ∷ [])
+    ∷ written 8 (reply (WriteImage 4096 twoRoots 70) [] (eight apart)) twoObjects apart
+    ∷ example (reply (WriteImage 4096 twoRoots 69) [] (eight apart)) (onlyRefusal 10) apart
+    ∷ example (reply (WriteImage 4096 (5 ∷ twoRoots) 100) [] (eight apart)) (onlyRefusal 1) apart
     ∷ []
 
 -- there are so many
-pub examples-number : length examples ≡ 34
+pub examples-number : length examples ≡ 39
 unfolding examples
 examples-number = refl
 
 -- every example is as it should be
 pub examples-hold : map (λ (x : Example). x .is) examples ≡ map (λ (x : Example). x .ought) examples
-unfolding examples tabulate number bytesOf wordAt wordsOf addressOf goodBase wholeWords blocksFor total find placeFrom lowestGap longestGap nextStart insert remove replace isIn ledTo push followTo follow followAll emptyFor empty subtree fromRootTo fromRoots goThrough again againFor trace among places allocatedAt onObject named movedInto resized collectedBy reply
+unfolding examples tabulate number bytesOf wordAt wordsOf addressOf goodBase wholeWords blocksFor total find placeFrom lowestGap longestGap nextStart insert remove replace isIn ledTo push followTo follow followAll emptyFor empty subtree fromRootTo fromRoots goThrough again againFor trace among places allocatedAt onObject named movedInto resized collectedBy tableOf count used twoBytesOf section sections entriesFrom bytesOfAll contents imageOfList imageIn reply
 examples-hold = refl
 
 -- ---- calls in a row
@@ -199,3 +244,45 @@ runAnswers =
 pub run-answers : replies run twelve ≡ runAnswers
 unfolding filling ending runAnswers tabulate number bytesOf wordAt wordsOf addressOf goodBase wholeWords blocksFor total find placeFrom lowestGap longestGap nextStart insert remove replace isIn ledTo push followTo follow followAll emptyFor empty subtree fromRootTo fromRoots goThrough again againFor trace among places allocatedAt onObject named movedInto resized collectedBy loadedFrom storedIn reply replies
 run-answers = refl
+
+-- ---- images in a row
+
+-- the image of the one object that is allocated after an init
+pub one-object-run : fillings (fromInit 4096 (map bare (Allocate 4096 16 ∷ WriteImage 4096 (bytesOf 4096) 33 ∷ []))) (blocks 4 []) ≡ [] ∷ [] ∷ oneObject ∷ []
+unfolding bytesOf addressOf goodBase wholeWords blocksFor total placeFrom lowestGap insert places allocatedAt tableOf count used twoBytesOf section sections entriesFrom bytesOfAll contents imageOfList imageIn reply fillings
+one-object-run = refl
+
+-- Three objects, at blocks 0, 1 and 3, of which the first is freed: the first image has the other two. Then block 1 no longer holds the address of block 3, and a collection
+-- frees that: the last image has one. Two images are refused: into a buffer that is one byte too short, and with three bytes of roots.
+unfoldable pub imaging : List Turn
+imaging =
+    map bare
+    (Allocate runBase 16 ∷ Allocate runBase 17 ∷ Allocate runBase 1 ∷ Store runBase 1 0 (addressOf runBase 3) ∷ Store runBase 1 7 0x0102_0304 ∷ Free runBase 0
+    ∷ WriteImage runBase (bytesOf (addressOf runBase 1)) 66 ∷ WriteImage runBase (bytesOf (addressOf runBase 1)) 67 ∷ WriteImage runBase (1 ∷ 2 ∷ 3 ∷ []) 67
+    ∷ Store runBase 1 0 0 ∷ Collect runBase (bytesOf (addressOf runBase 1)) ∷ WriteImage runBase [] 47 ∷ [])
+
+abbrev pub imageRun : List Turn
+imageRun = fromInit runBase imaging
+
+unfoldable pub imageAnswers : List Answer
+imageAnswers =
+    onlyRefusal 0
+    ∷ placedAt 0 (pos 1) ∷ placedAt 1 (pos 2) ∷ placedAt 3 (pos 1) ∷ onlyRefusal 0 ∷ onlyRefusal 0 ∷ placedAt 0 (minus 1)
+    ∷ onlyRefusal 10 ∷ writtenTo 67 ∷ onlyRefusal 1
+    ∷ onlyRefusal 0 ∷ collectedTo 1 0 (minus 1) ∷ writtenTo 47 ∷ []
+
+-- FREE HEAD TAIL HEAD, and three used blocks, with a root
+abbrev pub firstImage : List ℕ
+firstImage = 1 ∷ 0 ∷ 0 ∷ 0 ∷ 0 ∷ 32 ∷ 3 ∷ 0 ∷ 100 ∷ 0 ∷ 0 ∷ 3 ∷ 0 ∷ 48 ∷ 0 ∷ 0 ∷ 32 ∷ replicate 24 0 ++ 4 ∷ 3 ∷ 2 ∷ 1 ∷ replicate 16 0 ++ 1 ∷ 0 ∷ 16 ∷ 0 ∷ 0 ∷ 32 ∷ []
+
+-- FREE HEAD TAIL FREE, and two used blocks, with none
+abbrev pub lastImage : List ℕ
+lastImage = 1 ∷ 0 ∷ 0 ∷ 0 ∷ 0 ∷ 32 ∷ 3 ∷ 0 ∷ 36 ∷ 0 ∷ 0 ∷ 2 ∷ 0 ∷ replicate 28 0 ++ 4 ∷ 3 ∷ 2 ∷ 1 ∷ 0 ∷ 0 ∷ []
+
+-- the other calls write nothing
+unfoldable pub imageFillings : List (List ℕ)
+imageFillings = replicate 8 [] ++ firstImage ∷ replicate 3 [] ++ lastImage ∷ []
+
+pub image-run : (replies imageRun twelve ≡ imageAnswers) × (fillings imageRun twelve ≡ imageFillings)
+unfolding imaging imageAnswers imageFillings tabulate number bytesOf wordAt wordsOf addressOf goodBase wholeWords blocksFor total find placeFrom lowestGap insert remove replace isIn ledTo push followTo follow followAll emptyFor empty subtree fromRootTo fromRoots goThrough again againFor trace among places allocatedAt onObject named collectedBy storedIn tableOf count used twoBytesOf section sections entriesFrom bytesOfAll contents imageOfList imageIn reply replies fillings
+image-run = (refl, refl)

@@ -1,6 +1,7 @@
 pub mod Objects
 pub mod Tracing
 pub mod Reaching
+pub mod Images
 pub mod Replies
 pub mod Refines
 pub mod Examples

@@ -1,5 +1,5 @@
 -- What the theorems of this crate say. From an accepted init of lent memory on, any calls in a row, refused ones among them, are answered as the plain list
--- answers them; what the list's collection keeps is what is reachable in it; and the used blocks are the sum of the changes that were answered
+-- answers them, images included; what the list's collection keeps is what is reachable in it; and the used blocks are the sum of the changes that were answered
 -- since the latest accepted init. How the table's bytes hold entries does not matter: any form will do that is faithful.
 -- Assumes nothing.
 use mathlib.Core.Path.{_≡_}
@@ -12,13 +12,14 @@ use lib.ListN.{length}
 use Rattle.rules.specs.Tests.{pick, both}
 use Rattle.rules.specs.Tables.{used}
 use Rattle.rules.specs.Forms.{Form, Faithful}
+use Rattle.rules.specs.Meaning.{AllBytes}
 use Rattle.rules.specs.Outcomes.{Answer}
-use Rattle.rules.specs.Runs.{Call, Init, Allocate, Free, Reallocate, Collect, Survey, Load, Store, Turn}
-use Rattle.rules.specs.Memory.{Memory, AcceptedIn, perform, turnIn, afterIn, answersIn}
+use Rattle.rules.specs.Runs.{Call, Init, Allocate, Free, Reallocate, Collect, Survey, Load, Store, WriteImage, Turn}
+use Rattle.rules.specs.Memory.{Memory, AcceptedIn, perform, turnIn, afterIn, answersIn, filledIn}
 use Rattle.plain.specs.Objects.{Object, Plain}
 use Rattle.plain.specs.Tracing.{trace, among}
 use Rattle.plain.specs.Reaching.{Keeps}
-use Rattle.plain.specs.Replies.{replies, left}
+use Rattle.plain.specs.Replies.{replies, fillings, left}
 
 -- an init, and then the calls
 abbrev pub fromInit : ℕ → List Turn → List Turn
@@ -31,6 +32,12 @@ AnswersAsList =
     (f : Form) → Faithful f → (base : ℕ) (m : Memory) (p : Plain) (ts : List Turn)
     → AcceptedIn (perform f (Init base) [] m) → p .size ≡ length (f .read (m .table))
     → answersIn f (fromInit base ts) m ≡ replies (fromInit base ts) p
+
+-- And so is what they write into buffers: an image is that of the list's objects and of the roots that were handed in. The pool's bytes are bytes; nothing else is asked of it.
+unfoldable pub ImagesAsList : Type 0
+ImagesAsList =
+    (f : Form) → Faithful f → (base : ℕ) (m : Memory) → AllBytes (m .pool) → AcceptedIn (perform f (Init base) [] m)
+    → (p : Plain) (ts : List Turn) → p .size ≡ length (f .read (m .table)) → filledIn f (fromInit base ts) m ≡ fillings (fromInit base ts) p
 
 -- A collection of a plain list keeps exactly the reachable objects, whatever calls have made the list of an empty one, and with any mark stack.
 unfoldable pub ListKeepsReachable : Type 0
@@ -49,6 +56,7 @@ startsAnew (Collect base roots) = false
 startsAnew (Survey base) = false
 startsAnew (Load base k i) = false
 startsAnew (Store base k i w) = false
+startsAnew (WriteImage base roots room) = false
 
 -- the sum d of the changes, one answer further: an accepted call that starts anew sets it to 0, and every other adds its change
 unfoldable pub counted : Call → Answer → ℤ → ℤ

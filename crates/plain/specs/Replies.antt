@@ -10,25 +10,27 @@ use lib.ListN.{length, getD, set, take, replicate}
 use Rattle.rules.specs.Tests.{pick, both}
 use Rattle.rules.specs.Words.{wordsOf}
 use Rattle.rules.specs.Pointers.{goodBase}
-use Rattle.rules.specs.Outcomes.{Answer, onlyRefusal, placedAt, collectedTo, surveyed, loaded}
+use Rattle.rules.specs.Outcomes.{Answer, onlyRefusal, placedAt, collectedTo, surveyed, loaded, writtenTo}
 use Rattle.rules.specs.Refusals.{wholeWords}
 use Rattle.rules.specs.Calls.{blocksFor}
-use Rattle.rules.specs.Runs.{Call, Init, Allocate, Free, Reallocate, Collect, Survey, Load, Store, Turn}
+use Rattle.rules.specs.Runs.{Call, Init, Allocate, Free, Reallocate, Collect, Survey, Load, Store, WriteImage, Turn}
 use Rattle.plain.specs.Objects.{Object, object, Plain, padded, total, find, placeFrom, lowestGap, longestGap, nextStart, insert, remove, replace}
 use Rattle.plain.specs.Tracing.{Traced, trace, among}
+use Rattle.plain.specs.Images.{imageOfList}
 
--- an answer, and the heap that is left
+-- an answer, the heap that is left, and what is written into a buffer that was lent for it
 pub record Reply : Type 0 where
   pub answer : Answer
   pub heap : Plain
+  pub filled : List ℕ
 
 -- the heap with these objects instead
 abbrev pub becomes : Answer → Plain → List Object → Reply
-becomes a p os = record { answer = a; heap = record { size = p .size; objects = os } }
+becomes a p os = record { answer = a; heap = record { size = p .size; objects = os }; filled = [] }
 
 -- a refusal: nothing but its number is answered, and nothing is changed
 abbrev pub refuse : ℕ → Plain → Reply
-refuse r p = record { answer = onlyRefusal r; heap = p }
+refuse r p = record { answer = onlyRefusal r; heap = p; filled = [] }
 
 -- refusal r if the test holds, else what comes next
 abbrev pub refuseIf : Bool → ℕ → Plain → Reply → Reply
@@ -81,6 +83,10 @@ storedIn p i w o =
     refuseIf (leb (4 * o .blocks) i) 8 p
     (becomes (onlyRefusal 0) p (replace (object (o .start) (o .blocks) (set (o .words) i (w % 2 ^ 32))) (p .objects)))
 
+-- Write an image into a buffer of `room` bytes: 10 if that is shorter
+unfoldable pub imageIn : Plain → ℕ → List ℕ → Reply
+imageIn p room image = refuseIf (ltb room (length image)) 10 p (record { answer = writtenTo (length image); heap = p; filled = image })
+
 -- 1: the base does not suit the blocks
 abbrev pub misplaced : ℕ → Plain → Bool
 misplaced base p = not (goodBase base (p .size))
@@ -109,11 +115,20 @@ reply (Survey base) stack p =
     (becomes (surveyed (total (p .objects)) (length (p .objects)) (longestGap (p .size) 0 (p .objects))) p (p .objects))
 reply (Load base k i) stack p = refuseIf (misplaced base p) 1 p (named p k (loadedFrom p i))
 reply (Store base k i w) stack p = refuseIf (misplaced base p) 1 p (named p k (storedIn p i w))
+reply (WriteImage base roots room) stack p =
+    refuseIf (not (both (goodBase base (p .size)) (wholeWords roots))) 1 p
+    (refuseIf (ltb 4096 (length roots / 4)) 3 p
+    (imageIn p room (imageOfList base p roots)))
 
 -- the answers to calls in a row: each finds the list as the one before left it
 unfoldable pub replies : List Turn → Plain → List Answer
 replies [] p = []
 replies (t ∷ ts) p = reply (t .call) (t .stack) p .answer ∷ replies ts (reply (t .call) (t .stack) p .heap)
+
+-- what they write into buffers, in order
+unfoldable pub fillings : List Turn → Plain → List (List ℕ)
+fillings [] p = []
+fillings (t ∷ ts) p = reply (t .call) (t .stack) p .filled ∷ fillings ts (reply (t .call) (t .stack) p .heap)
 
 -- the list after the calls
 unfoldable pub left : List Turn → Plain → Plain
