@@ -96,9 +96,9 @@ module _ (base base′ room room′ : ℕ) (roots roots′ : List ℕ) (h h′ :
       life-same = record {
         entries = e;
         bytes = λ k held j l.
-            sym (said .block-bytes k held j l) ∙ at (10 + length es / 4 + 16 * used (take k es) + j)
+            sym (said .block-bytes k held j (omega (arith, l))) ∙ at (10 + length es / 4 + 16 * used (take k es) + j)
             ∙ ap (λ (es : List ℕ). getD image′ (10 + length es / 4 + 16 * used (take k es) + j) 0) e
-            ∙ said′ .block-bytes k (subst (λ (es : List ℕ). entryAt es k ≢ FREE) e held) j l;
+            ∙ said′ .block-bytes k (subst (λ (es : List ℕ). entryAt es k ≢ FREE) e held) j (omega (arith, l));
       }
 
   -- what lives is the same

@@ -106,7 +106,7 @@ module _ (base : ℕ) (h : Heap) (roots : List ℕ) (room : ℕ) where
           table-count = table-count;
           table-bytes = table-bytes;
           block-count = block-count;
-          block-bytes = block-bytes;
+          block-bytes = λ k held j l. block-bytes k held j (omega (arith, l));
           root-count = root-count;
           root-bytes = root-bytes;
         })

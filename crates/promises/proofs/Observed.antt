@@ -10,27 +10,34 @@ use Prim.Native.Nat.{ℕ, zero, suc, _+_, _-_, _*_, _/_, _%_, _≤_, _<_}
 use native.Mathlib.Decide.{decLt}
 use native.Mathlib.Omega.{arith}
 use lib.IntN.{ℤ, pos, negℤ, subℕ, _+ℤ_, natAbs}
-use lib.ListN.{getD}
+use lib.ListN.{length, getD, set}
+use lib.Seq.{getD-set-other}
 use Rattle.rules.specs.Words.{number, wordAt, wordsOf}
-use Rattle.rules.specs.Tables.{used, objects}
+use Rattle.rules.specs.Entries.{FREE}
+use Rattle.rules.specs.Tables.{entryAt, used, objects}
 use Rattle.rules.specs.Pointers.{targetOf, leadsTo}
 use Rattle.rules.specs.Meaning.{Points, Leads, Longest, ShapeInBytes, Passed, Accepted}
 use Rattle.rules.specs.Outcomes.{Heap, Answer, Outcome, placement, collection, findings, onlyRefusal, placedAt, collectedTo, surveyed, loaded}
 use Rattle.rules.specs.Reach.{Reachable}
 use Rattle.rules.specs.Calls.{blocksFor, init, allocate, free, reallocate, collect, survey, load, store, writeImage}
-use Rattle.rules.specs.Runs.{Call, Init, Allocate, Free, Reallocate, Collect, Survey, Load, Store, step}
+use Rattle.rules.specs.Runs.{Call, Init, Allocate, Free, Reallocate, Collect, Survey, Load, Store, WriteImage, step}
 use Rattle.rules.specs.Forms.{Form, Faithful}
-use Rattle.rules.specs.Planes.{spareFree, planes, heapAt}
+use Rattle.rules.specs.Planes.{entriesIn, spareFree, planes, heapAt}
 use Rattle.rules.specs.Memory.{Memory, memory, heapIn, lengthsFit, Result, AcceptedIn, readsTable, perform}
 use Rattle.rules.proofs.Words.{wordAt-same}
 use Rattle.rules.proofs.Refusals.{true-not-false}
 use Rattle.rules.proofs.Tables.{entry-inside, well-says, run-shorter}
 use Rattle.rules.proofs.Pointers.{points-one, leads-one}
+use Rattle.rules.proofs.Matching.{Matching}
+use Rattle.rules.proofs.Twice.{twin-load}
 use Rattle.keeping.proofs.Owners.{reachable-head}
 use Rattle.promises.specs.Conditions.{when, First, RoomAfter, NoFit, ofInit, ofAllocate, ofFree, ofReallocate, ofCollect, ofSurvey, ofWord, ofWriteImage}
 use Rattle.promises.specs.Promises.{Object, blocksOf, Same, Counts, Surveyed}
 use Rattle.promises.specs.Determined.{partsOf}
 use Rattle.promises.proofs.Promised.{promises}
+use Rattle.promises.specs.Images.{SameLife}
+use Rattle.promises.proofs.Imaging.{passed}
+use Rattle.promises.proofs.Images.{image-says-all}
 use Rattle.promises.proofs.Bytes.{on-bytes}
 use Rattle.promises.proofs.Determined.{first-one, refused-one}
 use Rattle.promises.proofs.Whole.{whole}
@@ -437,3 +444,46 @@ module _ (base : ℕ) (h : Heap) where
   pub store-answer : (k i w : ℕ) → Accepted (store base h k i w) → store base h k i w .answer ≡ onlyRefusal 0
   unfolding step partsOf
   store-answer k i w accepted = whole .only-parts (Store base k i w) [] h ∙ ap onlyRefusal accepted
+
+-- ---- images
+
+-- what lives in two heaps is the same: their pools match
+life-matches : (base base′ room room′ : ℕ) (roots roots′ : List ℕ) (h h′ : Heap) → Accepted (writeImage base h roots room) → Accepted (writeImage base′ h′ roots′ room′)
+    → SameLife h h′ → Matching (h .entries) (h .pool) (h′ .pool)
+life-matches base base′ room room′ roots roots′ h h′ z z′ life = record {
+  long =
+      let n : length (h .entries) ≡ length (h′ .entries) = ap (λ (es : List ℕ). length es) (life .entries) in
+      omega (arith, n, passed base h roots room z .0 .shape .pool, passed base′ h′ roots′ room′ z′ .0 .shape .pool);
+  bytes = λ i held. let e : 16 * (i / 16) + i % 16 ≡ i = omega arith in rw e at (life .bytes (i / 16) held (i % 16) (omega arith));
+}
+
+-- heaps with the same image answer every load alike
+pub image-loads : (t t′ base base′ room room′ : ℕ) (roots roots′ : List ℕ) (m m′ : Memory)
+    → let c : Call = WriteImage base roots room in
+    let c′ : Call = WriteImage base′ roots′ room′ in
+    AcceptedIn (perform (planes t) c [] m) → AcceptedIn (perform (planes t′) c′ [] m′) → perform (planes t) c [] m .filled ≡ perform (planes t′) c′ [] m′ .filled
+    → (k i : ℕ) → load base (heapIn (planes t) m) k i .answer ≡ load base′ (heapIn (planes t′) m′) k i .answer
+unfolding step
+image-loads t t′ base base′ room room′ roots roots′ m m′ z z′ same k i =
+    let (_, eb, er, life) = image-says-all t t′ base base′ room room′ roots roots′ m m′ z z′ .0 same in
+    let x = on-bytes .accepted-bytes (planes t) (WriteImage base roots room) [] m z .0 in
+    let x′ = on-bytes .accepted-bytes (planes t′) (WriteImage base′ roots′ room′) [] m′ z′ .0 in
+    let h = heapIn (planes t) m in
+    let h′ = heapIn (planes t′) m′ in
+    rw (← eb, ← life .entries) (twin-load base (h .entries) (h .pool) (h′ .pool) (life-matches base base′ room room′ roots roots′ h h′ x x′ life) k i .answer)
+
+-- a byte of a FREE block is in no image
+pub free-byte-unseen : (t base room : ℕ) (roots pool table : List ℕ) (i v : ℕ)
+    → let c : Call = WriteImage base roots room in
+    AcceptedIn (perform (planes t) c [] (memory pool table)) → AcceptedIn (perform (planes t) c [] (memory (set pool i v) table)) → entryAt (entriesIn t table) (i / 16) ≡ FREE
+    → perform (planes t) c [] (memory pool table) .filled ≡ perform (planes t) c [] (memory (set pool i v) table) .filled
+free-byte-unseen t base room roots pool table i v z z′ free =
+    image-says-all t t base base room room roots roots (memory pool table) (memory (set pool i v) table) z z′ .1 (
+      refl,
+      refl,
+      refl,
+      record {
+        entries = refl;
+        bytes = λ k held j l. sym (getD-set-other pool i (16 * k + j) v 0 (λ e. let q : (16 * k + j) / 16 ≡ k = omega arith in held (rw (sym q ∙ ap (λ (n : ℕ). n / 16) e) free)));
+      },
+    )

@@ -206,7 +206,7 @@ module _ (base : ℕ) (h : Heap) (roots : List ℕ) (long : length (h .pool) ≡
   -- the sections, one before all that follows it
   one-by-one : imageOf base h roots ≡ one-word ++ (table ++ (blocks ++ words))
   unfolding imageOf sections
-  one-by-one = rw (append-assoc (one-word ++ table) blocks words, append-assoc one-word table (blocks ++ words))
+  one-by-one = append-assoc (one-word ++ table) blocks words ∙ append-assoc one-word table (blocks ++ words)
 
   pub in-base : (i : ℕ) → i < 6 → getD (imageOf base h roots) i 0 ≡ getD one-word i 0
   in-base i l = rw one-by-one (List·getD-append one-word (table ++ (blocks ++ words)) 0 i (omega (arith, word-long)))
