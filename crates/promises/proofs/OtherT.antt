@@ -8,14 +8,14 @@ use native.Mathlib.Decide.{ℕ-discrete}
 use native.Mathlib.Omega.{arith}
 use lib.ListN.{length}
 use borrow.Author.Tests.{eq-eqb, ne-eqb}
-use Rattle.rules.specs.Outcomes.{Answer, onlyRefusal}
-use Rattle.rules.specs.Runs.{Call}
+use Rattle.rules.specs.Outcomes.{onlyRefusal}
+use Rattle.rules.specs.Runs.{Call, Turn}
 use Rattle.rules.specs.Forms.{Form}
 use Rattle.rules.specs.Planes.{planes}
-use Rattle.rules.specs.Memory.{Memory, heapIn, Result, result, stackFor, perform, turnIn, afterIn, answersIn}
+use Rattle.rules.specs.Memory.{Memory, heapIn, Result, result, stackFor, perform, turnIn, afterIn, answersIn, filledIn}
 use Rattle.rules.proofs.Memory.{kept-by}
 use Rattle.rules.proofs.Sizes.{step-keeps}
-use Rattle.promises.specs.OtherT.{TurnAt, performAt, afterAt, answersAt, ofT, othersRefused, OtherTIsRefused}
+use Rattle.promises.specs.OtherT.{TurnAt, performAt, afterAt, answersAt, filledAt, ofT, othersAs, OtherTIsRefused}
 use Rattle.promises.proofs.Bytes.{on-bytes, pool-of}
 
 -- ---- one call
@@ -38,15 +38,15 @@ pool-kept f c stack m n size =
 -- ---- lists of calls
 
 -- the place of a call that is given this t
-answered-here : (t : ℕ) (x : TurnAt) (xs : List TurnAt) (a : Answer) (given : List Answer) → x .t ≡ t → othersRefused t (x ∷ xs) (a ∷ given) ≡ a ∷ othersRefused t xs given
-unfolding othersRefused
-answered-here t x xs a given e = rw (eq-eqb (x .t) t e)
+own-here : {A : Type 0} (other : A) (t : ℕ) (x : TurnAt) (xs : List TurnAt) (a : A) (given : List A) → x .t ≡ t → othersAs other t (x ∷ xs) (a ∷ given) ≡ a ∷ othersAs other t xs given
+unfolding othersAs
+own-here other t x xs a given e = rw (eq-eqb (x .t) t e)
 
 -- and of one that is given another
-refused-here : (t : ℕ) (x : TurnAt) (xs : List TurnAt) (given : List Answer) → x .t ≢ t → othersRefused t (x ∷ xs) given ≡ onlyRefusal 1 ∷ othersRefused t xs given
-unfolding othersRefused
-refused-here t x xs [] other = refl
-refused-here t x xs (a ∷ given) other = rw (ne-eqb (x .t) t other)
+other-here : {A : Type 0} (other : A) (t : ℕ) (x : TurnAt) (xs : List TurnAt) (given : List A) → x .t ≢ t → othersAs other t (x ∷ xs) given ≡ other ∷ othersAs other t xs given
+unfolding othersAs
+other-here other t x xs [] n = refl
+other-here other t x xs (a ∷ given) n = rw (ne-eqb (x .t) t n)
 
 -- a call that is given another t, in a list
 other-at : (t : ℕ) (m : Memory) (x : TurnAt) → length (m .pool) ≡ 64 * t → x .t ≢ t → performAt x m ≡ result (onlyRefusal 1) m (stackFor (x .turn .call) (x .turn .stack))
@@ -56,17 +56,45 @@ other-at t m x size other = one-call t (x .t) (x .turn .call) (x .turn .stack) m
 own-size : (t : ℕ) (m : Memory) (x : TurnAt) → length (m .pool) ≡ 64 * t → length (turnIn (planes t) (x .turn) m .memory .pool) ≡ 64 * t
 own-size t m x size = pool-kept (planes t) (x .turn .call) (x .turn .stack) m (64 * t) size
 
-answers-at : (t : ℕ) (m : Memory) (xs : List TurnAt) → length (m .pool) ≡ 64 * t → answersAt xs m ≡ othersRefused t xs (answersIn (planes t) (ofT t xs) m)
-unfolding answersAt answersIn ofT othersRefused
-answers-at t m [] size = refl
-answers-at t m (x ∷ xs) size = go (λ next long. answers-at t next xs long) (ℕ-discrete (x .t) t)
-  where
-    go : ((next : Memory) → length (next .pool) ≡ 64 * t → answersAt xs next ≡ othersRefused t xs (answersIn (planes t) (ofT t xs) next)) → Dec (x .t ≡ t)
-        → answersAt (x ∷ xs) m ≡ othersRefused t (x ∷ xs) (answersIn (planes t) (ofT t (x ∷ xs)) m)
-    go rest (yes e) =
-        let own = turnIn (planes t) (x .turn) m in
-        rw (eq-eqb (x .t) t e, answered-here t x xs (own .answer) (answersIn (planes t) (ofT t xs) (own .memory)) e, e) (ap (λ (z : List Answer). own .answer ∷ z) (rest (own .memory) (own-size t m x size)))
-    go rest (no other) = rw (ne-eqb (x .t) t other, other-at t m x size other, rest m size) (sym (refused-here t x xs (answersIn (planes t) (ofT t xs) m) other))
+-- the calls that are given this t, with one more of them, and with one that is given another
+own-turn : (t : ℕ) (x : TurnAt) (xs : List TurnAt) → x .t ≡ t → x .turn ∷ ofT t xs ≡ ofT t (x ∷ xs)
+unfolding ofT
+own-turn t x xs e = rw (eq-eqb (x .t) t e)
+
+other-turn : (t : ℕ) (x : TurnAt) (xs : List TurnAt) → x .t ≢ t → ofT t xs ≡ ofT t (x ∷ xs)
+unfolding ofT
+other-turn t x xs n = rw (ne-eqb (x .t) t n)
+
+-- a part of each result, where a refusal by 1 has `other`: in a list whose calls have each its own t, and in one at a single t
+module _ {A : Type 0} (part : Result → A) (other : A) (each : List TurnAt → Memory → List A) (single : Form → List Turn → Memory → List A)
+    (refused-part : (m : Memory) (stack : List ℕ) → part (result (onlyRefusal 1) m stack) ≡ other)
+    (each-none : (m : Memory) → each [] m ≡ []) (each-next : (x : TurnAt) (xs : List TurnAt) (m : Memory) → each (x ∷ xs) m ≡ part (performAt x m) ∷ each xs (performAt x m .memory))
+    (single-next : (f : Form) (y : Turn) (ys : List Turn) (m : Memory) → single f (y ∷ ys) m ≡ part (turnIn f y m) ∷ single f ys (turnIn f y m .memory)) where
+  parts-at : (t : ℕ) (m : Memory) (xs : List TurnAt) → length (m .pool) ≡ 64 * t → each xs m ≡ othersAs other t xs (single (planes t) (ofT t xs) m)
+  unfolding ofT othersAs
+  parts-at t m [] size = each-none m
+  parts-at t m (x ∷ xs) size = go (λ next long. parts-at t next xs long) (ℕ-discrete (x .t) t)
+    where
+      go : ((next : Memory) → length (next .pool) ≡ 64 * t → each xs next ≡ othersAs other t xs (single (planes t) (ofT t xs) next)) → Dec (x .t ≡ t)
+          → each (x ∷ xs) m ≡ othersAs other t (x ∷ xs) (single (planes t) (ofT t (x ∷ xs)) m)
+      go rest (yes e) =
+          let own = turnIn (planes t) (x .turn) m in
+          let there : performAt x m ≡ own = ap (λ (t : ℕ). turnIn (planes t) (x .turn) m) e in
+          each-next x xs m ∙ ap (λ (r : Result). part r ∷ each xs (r .memory)) there ∙ ap (λ (z : List A). part own ∷ z) (rest (own .memory) (own-size t m x size))
+          ∙ sym (own-here other t x xs (part own) (single (planes t) (ofT t xs) (own .memory)) e) ∙ ap (othersAs other t (x ∷ xs)) (sym (single-next (planes t) (x .turn) (ofT t xs) m))
+          ∙ ap (λ (ys : List Turn). othersAs other t (x ∷ xs) (single (planes t) ys m)) (own-turn t x xs e)
+      go rest (no n) =
+          each-next x xs m ∙ ap (λ (r : Result). part r ∷ each xs (r .memory)) (other-at t m x size n) ∙ ap (λ (a : A). a ∷ each xs m) (refused-part m (stackFor (x .turn .call) (x .turn .stack)))
+          ∙ ap (λ (z : List A). other ∷ z) (rest m size) ∙ sym (other-here other t x xs (single (planes t) (ofT t xs) m) n)
+          ∙ ap (λ (ys : List Turn). othersAs other t (x ∷ xs) (single (planes t) ys m)) (other-turn t x xs n)
+
+answers-at : (t : ℕ) (m : Memory) (xs : List TurnAt) → length (m .pool) ≡ 64 * t → answersAt xs m ≡ othersAs (onlyRefusal 1) t xs (answersIn (planes t) (ofT t xs) m)
+unfolding answersAt answersIn
+answers-at = parts-at (λ (r : Result). r .answer) (onlyRefusal 1) answersAt answersIn (λ m stack. refl) (λ m. refl) (λ x xs m. refl) (λ f y ys m. refl)
+
+filled-at : (t : ℕ) (m : Memory) (xs : List TurnAt) → length (m .pool) ≡ 64 * t → filledAt xs m ≡ othersAs [] t xs (filledIn (planes t) (ofT t xs) m)
+unfolding filledAt filledIn
+filled-at = parts-at (λ (r : Result). r .filled) [] filledAt filledIn (λ m stack. refl) (λ m. refl) (λ x xs m. refl) (λ f y ys m. refl)
 
 after-at : (t : ℕ) (m : Memory) (xs : List TurnAt) → length (m .pool) ≡ 64 * t → afterAt xs m ≡ afterIn (planes t) (ofT t xs) m
 unfolding afterAt afterIn ofT
@@ -79,4 +107,4 @@ after-at t m (x ∷ xs) size = go (λ next long. after-at t next xs long) (ℕ-d
     go rest (no other) = rw (ne-eqb (x .t) t other, other-at t m x size other) (rest m size)
 
 pub other-t-is-refused : OtherTIsRefused
-other-t-is-refused = record { one-call = one-call; answers = answers-at; bytes = after-at }
+other-t-is-refused = record { one-call = one-call; answers = answers-at; filled = filled-at; bytes = after-at }

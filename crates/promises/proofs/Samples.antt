@@ -23,9 +23,9 @@ use Rattle.rules.specs.Refusals.{firstOf, goodShape, wholeWords}
 use Rattle.rules.specs.Reach.{Reachable, root, edge}
 use Rattle.rules.specs.Marking.{pushed, visitTo, visit, walkWords, walk, drainFor, drain, trace, rootTo, markRoot, markRoots, passBlock, passFrom, pass, rescanFor, rescan, markAll, sweptEntry, freeingAfter, sweepFrom, sweep}
 use Rattle.rules.specs.Calls.{blocksFor, taken, placing, init, allocate, freed, free, shrunk, grown, moved, movesTo, wayToGrow, wayTo, along, reallocate, collecting, collect, survey, load, store}
-use Rattle.rules.specs.Runs.{Call, Init, Allocate, Free, Reallocate, Collect, Survey, Load, Store, step, answers}
+use Rattle.rules.specs.Runs.{Call, Init, Allocate, Free, Reallocate, Collect, Survey, Load, Store, WriteImage, step, answers}
 use Rattle.rules.specs.Planes.{planeBytes, entryIn, entriesIn, spare, spareFree, planes}
-use Rattle.rules.specs.Memory.{memory, Sound, result, AcceptedIn, perform, afterIn}
+use Rattle.rules.specs.Memory.{memory, Sound, result, AcceptedIn, perform, afterIn, filledIn}
 use Rattle.rules.proofs.Planes.{length-entriesIn}
 use Rattle.rules.proofs.Memory.{answers-in}
 use Rattle.rules.proofs.Tables.{first-lowest, longest-says, le-run, well-says, extent-of}
@@ -33,7 +33,7 @@ use Rattle.rules.proofs.Pointers.{into-used}
 use Rattle.rules.proofs.Marking.{head-inside}
 use Rattle.promises.specs.Conditions.{First, RoomAfter, ofAllocate, ofFree, ofReallocate, ofCollect, ofWord}
 use Rattle.promises.specs.Promises.{Object, blocksOf, Surveyed}
-use Rattle.promises.specs.OtherT.{TurnAt, turnAt, afterAt, answersAt, ofT, othersRefused}
+use Rattle.promises.specs.OtherT.{TurnAt, turnAt, afterAt, answersAt, filledAt, ofT, othersAs}
 use Rattle.promises.specs.Samples.{sampleBase, sampleTable, samplePool, sampleHeap, sampleMemory, sampleRoots, sampleStack}
 use Rattle.promises.proofs.Promised.{promises}
 use Rattle.promises.proofs.Bytes.{on-bytes}
@@ -291,13 +291,18 @@ abbrev turns : List TurnAt
 turns = turnAt 3 (Store base 2 11 4294967295) [] ∷ turnAt 4 (Free base 2) [] ∷ turnAt 18446744073709551615 (Init base) [] ∷ turnAt 3 (Load base 2 11) [] ∷ []
 
 pub turns-answers : answersAt turns sampleMemory ≡ onlyRefusal 0 ∷ onlyRefusal 1 ∷ onlyRefusal 1 ∷ loaded 4294967295 ∷ []
-unfolding ofT othersRefused answers step
+unfolding ofT othersAs answers step
 turns-answers =
     other-t-is-refused .answers 3 sampleMemory turns (computed .shape .size)
-    ∙ ap (othersRefused 3 turns)
+    ∙ ap (othersAs (onlyRefusal 1) 3 turns)
     (answers-in (planes 3) (on-bytes .planes-faithful 3) (ofT 3 turns) sampleMemory (computed .sound)
     ∙ ap (λ (a : Answer). a ∷ load base (store base h 2 11 4294967295 .heap) 2 11 .answer ∷ []) (store-answer base h 2 11 4294967295 (computed .stores))
     ∙ ap (λ (a : Answer). onlyRefusal 0 ∷ a ∷ []) stored-back)
+
+-- an image with a t of 4 writes nothing
+pub turns-filled : filledAt (turnAt 4 (WriteImage base sampleRoots 4096) [] ∷ []) sampleMemory ≡ [] ∷ []
+unfolding ofT othersAs filledIn
+turns-filled = other-t-is-refused .filled 3 sampleMemory (turnAt 4 (WriteImage base sampleRoots 4096) [] ∷ []) (computed .shape .size)
 
 -- the two alone leave every byte
 pub turns-bytes : afterAt (turnAt 4 (Free base 2) [] ∷ turnAt 18446744073709551615 (Init base) [] ∷ []) sampleMemory ≡ sampleMemory

@@ -11,7 +11,7 @@ use Rattle.rules.specs.Tests.{pick}
 use Rattle.rules.specs.Outcomes.{Answer, onlyRefusal}
 use Rattle.rules.specs.Runs.{Call, Turn}
 use Rattle.rules.specs.Planes.{planes}
-use Rattle.rules.specs.Memory.{Memory, Result, result, stackFor, perform, turnIn, afterIn, answersIn}
+use Rattle.rules.specs.Memory.{Memory, Result, result, stackFor, perform, turnIn, afterIn, answersIn, filledIn}
 
 -- a call, the mark stack that is lent to it, and the t that it is given
 pub record TurnAt : Type 0 where
@@ -35,23 +35,29 @@ unfoldable pub answersAt : List TurnAt → Memory → List Answer
 answersAt [] m = []
 answersAt (x ∷ xs) m = performAt x m .answer ∷ answersAt xs (performAt x m .memory)
 
+-- what the calls wrote into buffers, in order
+unfoldable pub filledAt : List TurnAt → Memory → List (List ℕ)
+filledAt [] m = []
+filledAt (x ∷ xs) m = performAt x m .filled ∷ filledAt xs (performAt x m .memory)
+
 -- the calls that are given this t, in order
 unfoldable pub ofT : ℕ → List TurnAt → List Turn
 ofT t [] = []
 ofT t (x ∷ xs) = pick (eqb (x .t) t) (x .turn ∷ ofT t xs) (ofT t xs)
 
--- what was answered to the calls that are given this t, each at its place, and refusal 1 at the place of every other
-unfoldable pub othersRefused : ℕ → List TurnAt → List Answer → List Answer
-othersRefused t [] given = []
-othersRefused t (x ∷ xs) [] = onlyRefusal 1 ∷ othersRefused t xs []
-othersRefused t (x ∷ xs) (a ∷ given) = pick (eqb (x .t) t) (a ∷ othersRefused t xs given) (onlyRefusal 1 ∷ othersRefused t xs (a ∷ given))
+-- what was given for the calls that are given this t, each at its place, and `other` at the place of every other call
+unfoldable pub othersAs : {A : Type 0} → A → ℕ → List TurnAt → List A → List A
+othersAs other t [] given = []
+othersAs other t (x ∷ xs) [] = other ∷ othersAs other t xs []
+othersAs other t (x ∷ xs) (a ∷ given) = pick (eqb (x .t) t) (a ∷ othersAs other t xs given) (other ∷ othersAs other t xs (a ∷ given))
 
 pub record OtherTIsRefused : Type 0 where
   -- a call that is given another t is refused by 1, whatever the table holds and however long it is, and leaves every byte
   pub one-call : (t t′ : ℕ) (c : Call) (stack : List ℕ) (m : Memory) → length (m .pool) ≡ 64 * t → t′ ≢ t
       → perform (planes t′) c stack m ≡ result (onlyRefusal 1) m (stackFor c stack)
-  -- In a list of calls the others are answered as if such calls were not there, and leave the same bytes. With this every statement over lists of calls at one t, such as
+  -- In a list of calls the others are answered as if such calls were not there, fill buffers alike, and leave the same bytes. With this every statement over lists of calls at one t, such as
   -- Noninterference and AnswersAsList, says as much of lists in which calls are given any t: it holds of those that are given the heap's, and the rest are refused.
   pub answers : (t : ℕ) (m : Memory) (xs : List TurnAt) → length (m .pool) ≡ 64 * t
-      → answersAt xs m ≡ othersRefused t xs (answersIn (planes t) (ofT t xs) m)
+      → answersAt xs m ≡ othersAs (onlyRefusal 1) t xs (answersIn (planes t) (ofT t xs) m)
+  pub filled : (t : ℕ) (m : Memory) (xs : List TurnAt) → length (m .pool) ≡ 64 * t → filledAt xs m ≡ othersAs [] t xs (filledIn (planes t) (ofT t xs) m)
   pub bytes : (t : ℕ) (m : Memory) (xs : List TurnAt) → length (m .pool) ≡ 64 * t → afterAt xs m ≡ afterIn (planes t) (ofT t xs) m
