@@ -1,15 +1,17 @@
 -- Bits of numbers and of bytes: what and, or, not and shifts make of a bit, and that a number is its bits.
 -- Assumes nothing.
 use mathlib.Core.Path.{_≡_, sym, ap, _∙_}
+use mathlib.Core.Logic.{_≢_}
 use mathlib.Core.List.{List}
 use Prim.Native.Nat.{ℕ, zero, suc, _+_, _-_, _*_, _/_, _%_, _^_, _≤_, _<_, min, max}
-use native.Mathlib.Nat.{lt-of-lt-of-le, pow-suc, pow-succ', one-le-pow, div-div-eq-div-mul, zero-div, div-eq-of-lt, le-div-iff-mul-le, div-lt-iff-lt-mul}
+use native.Mathlib.Nat.{lt-of-lt-of-le, mod-lt, pow-suc, pow-succ', one-le-pow, div-div-eq-div-mul, zero-div, div-eq-of-lt, le-div-iff-mul-le, div-lt-iff-lt-mul}
+use native.Mathlib.Decide.{ℕ-discrete, decLt}
 use native.Mathlib.Omega.{arith}
 use lib.Dec.{eqb, eqb→eq}
 use lib.ListN.{length, getD, set}
 use lib.Bits.{bitAnd, bitOr, or-add-and, and-le-l, and-le-r, and-step, or-step, and-shr, or-shr, and-mask, shifted-half, shifted-even}
 use lib.Count.{leadingZeros, leading-top}
-use lib.Pow.{pow-add, pow-mono, high, low}
+use lib.Pow.{pow-add, pow-mono, pow-lt, high, low}
 use lib.Seq.{getD-set-same, getD-set-other}
 use Rattle.rules.specs.Bits.{bitOf, bitAt, byteOf}
 use Rattle.rules.proofs.Below.{below}
@@ -112,6 +114,48 @@ bitOf-mod a k j h =
     let l = bitOf-lt a j in
     let e : min (bitOf a j) 1 ≡ bitOf a j = omega (arith, l) in
     rw (← and-mask a k) (bitOf-and a (2 ^ k - 1) j ∙ ap (min (bitOf a j)) (bitOf-ones k j h) ∙ e)
+
+-- ---- one bit of k, as `1 << s` has it, and a number without it
+
+-- that bit
+bitOf-one : (k s : ℕ) → s < k → bitOf (1 * 2 ^ s % 2 ^ k) s ≡ 1
+bitOf-one k s h =
+    let e : s + 0 ≡ s = omega arith in
+    bitOf-mod (1 * 2 ^ s) k s h ∙ (rw e at (bitOf-shl 1 s 0)) ∙ bitOf-first 1
+
+-- the others
+bitOf-others : (k s j : ℕ) → j < k → j ≢ s → bitOf (1 * 2 ^ s % 2 ^ k) j ≡ 0
+bitOf-others k s j h ne = bitOf-mod (1 * 2 ^ s) k j h ∙ go (decLt j s)
+  where
+    go : Dec (j < s) → bitOf (1 * 2 ^ s) j ≡ 0
+    go (yes l) = bitOf-below 1 s j l
+    go (no l) =
+        let e : s + (j - s) ≡ j = omega arith in
+        (rw e at (bitOf-shl 1 s (j - s))) ∙ bitOf-above 1 (j - s) (pow-lt {i = 0} {j = j - s} (omega arith))
+
+module _ (k a s : ℕ) where
+  -- a, with bit s of k cleared
+  abbrev pub without : ℕ
+  without = bitAnd a (2 ^ k - 1 - 1 * 2 ^ s % 2 ^ k)
+
+  mask-bit : (j : ℕ) → j < k → bitOf without j ≡ min (bitOf a j) (1 - bitOf (1 * 2 ^ s % 2 ^ k) j)
+  mask-bit j l = bitOf-and a (2 ^ k - 1 - 1 * 2 ^ s % 2 ^ k) j ∙ ap (min (bitOf a j)) (bitOf-not k (1 * 2 ^ s % 2 ^ k) j (mod-lt (1 * 2 ^ s) (one-le-pow k 2 (omega arith))) l)
+
+  -- the bit is gone
+  pub bit-gone : s < k → bitOf without s ≡ 0
+  bit-gone h = omega (arith, mask-bit s h, bitOf-one k s h)
+
+  -- the others stay
+  pub bit-stays : (j : ℕ) → j < k → j ≢ s → bitOf without j ≡ bitOf a j
+  bit-stays j l ne = omega (arith, mask-bit j l, bitOf-others k s j l ne, bitOf-lt a j)
+
+  -- the number is smaller, if the bit was set
+  pub without-less : s < k → bitOf a s ≡ 1 → without < a
+  without-less h set = go (ℕ-discrete without a)
+    where
+      go : Dec (without ≡ a) → without < a
+      go (yes e) = absurd (omega (arith, bit-gone h, ap (λ (x : ℕ). bitOf x s) e, set))
+      go (no e) = omega (arith, and-le-l a (2 ^ k - 1 - 1 * 2 ^ s % 2 ^ k))
 
 -- ---- a number is its bits
 

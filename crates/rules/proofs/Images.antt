@@ -6,9 +6,9 @@ use mathlib.Core.Bool.{Bool, true, false, not}
 use mathlib.Core.List.{List, [], _∷_, _++_, append-assoc}
 use Prim.Native.Nat.{ℕ, zero, suc, _+_, _*_, _/_, _%_, _≤_, _<_}
 use native.Mathlib.Omega.{arith}
-use lib.ListN.{length, getD, take, drop, replicate, length-append, length-take, length-drop, List·getD-append}
+use lib.ListN.{length, getD, set, take, drop, replicate, length-append, length-take, length-drop, List·getD-append}
 use lib.Seq.{ext-getD, getD-take, getD-drop, length-take-le, getD-append-add, drop-drop, take-add}
-use borrow.Author.Tests.{ne-eqb, eqb-false}
+use borrow.Author.Tests.{eq-eqb, ne-eqb, eqb-false}
 use Rattle.rules.specs.Tests.{pick, count}
 use Rattle.rules.specs.Words.{bytesOf, twoBytesOf}
 use Rattle.rules.specs.Entries.{FREE, tableOf}
@@ -122,6 +122,33 @@ used-append pool k [] fs = let here : k + 0 ≡ k = omega arith in rw here
 used-append pool k (e ∷ es) fs =
     let next : suc k + length es ≡ k + suc (length es) = omega arith in
     rw (used-append pool (suc k) es fs, next) (sym (append-assoc (pick (isFree e) [] (blockBytes pool k)) (usedFrom pool (suc k) es) (usedFrom pool (k + suc (length es)) fs)))
+
+-- and of its first n entries and the others, however many there are
+pub used-split : (pool : List ℕ) (k n : ℕ) (es : List ℕ) → usedFrom pool k es ≡ usedFrom pool k (take n es) ++ usedFrom pool (k + n) (drop n es)
+unfolding usedFrom
+used-split pool k zero es = let here : k + 0 ≡ k = omega arith in rw here
+used-split pool k (suc n) [] = refl
+used-split pool k (suc n) (e ∷ es) =
+    let next : suc k + n ≡ k + suc n = omega arith in
+    rw (used-split pool (suc k) n es, next) (sym (append-assoc (pick (isFree e) [] (blockBytes pool k)) (usedFrom pool (suc k) (take n es)) (usedFrom pool (k + suc n) (drop n es))))
+
+-- which entries are FREE is all that matters: there are none past the end of a list that are not
+pub used-alike : (pool : List ℕ) (k : ℕ) (es fs : List ℕ) → ((i : ℕ) → isFree (entryAt es i) ≡ isFree (entryAt fs i)) → usedFrom pool k es ≡ usedFrom pool k fs
+unfolding usedFrom
+used-alike pool k [] [] same = refl
+used-alike pool k [] (f ∷ fs) same = rw (← same 0) (used-alike pool (suc k) [] fs (λ i. same (suc i)))
+used-alike pool k (e ∷ es) [] same = rw (same 0) (used-alike pool (suc k) es [] (λ i. same (suc i)))
+used-alike pool k (e ∷ es) (f ∷ fs) same = rw (same 0, used-alike pool (suc k) es fs (λ i. same (suc i)))
+
+-- the first block that is not FREE comes first, and then the others
+pub used-first : (pool : List ℕ) (k : ℕ) (es : List ℕ) (j : ℕ) → ((i : ℕ) → i < j → entryAt es i ≡ FREE) → entryAt es j ≢ FREE
+    → usedFrom pool k es ≡ blockBytes pool (k + j) ++ usedFrom pool k (set es j FREE)
+unfolding usedFrom
+used-first pool k [] j before here = absurd (here refl)
+used-first pool k (e ∷ es) zero before here = let at : k + 0 ≡ k = omega arith in rw (at, ne-eqb e FREE here)
+used-first pool k (e ∷ es) (suc j) before here =
+    let next : suc k + j ≡ k + suc j = omega arith in
+    rw (eq-eqb e FREE (before 0 (omega arith))) (rw next at (used-first pool (suc k) es j (λ i l. before (suc i) (omega arith)) here))
 
 -- n FREE blocks have none
 pub used-gap : (pool : List ℕ) (k n : ℕ) (es : List ℕ) → usedFrom pool k (replicate n FREE ++ es) ≡ usedFrom pool (k + n) es

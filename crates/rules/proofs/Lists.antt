@@ -55,6 +55,10 @@ sets-append l at (v ∷ vs) ws =
     let e : at + suc (length vs) ≡ suc at + length vs = omega arith in
     rw e (sets-append (set l at v) (suc at) vs ws)
 
+-- a run of stores behind another is one
+pub sets-next : (l : List ℕ) (at to : ℕ) (vs ws : List ℕ) → to ≡ at + length vs → sets (sets l at vs) to ws ≡ sets l at (vs ++ ws)
+sets-next l at to vs ws e = rw e (sym (sets-append l at vs ws))
+
 -- one store more at the end of the run
 pub sets-snoc : (l : List ℕ) (at : ℕ) (vs : List ℕ) (v : ℕ) → sets l at (vs ++ (v ∷ [])) ≡ set (sets l at vs) (at + length vs) v
 sets-snoc l at vs v = sets-append l at vs (v ∷ [])

@@ -335,10 +335,17 @@ unfolding perform orRefused
 left-in f c stack m zero e p = absurd (omega arith)
 left-in f c stack m (suc r) e p = rw e
 
--- An accepted call whose answer and heap are those of the rules, and that leaves a table as the form asks, leaves the bytes that memory's rules give: they are what its
--- entries are written as.
+-- An accepted call whose answer, heap and buffer are those of the rules, and that leaves a table as the form asks, leaves the bytes that memory's rules give: they are what
+-- its entries are written as.
+pub acted-filling : (f : Form) → Faithful f → (c : Call) (stack : List ℕ) (m m′ : Memory) (stack′ filled : List ℕ) (a : Answer) → lengthsFit f m ≡ true
+    → both (readsTable c) (not (f .clean (m .table))) ≡ false → AllBytes (m′ .table) → Sound f m′ → a .refusal ≡ 0
+    → record { answer = a; heap = heapIn f m′; stack = stack′; filled = filled } ≡ step c stack (heapIn f m)
+    → record { answer = a; memory = m′; stack = stack′; filled = filled } ≡ perform f c stack m
+acted-filling f faithful c stack m m′ stack′ filled a fits clean bytes s z e =
+    rw (perform-accepted f c stack m fits clean (sym (ap (λ (x : Outcome). x .answer .refusal) e) ∙ z), ← e, faithful .write-read (m′ .table) bytes (table-fits f m′ (s .fits)) (s .clean))
+
+-- the same of a call that fills no buffer
 pub acted-in : (f : Form) → Faithful f → (c : Call) (stack : List ℕ) (m m′ : Memory) (stack′ : List ℕ) (a : Answer) → lengthsFit f m ≡ true
     → both (readsTable c) (not (f .clean (m .table))) ≡ false → AllBytes (m′ .table) → Sound f m′ → a .refusal ≡ 0
     → leavesWith a (heapIn f m′) stack′ ≡ step c stack (heapIn f m) → result a m′ stack′ ≡ perform f c stack m
-acted-in f faithful c stack m m′ stack′ a fits clean bytes s z e =
-    rw (perform-accepted f c stack m fits clean (sym (ap (λ (x : Outcome). x .answer .refusal) e) ∙ z), ← e, faithful .write-read (m′ .table) bytes (table-fits f m′ (s .fits)) (s .clean))
+acted-in f faithful c stack m m′ stack′ a fits clean bytes s z e = acted-filling f faithful c stack m m′ stack′ [] a fits clean bytes s z e

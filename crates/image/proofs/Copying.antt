@@ -1,0 +1,215 @@
+-- The bytes of one block, of the used ones of 64, and of all, as the code copies them.
+-- Assumes nothing.
+use mathlib.Core.Path.{_≡_, refl, sym, ap, _∙_}
+use mathlib.Core.Logic.{_≢_}
+use mathlib.Core.List.{List, [], _++_}
+use Prim.Native.Nat.{ℕ, _+_, _*_, _^_, _≤_, _<_, max}
+use native.Mathlib.Decide.{ℕ-discrete, decLt}
+use native.Mathlib.Omega.{arith}
+use lib.ListN.{length, take, drop, set, length-append, length-take, length-set, drop-of-length-le, List·getD-eq-default}
+use lib.Seq.{sets, length-sets, take-add, drop-drop, getD-take, getD-drop, getD-set-same, getD-set-other}
+use borrow.Author.Tests.{eq-eqb, ne-eqb}
+use Rattle.rules.specs.Words.{bytesOf, wordAt}
+use Rattle.rules.specs.Meaning.{AllBytes}
+use Rattle.rules.specs.Tests.{tabulate}
+use Rattle.rules.specs.Bits.{bitOf}
+use Rattle.rules.specs.Entries.{FREE}
+use Rattle.rules.specs.Tables.{entryAt, isFree}
+use Rattle.rules.specs.Images.{blockBytes, usedFrom}
+use Rattle.rules.proofs.Lists.{length-tabulate, getD-tabulate, sets-append, sets-next}
+use Rattle.rules.proofs.Words.{length-bytesOf, bytesOf-wordAt}
+use Rattle.rules.proofs.Bits.{without, bit-gone, bit-stays, without-less}
+use Rattle.rules.proofs.Images.{length-block, used-split, used-first, used-alike}
+use Rattle.entries.specs.Groups.{InGroup}
+use Rattle.freeruns.specs.Rows.{Zeros}
+use Rattle.freeruns.proofs.Rows.{first-lt}
+use Rattle.image.specs.Copying.{blocksIn}
+
+-- ---- what is still to be stored
+
+-- once `rest` is stored from `to` on, the image is as it was with `all` from `at` on
+pub record Remains (image₀ : List ℕ) (at : ℕ) (all image : List ℕ) (to : ℕ) (rest : List ℕ) : Type 0 where
+  pub long : length image ≡ length image₀
+  pub end : to + length rest ≡ at + length all
+  pub same : sets image to rest ≡ sets image₀ at all
+
+-- `rest` has a first part, and others behind it
+pub record Splits (rest part others : List ℕ) : Type 0 where
+  pub is : rest ≡ part ++ others
+
+-- at first it is all
+pub remains-all : (image : List ℕ) (at : ℕ) (all : List ℕ) → Remains image at all image at all
+remains-all image at all = record { long = refl; end = refl; same = refl }
+
+module _ {image₀ : List ℕ} {at : ℕ} {all image : List ℕ} {to : ℕ} {rest : List ℕ} (r : Remains image₀ at all image to rest) where
+  -- all is stored
+  pub remains-none : rest ≡ [] → (image ≡ sets image₀ at all) × (to ≡ at + length all)
+  remains-none e =
+      let end : Remains image₀ at all image to [] = rw (← e) r in
+      (end .same, omega (arith, end .end))
+
+  module _ {part others : List ℕ} (split : Splits rest part others) where
+    -- there is room for the first part
+    pub remains-room : at + length all ≤ length image₀ → to + length part ≤ length image
+    remains-room room = omega (arith, r .long, r .end, ap (length {A = ℕ}) (split .is), length-append part others, room)
+
+    -- and once it is stored, the others remain
+    pub remains-next : {image′ : List ℕ} {to′ : ℕ} → image′ ≡ sets image to part → to′ ≡ to + length part → Remains image₀ at all image′ to′ others
+    remains-next s e =
+        rw (s, e) record {
+          long = length-sets image to part ∙ r .long;
+          end = omega (arith, r .end, ap (length {A = ℕ}) (split .is), length-append part others);
+          same = sym (sets-append image to part others) ∙ ap (sets image to) (sym (split .is)) ∙ r .same;
+        }
+
+-- ---- one block
+
+module _ (pool : List ℕ) (k : ℕ) (bytes : AllBytes pool) (room : 16 * k + 16 ≤ length pool) where
+  -- the bytes of its word w
+  word-bytes : (w : ℕ) → w < 4 → bytesOf (wordAt pool (4 * k + w)) ≡ take 4 (drop (4 * w) (drop (16 * k) pool))
+  word-bytes w l =
+      let e : 4 * (4 * k + w) ≡ 16 * k + 4 * w = omega arith in
+      bytesOf-wordAt pool (4 * k + w) bytes (omega arith) ∙ rw (e, drop-drop (4 * w) (16 * k) pool)
+
+  -- it is its four words
+  block-words : blockBytes pool k ≡ bytesOf (wordAt pool (4 * k)) ++ bytesOf (wordAt pool (4 * k + 1)) ++ bytesOf (wordAt pool (4 * k + 2)) ++ bytesOf (wordAt pool (4 * k + 3))
+  unfolding blockBytes
+  block-words =
+      let b : List ℕ = drop (16 * k) pool in
+      let e : 4 * k + 0 ≡ 4 * k = omega arith in
+      let first : bytesOf (wordAt pool (4 * k)) ≡ take 4 b = rw e at (word-bytes 0 (omega arith)) in
+      rw (first, word-bytes 1 (omega arith), word-bytes 2 (omega arith), word-bytes 3 (omega arith))
+      (take-add 12 4 b ∙ rw (take-add 8 4 b, take-add 4 4 b))
+
+  -- it is copied word by word; word i of the pool is its first
+  pub four-words : (image : List ℕ) (at i : ℕ) → i ≡ 4 * k
+      → sets (sets (sets (sets image at (bytesOf (wordAt pool i))) (at + 4) (bytesOf (wordAt pool (i + 1)))) (at + 8) (bytesOf (wordAt pool (i + 2)))) (at + 12) (bytesOf (wordAt pool (i + 3)))
+      ≡ sets image at (blockBytes pool k)
+  four-words image at i e =
+      let a = bytesOf (wordAt pool (4 * k)) in
+      let b = bytesOf (wordAt pool (4 * k + 1)) in
+      let c = bytesOf (wordAt pool (4 * k + 2)) in
+      let d = bytesOf (wordAt pool (4 * k + 3)) in
+      rw (
+        e,
+        block-words,
+        sets-next image at (at + 4) a b (simp length-bytesOf refl),
+        sets-next image at (at + 8) (a ++ b) c (simp (length-append, length-bytesOf) refl),
+        sets-next image at (at + 12) (a ++ b ++ c) d (simp (length-append, length-bytesOf) refl),
+      )
+
+-- ---- the used ones of 64 blocks
+
+-- no bit, no block
+pub blocks-none : (pool : List ℕ) (i : ℕ) → blocksIn pool i 0 ≡ []
+unfolding usedFrom tabulate bitOf
+blocks-none pool i = refl
+
+-- those that have a bit lie in the pool
+abbrev pub Inside : List ℕ → ℕ → ℕ → Type 0
+Inside pool i bits = (j : ℕ) → j < 64 → bitOf bits j ≢ 0 → 16 * (64 * i + j) + 16 ≤ length pool
+
+-- past the 64 there is no block
+past-lanes : (es : List ℕ) (m : ℕ) → length es ≤ 64 → (m < 64 → ⊥) → entryAt es m ≡ FREE
+past-lanes es m few out = List·getD-eq-default es FREE (omega (arith, few, out))
+
+-- what a turn knows, where j is the first bit of `left`
+pub record First (pool : List ℕ) (i left j : ℕ) : Type 0 where
+  pub few : j < 64
+  -- its block lies in the pool, and is 16 bytes
+  pub inside : 16 * (64 * i + j) + 16 ≤ length pool
+  pub long : length (blockBytes pool (64 * i + j)) ≡ 16
+  -- it comes first, and the blocks of the other bits follow
+  pub split : Splits (blocksIn pool i left) (blockBytes pool (64 * i + j)) (blocksIn pool i (without 64 left j))
+  pub others-inside : Inside pool i (without 64 left j)
+  pub less : without 64 left j < left
+
+module _ (pool : List ℕ) (i left j : ℕ) (small : left < 2 ^ 64) (some-bit : left ≢ 0) (zeros : Zeros left j) (inside : Inside pool i left) where
+  abbrev others : ℕ
+  others = without 64 left j
+
+  abbrev lanes : List ℕ
+  lanes = tabulate 64 (bitOf left)
+
+  j-lt : j < 64
+  j-lt = first-lt left j small some-bit zeros
+
+  -- the entries without that one
+  others-same : (m : ℕ) → entryAt (set lanes j FREE) m ≡ entryAt (tabulate 64 (bitOf others)) m
+  others-same m = go (decLt m 64) (ℕ-discrete m j)
+    where
+      go : Dec (m < 64) → Dec (m ≡ j) → entryAt (set lanes j FREE) m ≡ entryAt (tabulate 64 (bitOf others)) m
+      go (no out) _ = past-lanes (set lanes j FREE) m (simp (length-set, length-tabulate) (omega arith)) out ∙ sym (past-lanes (tabulate 64 (bitOf others)) m (simp length-tabulate (omega arith)) out)
+      go (yes l) (yes e) = rw (e, getD-tabulate 64 (bitOf others) j FREE j-lt, bit-gone 64 left j j-lt) (getD-set-same lanes j FREE FREE (rw length-tabulate j-lt))
+      go (yes l) (no ne) = getD-set-other lanes j m FREE FREE ne ∙ getD-tabulate 64 (bitOf left) m FREE l ∙ sym (getD-tabulate 64 (bitOf others) m FREE l ∙ bit-stays 64 left j m l ne)
+
+  next : blocksIn pool i left ≡ blockBytes pool (64 * i + j) ++ blocksIn pool i others
+  next =
+      used-first pool (64 * i) lanes j (λ m l. getD-tabulate 64 (bitOf left) m FREE (omega (arith, j-lt, l)) ∙ zeros .before m l)
+      (λ z. omega (arith, z, getD-tabulate 64 (bitOf left) j FREE j-lt, zeros .next j-lt))
+      ∙ ap (λ (xs : List ℕ). blockBytes pool (64 * i + j) ++ xs) (used-alike pool (64 * i) (set lanes j FREE) (tabulate 64 (bitOf others)) (λ m. ap isFree (others-same m)))
+
+  lies : 16 * (64 * i + j) + 16 ≤ length pool
+  lies = inside j j-lt (λ z. omega (arith, z, zeros .next j-lt))
+
+  others-lie : Inside pool i others
+  others-lie m l ne = go (ℕ-discrete m j)
+    where
+      go : Dec (m ≡ j) → 16 * (64 * i + m) + 16 ≤ length pool
+      go (yes e) = rw e lies
+      go (no e) = inside m l (λ z. ne (bit-stays 64 left j m l e ∙ z))
+
+  pub first-block : First pool i left j
+  first-block = record {
+    few = j-lt;
+    inside = lies;
+    long = length-block pool (64 * i + j) lies;
+    split = record { is = next };
+    others-inside = others-lie;
+    less = without-less 64 left j j-lt (zeros .next j-lt);
+  }
+
+-- ---- all used blocks, 64 at a time
+
+-- a block is FREE if neither of its bits is set
+free-or : (a b : ℕ) → isFree (a + 2 * b) ≡ isFree (max a b)
+free-or a b = go (ℕ-discrete (max a b) 0)
+  where
+    go : Dec (max a b ≡ 0) → isFree (a + 2 * b) ≡ isFree (max a b)
+    go (yes e) = eq-eqb (a + 2 * b) 0 (omega (arith, e)) ∙ sym (eq-eqb (max a b) 0 e)
+    go (no ne) = ne-eqb (a + 2 * b) 0 (λ e. ne (omega (arith, e))) ∙ sym (ne-eqb (max a b) 0 ne)
+
+-- none is left at the end of the table
+pub groups-end : (pool es : List ℕ) (i : ℕ) → length es ≤ 64 * i → usedFrom pool (64 * i) (drop (64 * i) es) ≡ []
+unfolding usedFrom
+groups-end pool es i h = rw (drop-of-length-le es h)
+
+-- `bits` has a bit where one of the entry's two is set
+module _ (pool es : List ℕ) (i low high bits : ℕ) (g : InGroup es i low high) (either-bit : (j : ℕ) → bitOf bits j ≡ max (bitOf low j) (bitOf high j)) where
+  -- so it has none where the entry is FREE, as past the end of the table
+  group-alike : (j : ℕ) → isFree (entryAt (take 64 (drop (64 * i) es)) j) ≡ isFree (entryAt (tabulate 64 (bitOf bits)) j)
+  group-alike j = go (decLt j 64)
+    where
+      go : Dec (j < 64) → isFree (entryAt (take 64 (drop (64 * i) es)) j) ≡ isFree (entryAt (tabulate 64 (bitOf bits)) j)
+      go (no out) =
+          ap isFree (past-lanes (take 64 (drop (64 * i) es)) j (rw length-take (omega arith)) out ∙ sym (past-lanes (tabulate 64 (bitOf bits)) j (simp length-tabulate (omega arith)) out))
+      go (yes l) =
+          rw (getD-take 64 (drop (64 * i) es) j FREE l, getD-drop (64 * i) es j FREE, g j l, getD-tabulate 64 (bitOf bits) j FREE l, either-bit j) (free-or (bitOf low j) (bitOf high j))
+
+  -- those of the 64 come first, and those behind them follow
+  pub group-next : Splits (usedFrom pool (64 * i) (drop (64 * i) es)) (blocksIn pool i bits) (usedFrom pool (64 * (i + 1)) (drop (64 * (i + 1)) es))
+  group-next = record {
+    is =
+        let e : 64 * (i + 1) ≡ 64 * i + 64 = omega arith in
+        rw (e, ← drop-drop 64 (64 * i) es, ← used-alike pool (64 * i) (take 64 (drop (64 * i) es)) (tabulate 64 (bitOf bits)) group-alike) (used-split pool (64 * i) 64 (drop (64 * i) es));
+  }
+
+  -- they lie in the pool
+  pub group-inside : length pool ≡ 16 * length es → Inside pool i bits
+  group-inside whole j l ne = go (decLt (64 * i + j) (length es))
+    where
+      go : Dec (64 * i + j < length es) → 16 * (64 * i + j) + 16 ≤ length pool
+      go (yes h) = omega arith
+      go (no h) =
+          let free : entryAt es (64 * i + j) ≡ 0 = List·getD-eq-default es FREE (omega arith) in
+          absurd (ne (omega (arith, free, g j l, either-bit j)))

@@ -1,0 +1,108 @@
+-- `copy_group`: the block of the first bit is copied and the bit cleared, as long as there is one. What remains is the blocks of the bits that are left.
+-- Assumes nothing.
+use mathlib.Core.Path.{_≡_}
+use Prim.Native.Nat.{_+_, _*_, _^_, _≤_, _<_}
+use native.Mathlib.Omega.{arith}
+use lib.ListN.{length}
+use borrow.Author.Needs.{needs}
+use Rattle.image.specs.Copying.{blocksIn}
+use Rattle.image.proofs.Copying.{Remains, remains-all, remains-none, remains-room, remains-next, Inside, blocks-none, First, first-block}
+use Rattle.image.proofs.copy_group.Statement.{statement}
+use Rattle.image.proofs.copy_group.Tie as tie
+
+abbrev Inv-loop : tie.InvT-loop
+Inv-loop pool i used image₀ at left₀ to₀ image left to = (left < 2 ^ 64) × (Inside pool i left × Remains image₀ at (blocksIn pool i used) image to (blocksIn pool i left))
+
+abbrev μ-loop : tie.MeasureT-loop
+μ-loop pool i used image₀ at left₀ to₀ image left to = left
+
+loop-holds : tie.Need-loop-holds Inv-loop μ-loop
+loop-holds c =
+    let start = c .before .before in
+    (omega arith, (start .pre .1 .1, remains-all _ _ _))
+
+first-requires : tie.Need-first-requires Inv-loop μ-loop
+first-requires c κs = search needs
+
+-- the first bit of those that are left
+module _ (c : tie.After-first Inv-loop μ-loop) where
+  abbrev start : tie.Start Inv-loop μ-loop
+  start = c .before .before .before .before .before
+
+  turn : First (start .args .pool .now) (start .args .i) (c .before .before .loop .left) (c .first .result)
+  turn =
+      let inv = c .before .before .loop .inv in
+      first-block (start .args .pool .now) (start .args .i) (c .before .before .loop .left) (c .first .result) (inv .0) (c .before .loop-test .taken) (c .first .ensures) (inv .1 .0)
+
+  -- there is room for its block in the image
+  room : c .before .before .loop .to + 16 ≤ length (c .before .before .loop .image)
+  room = rw (← turn .long) (remains-room (c .before .before .loop .inv .1 .1) (turn .split) (start .pre .1 .0))
+
+-- that block
+block-is : (c : tie.After-plus Inv-loop μ-loop) → c .plus .result .0 ≡ 64 * start (c .before .before) .args .i + c .before .before .first .result
+block-is c = omega (arith, c .plus .ensures, c .before .first2 .ensures)
+
+first-requires-2 : tie.Need-first-requires-2 Inv-loop μ-loop
+first-requires-2 c κs = search needs
+
+mul-plus : tie.Need-mul-plus Inv-loop μ-loop
+mul-plus c = search needs
+
+add-plus : tie.Need-add-plus Inv-loop μ-loop
+add-plus c = record { fits = omega (arith, turn (c .before) .few) }
+
+plus-requires : tie.Need-plus-requires Inv-loop μ-loop
+plus-requires c κs = omega (arith, turn (c .before) .few, c .first2 .ensures)
+
+copy-block-requires : tie.Need-copy-block-requires Inv-loop μ-loop
+copy-block-requires c κs =
+    let bit = c .before .before .before in
+    (omega (arith, block-is (c .before), turn bit .few), (rw (block-is (c .before)) (turn bit .inside), room bit))
+
+add-to : tie.Need-add-to Inv-loop μ-loop
+add-to c = record { fits = omega (arith, room (c .before .before .before .before .before .before)) }
+
+shl-left : tie.Need-shl-left Inv-loop μ-loop
+shl-left c = turn (c .before .before .before .before .before .before) .few
+
+loop-less : tie.Need-loop-less Inv-loop μ-loop
+loop-less c = turn (c .before .before .before .before .before .before) .less
+
+loop-again : tie.Need-loop-again Inv-loop μ-loop
+loop-again c =
+    let bit = c .before .before .before .before .before .before in
+    let inv = bit .before .before .loop .inv in (
+      omega (arith, turn bit .less, inv .0),
+      (
+        turn bit .others-inside,
+        remains-next (inv .1 .1) (turn bit .split) (rw (← block-is (c .before .before .before .before)) (c .before .before .copy-block .ensures)) (rw (turn bit .long)),
+      ),
+    )
+
+same-length : tie.Need-same-length Inv-loop μ-loop
+same-length c = c .before .loop .inv .1 .1 .long
+
+returns : tie.Need-returns Inv-loop μ-loop
+returns c =
+    let a = c .before .before .before .before .args in
+    remains-none (c .before .loop .inv .1 .1) (rw (c .loop-test .left) (blocks-none (a .pool .now) (a .i)))
+
+pub copy-group-spec : {M : Type 1} → statement M
+copy-group-spec =
+    tie.close
+    (tie.spec
+    Inv-loop
+    μ-loop
+    loop-holds
+    first-requires
+    first-requires-2
+    mul-plus
+    add-plus
+    plus-requires
+    copy-block-requires
+    add-to
+    shl-left
+    loop-less
+    loop-again
+    same-length
+    returns)

@@ -1,0 +1,93 @@
+-- `write`: a refused call returns before anything is written; else the buffer is long enough or the call is refused by 10, and the sections are written.
+-- Assumes nothing.
+use Prim.Native.Nat.{_≤_}
+use native.Mathlib.Omega.{arith}
+use borrow.Author.Needs.{needs}
+use Rattle.image.proofs.Ends.{Known, known, image-refused, image-short, image-done}
+use Rattle.image.proofs.write.Statement.{statement}
+use Rattle.image.proofs.write.Tie as tie
+
+root-list-requires : tie.Need-root-list-requires
+root-list-requires c κs = search needs
+
+unwritten-requires : tie.Need-unwritten-requires
+unwritten-requires c κs = search needs
+
+returns : tie.Need-returns
+returns c = rw (c .unwritten .ensures) (image-refused _ _ _ _ _ _ (c .before .before .root-list .ensures) (c .before .if1 .taken))
+
+-- what is known once the heap and the roots are not refused
+module _ (c : tie.Else1) where
+  abbrev start : tie.Start
+  start = c .before .before .before .before .before .before
+
+  knows : Known (start .args .t) (start .args .base .0) (start .args .pool .now) (start .args .table .now) (start .args .roots .now) (start .args .image .now) (c .before .root-list .ensures) (c .if1 .left)
+  knows = known _ _ _ _ _ _ (c .before .root-list .ensures) (c .if1 .left)
+
+count-requires : tie.Need-count-requires
+count-requires c κs = knows c .is
+
+-- and once the used blocks are counted
+few : (c : tie.After-count) → c .count .result .used ≤ 4096
+few c = omega (arith, c .count .ensures .0, knows (c .before) .few)
+
+add-length : tie.Need-add-length
+add-length c = record { fits = omega (arith, knows (c .before) .is .sized .few) }
+
+mul-length : tie.Need-mul-length
+mul-length c = record { fits = omega (arith, few c) }
+
+add-length-2 : tie.Need-add-length-2
+add-length-2 c = record { fits = omega (arith, few c, knows (c .before) .is .sized .few) }
+
+add-length-3 : tie.Need-add-length-3
+add-length-3 c = record { fits = omega (arith, few c, knows (c .before) .is .sized .few, knows (c .before) .few-roots) }
+
+unwritten-requires-2 : tie.Need-unwritten-requires-2
+unwritten-requires-2 c κs = search needs
+
+returns-2 : tie.Need-returns-2
+returns-2 c =
+    let passed = c .before .before .before in
+    rw (c .unwritten2 .ensures) (image-short _ _ _ _ _ _ (passed .before .root-list .ensures) (passed .if1 .left) (omega (arith, c .before .if2 .taken, knows passed .long, c .before .before .count .ensures .0)))
+
+write-sections-requires : tie.Need-write-sections-requires
+write-sections-requires c κs =
+    let room = c .before in
+    let k = knows (room .before .before) in
+    ((k .is, (k .whole, k .address)), (room .before .count .ensures .0, omega (arith, room .if2 .left)))
+
+cast-t19 : tie.Need-cast-t19
+cast-t19 c =
+    let counted = c .before .before .before .before .before in
+    let k = knows (counted .before) in
+    record { fits = omega (arith, few counted, k .is .sized .few, k .few-roots) }
+
+same-length : tie.Need-same-length
+same-length c = search needs
+
+returns-3 : tie.Need-returns-3
+returns-3 c =
+    let room = c .before .before .before .before in
+    let passed = room .before .before in
+    image-done _ _ _ _ _ _ (passed .before .root-list .ensures) (passed .if1 .left) (omega (arith, room .if2 .left, knows passed .long, room .before .count .ensures .0)) (omega (arith, knows passed .long, room .before .count .ensures .0))
+    (λ i. passed .before .before .before .before .shared-slice-known2 .given i .fits) (c .before .before .write-sections .ensures)
+
+pub write-spec : {M : Type 1} → statement M
+write-spec =
+    tie.close
+    (tie.spec
+    root-list-requires
+    unwritten-requires
+    returns
+    count-requires
+    add-length
+    mul-length
+    add-length-2
+    add-length-3
+    unwritten-requires-2
+    returns-2
+    write-sections-requires
+    cast-t19
+    same-length
+    returns-3)
