@@ -2,10 +2,11 @@
 // A slice is a pointer and a length; include/blockheap.h declares the same functions.
 ghost use mathlib.Core.Path.{_≡_};
 ghost use mathlib.Core.List.{[]};
-ghost use Rattle.rules.specs.Outcomes.{onlyRefusal, placement, collection, findings, reading};
-ghost use Rattle.rules.specs.Runs.{Init, Allocate, Free, Reallocate, Collect, Survey, Load, Store};
+ghost use lib.ListN.{length as lengthOf};
+ghost use Rattle.rules.specs.Outcomes.{onlyRefusal, placement, collection, findings, reading, writing};
+ghost use Rattle.rules.specs.Runs.{Init, Allocate, Free, Reallocate, Collect, Survey, Load, Store, WriteImage};
 ghost use Rattle.rules.specs.Planes.{planes};
-ghost use Rattle.rules.specs.Memory.{memory, result, perform};
+ghost use Rattle.rules.specs.Memory.{memory, result, filling, withBuffer, perform};
 use memory::Address;
 use memory::Block;
 use memory::Bytes;
@@ -193,4 +194,30 @@ pub extern "C" fn blockheap_store(
         word as usize,
         value,
     )
+}
+
+#[no_mangle]
+pub extern "C" fn blockheap_write_image(
+    base: u64,
+    t: u64,
+    pool: &[u8],
+    table: &[u8],
+    roots: &[u8],
+    image: &mut [u8],
+    length: &mut u32,
+) -> u32
+    ensures { λ r. ⌜ filling (writing r (now (length .exit))) (memory (now (pool .entry)) (now (table .entry))) (now (image .exit))
+        ≡ withBuffer (now (image .entry))
+        (perform (planes t) (WriteImage base (now (roots .entry)) (lengthOf (now (image .entry)))) [] (memory (now (pool .entry)) (now (table .entry)))) ⌝ }
+{
+    let w = image::write(
+        Address::of_number(base),
+        t as usize,
+        pool,
+        table,
+        roots,
+        image,
+    );
+    *length = w.length;
+    w.refusal
 }
