@@ -10,6 +10,7 @@ use Rattle.blockheap.proofs.blockheap_collect.Met as collect
 use Rattle.blockheap.proofs.blockheap_survey.Met as survey
 use Rattle.blockheap.proofs.blockheap_load.Met as load
 use Rattle.blockheap.proofs.blockheap_store.Met as store
+use Rattle.blockheap.proofs.blockheap_write_image.Met as write-image
 
 pub entry-points : EntryPoints
 entry-points = record {
@@ -37,4 +38,7 @@ entry-points = record {
   store-meets = store.met;
   store-asks-nothing = λ M 𝓤 H A mem run κs a. (tt, refl);
   store-says = λ M 𝓤 H A mem run κs a g r. refl;
+  write-image-meets = write-image.met;
+  write-image-asks-nothing = λ M 𝓤 H A mem run κs a. (tt, refl);
+  write-image-says = λ M 𝓤 H A mem run κs a g r. refl;
 }

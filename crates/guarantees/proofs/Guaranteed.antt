@@ -3,8 +3,10 @@
 use Rattle.rules.specs.Examples.{examples-hold, examples-number, words-hold}
 use Rattle.rules.specs.Orders.{orders-hold, orders-number}
 use Rattle.rules.specs.PlaneExamples.{plane-examples-hold, plane-examples-number, plane-refusals}
+use Rattle.rules.specs.ImageExamples.{image-examples-hold, image-examples-number}
 use Rattle.keeping.proofs.Collections.{keeps-exactly, any-stack}
 use Rattle.promises.proofs.Bytes.{on-bytes, as-packed}
+use Rattle.promises.proofs.Images.{image-says-all}
 use Rattle.promises.proofs.Promised.{promises}
 use Rattle.promises.proofs.Determined.{determined}
 use Rattle.promises.proofs.Whole.{whole}
@@ -12,7 +14,7 @@ use Rattle.promises.proofs.Alignment.{new-objects-aligned, aligned-from-init}
 use Rattle.promises.proofs.OtherT.{other-t-is-refused}
 use Rattle.algebra.proofs.Algebra.{frees-commute, roots-are-a-set, roots-join, collect-idempotent}
 use Rattle.runs.proofs.Noninterference.{noninterference}
-use Rattle.plain.proofs.Refinement.{answers-as-list}
+use Rattle.plain.proofs.Refinement.{answers-as-list, images-as-list}
 use Rattle.plain.proofs.Reached.{list-keeps-reachable}
 use Rattle.plain.proofs.Sums.{used-is-sum}
 use Rattle.guarantees.specs.Guarantees.{Guarantees}
@@ -28,6 +30,8 @@ guarantees = record {
   plane-examples-hold = plane-examples-hold;
   plane-examples-number = plane-examples-number;
   plane-refusals = plane-refusals;
+  image-examples-hold = image-examples-hold;
+  image-examples-number = image-examples-number;
   entry-points = entry-points;
   on-bytes = on-bytes;
   as-packed = as-packed;
@@ -35,6 +39,7 @@ guarantees = record {
   promises = promises;
   determined = determined;
   whole = whole;
+  image-says-all = image-says-all;
   new-objects-aligned = new-objects-aligned;
   aligned-from-init = aligned-from-init;
   keeps-exactly = keeps-exactly;
@@ -45,6 +50,7 @@ guarantees = record {
   collect-idempotent = collect-idempotent;
   noninterference = noninterference;
   answers-as-list = answers-as-list;
+  images-as-list = images-as-list;
   list-keeps-reachable = list-keeps-reachable;
   used-is-sum = used-is-sum;
 }

@@ -8,15 +8,17 @@ use Rattle.rules.specs.Words.{wordAt, bytesOf}
 use Rattle.rules.specs.Examples.{Example, examples}
 use Rattle.rules.specs.Orders.{orders}
 use Rattle.rules.specs.PlaneExamples.{PlaneExample, planeExamples, PlaneRefusals}
+use Rattle.rules.specs.ImageExamples.{ImageExample, imageExamples}
 use Rattle.keeping.specs.Keeping.{KeepsExactly, AnyStack}
 use Rattle.promises.specs.Bytes.{OnBytes, AsPacked}
+use Rattle.promises.specs.Images.{ImageSaysAll}
 use Rattle.promises.specs.Promises.{Promises}
 use Rattle.promises.specs.Determined.{Determined, Whole}
 use Rattle.promises.specs.Alignment.{NewObjectsAligned, AlignedFromInit}
 use Rattle.promises.specs.OtherT.{OtherTIsRefused}
 use Rattle.algebra.specs.Algebra.{FreesCommute, RootsAreASet, RootsJoin, CollectIdempotent}
 use Rattle.runs.specs.Noninterference.{Noninterference}
-use Rattle.plain.specs.Refines.{AnswersAsList, ListKeepsReachable, UsedIsSum}
+use Rattle.plain.specs.Refines.{AnswersAsList, ImagesAsList, ListKeepsReachable, UsedIsSum}
 use Rattle.guarantees.specs.EntryPoints.{EntryPoints}
 
 pub record Guarantees : Type 2 where
@@ -30,6 +32,9 @@ pub record Guarantees : Type 2 where
   pub plane-examples-hold : map (λ (x : PlaneExample). x .is) planeExamples ≡ map (λ (x : PlaneExample). x .ought) planeExamples
   pub plane-examples-number : length planeExamples ≡ 29
   pub plane-refusals : PlaneRefusals
+  -- Images of heaps come out byte by byte, with what is behind them in the buffer, and where they are refused.
+  pub image-examples-hold : map (λ (x : ImageExample). x .is) imageExamples ≡ map (λ (x : ImageExample). x .ought) imageExamples
+  pub image-examples-number : length imageExamples ≡ 11
   -- The code follows the rules: each function that C calls does to lent memory, for every input, what the rules say.
   pub entry-points : EntryPoints
   -- Of lent memory a refused call leaves every byte, and an accepted one the bytes of the heap that the call leaves; what that means of two planes, and of their spare bits.
@@ -44,6 +49,8 @@ pub record Guarantees : Type 2 where
   -- That leaves one outcome: the same answer, the same entries and the same bytes; and no call changes the size of the heap.
   pub determined : Determined
   pub whole : Whole
+  -- An image says exactly what lives in the heap: two are the same if and only if t, the base, the roots, the entries and the bytes of used blocks are.
+  pub image-says-all : ImageSaysAll
   -- An object of four blocks or more that is made or gets more blocks starts at a block divisible by four, and from an accepted init on every such object does.
   pub new-objects-aligned : NewObjectsAligned
   pub aligned-from-init : AlignedFromInit
@@ -56,10 +63,11 @@ pub record Guarantees : Type 2 where
   pub roots-are-a-set : RootsAreASet
   pub roots-join : RootsJoin
   pub collect-idempotent : CollectIdempotent
-  -- What is not reachable has no influence on any later list of calls.
+  -- What is not reachable has no influence on any later list of calls: not on an answer, an image, the table or a used block.
   pub noninterference : Noninterference
-  -- From an accepted init on, every list of calls is answered as a plain list of objects answers it; a collection of that list keeps exactly what is reachable in it.
+  -- From an accepted init on, every list of calls is answered as a plain list of objects answers it, and each image is that of the list's objects; a collection of that list keeps exactly what is reachable in it.
   pub answers-as-list : AnswersAsList
+  pub images-as-list : ImagesAsList
   pub list-keeps-reachable : ListKeepsReachable
   -- The used blocks are the sum of all answered changes since the latest accepted init.
   pub used-is-sum : UsedIsSum
