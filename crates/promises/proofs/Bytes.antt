@@ -208,8 +208,8 @@ module _ (f : Form) (base : ℕ) (roots buffer : List ℕ) (m : Memory) where
       let written = perform f c [] m .filled in (
         length-append written (drop (length written) buffer) ∙ omega (arith, length-drop (length written) buffer, l .1),
         λ i past.
-        let e : i ≡ length written + (i - length written) = omega (arith, l .0) in
-        rw e (getD-append-add written (drop (length written) buffer) (i - length written) 0 ∙ getD-drop (length written) buffer (i - length written) 0),
+            let e : i ≡ length written + (i - length written) = omega (arith, l .0) in
+            rw e (getD-append-add written (drop (length written) buffer) (i - length written) 0 ∙ getD-drop (length written) buffer (i - length written) 0),
       )
 
   image-refused : ¬ AcceptedIn (perform f c [] m) → withBuffer buffer (perform f c [] m) .filled ≡ buffer

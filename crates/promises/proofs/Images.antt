@@ -143,8 +143,8 @@ image-says-all t t′ base base′ room room′ roots roots′ m m′ z z′ =
         let n′ = length-entriesIn t′ (m′ .table) in
         let b = blocks-same base base′ room room′ roots roots′ h h′ x x′ same in
         let e : h .entries ≡ h′ .entries =
-            entries-same (h .entries) (h′ .entries) t n (omega (arith, n, n′, b)) (planes-faithful t .small (m .table)) (planes-faithful t′ .small (m′ .table))
-            (λ i l. table-same base base′ room room′ roots roots′ h h′ x x′ same i (omega (arith, n))) in (
+        entries-same (h .entries) (h′ .entries) t n (omega (arith, n, n′, b)) (planes-faithful t .small (m .table)) (planes-faithful t′ .small (m′ .table))
+        (λ i l. table-same base base′ room room′ roots roots′ h h′ x x′ same i (omega (arith, n))) in (
           omega (arith, n, n′, b),
           base-same base base′ room room′ roots roots′ h h′ x x′ same,
           roots-same base base′ room room′ roots roots′ h h′ x x′ same e,
