@@ -3,11 +3,12 @@
 use mathlib.Core.Path.{_≡_, refl, sym, ap, _∙_}
 use mathlib.Core.Logic.{_≢_}
 use mathlib.Core.List.{List, [], _++_}
-use Prim.Native.Nat.{ℕ, _+_, _*_, _^_, _≤_, _<_, max}
+use Prim.Native.Nat.{ℕ, _+_, _-_, _*_, _^_, _≤_, _<_, max}
 use native.Mathlib.Decide.{ℕ-discrete, decLt}
 use native.Mathlib.Omega.{arith}
 use lib.ListN.{length, take, drop, set, length-append, length-take, length-set, drop-of-length-le, List·getD-eq-default}
 use lib.Seq.{sets, length-sets, take-add, drop-drop, getD-take, getD-drop, getD-set-same, getD-set-other}
+use lib.Bits.{bitAnd}
 use borrow.Author.Tests.{eq-eqb, ne-eqb}
 use Rattle.rules.specs.Words.{bytesOf, wordAt}
 use Rattle.rules.specs.Meaning.{AllBytes}
@@ -18,7 +19,7 @@ use Rattle.rules.specs.Tables.{entryAt, isFree}
 use Rattle.rules.specs.Images.{blockBytes, usedFrom}
 use Rattle.rules.proofs.Lists.{length-tabulate, getD-tabulate, sets-append, sets-next}
 use Rattle.rules.proofs.Words.{length-bytesOf, bytesOf-wordAt}
-use Rattle.rules.proofs.Bits.{without, bit-gone, bit-stays, without-less}
+use Rattle.rules.proofs.Bits.{LowestBit, lowest-gone, lowest-others, lowest-less}
 use Rattle.rules.proofs.Images.{length-block, used-split, used-first, used-alike}
 use Rattle.entries.specs.Groups.{InGroup}
 use Rattle.freeruns.specs.Rows.{Zeros}
@@ -120,13 +121,13 @@ pub record First (pool : List ℕ) (i left j : ℕ) : Type 0 where
   pub inside : 16 * (64 * i + j) + 16 ≤ length pool
   pub long : length (blockBytes pool (64 * i + j)) ≡ 16
   -- it comes first, and the blocks of the other bits follow
-  pub split : Splits (blocksIn pool i left) (blockBytes pool (64 * i + j)) (blocksIn pool i (without 64 left j))
-  pub others-inside : Inside pool i (without 64 left j)
-  pub less : without 64 left j < left
+  pub split : Splits (blocksIn pool i left) (blockBytes pool (64 * i + j)) (blocksIn pool i (bitAnd left (left - 1)))
+  pub others-inside : Inside pool i (bitAnd left (left - 1))
+  pub less : bitAnd left (left - 1) < left
 
 module _ (pool : List ℕ) (i left j : ℕ) (small : left < 2 ^ 64) (some-bit : left ≢ 0) (zeros : Zeros left j) (inside : Inside pool i left) where
   abbrev others : ℕ
-  others = without 64 left j
+  others = bitAnd left (left - 1)
 
   abbrev lanes : List ℕ
   lanes = tabulate 64 (bitOf left)
@@ -134,14 +135,17 @@ module _ (pool : List ℕ) (i left j : ℕ) (small : left < 2 ^ 64) (some-bit : 
   j-lt : j < 64
   j-lt = first-lt left j small some-bit zeros
 
+  lowest : LowestBit left j
+  lowest = record { below = zeros .before; set = zeros .next j-lt }
+
   -- the entries without that one
   others-same : (m : ℕ) → entryAt (set lanes j FREE) m ≡ entryAt (tabulate 64 (bitOf others)) m
   others-same m = go (decLt m 64) (ℕ-discrete m j)
     where
       go : Dec (m < 64) → Dec (m ≡ j) → entryAt (set lanes j FREE) m ≡ entryAt (tabulate 64 (bitOf others)) m
       go (no out) _ = past-lanes (set lanes j FREE) m (simp (length-set, length-tabulate) (omega arith)) out ∙ sym (past-lanes (tabulate 64 (bitOf others)) m (simp length-tabulate (omega arith)) out)
-      go (yes l) (yes e) = rw (e, getD-tabulate 64 (bitOf others) j FREE j-lt, bit-gone 64 left j j-lt) (getD-set-same lanes j FREE FREE (rw length-tabulate j-lt))
-      go (yes l) (no ne) = getD-set-other lanes j m FREE FREE ne ∙ getD-tabulate 64 (bitOf left) m FREE l ∙ sym (getD-tabulate 64 (bitOf others) m FREE l ∙ bit-stays 64 left j m l ne)
+      go (yes l) (yes e) = rw (e, getD-tabulate 64 (bitOf others) j FREE j-lt, lowest-gone left j lowest) (getD-set-same lanes j FREE FREE (rw length-tabulate j-lt))
+      go (yes l) (no ne) = getD-set-other lanes j m FREE FREE ne ∙ getD-tabulate 64 (bitOf left) m FREE l ∙ sym (getD-tabulate 64 (bitOf others) m FREE l ∙ lowest-others left j lowest m ne)
 
   next : blocksIn pool i left ≡ blockBytes pool (64 * i + j) ++ blocksIn pool i others
   next =
@@ -157,7 +161,7 @@ module _ (pool : List ℕ) (i left j : ℕ) (small : left < 2 ^ 64) (some-bit : 
     where
       go : Dec (m ≡ j) → 16 * (64 * i + m) + 16 ≤ length pool
       go (yes e) = rw e lies
-      go (no e) = inside m l (λ z. ne (bit-stays 64 left j m l e ∙ z))
+      go (no e) = inside m l (λ z. ne (lowest-others left j lowest m e ∙ z))
 
   pub first-block : First pool i left j
   first-block = record {
@@ -166,7 +170,7 @@ module _ (pool : List ℕ) (i left j : ℕ) (small : left < 2 ^ 64) (some-bit : 
     long = length-block pool (64 * i + j) lies;
     split = record { is = next };
     others-inside = others-lie;
-    less = without-less 64 left j j-lt (zeros .next j-lt);
+    less = lowest-less left j lowest (omega (arith, some-bit));
   }
 
 -- ---- all used blocks, 64 at a time

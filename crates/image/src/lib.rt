@@ -38,7 +38,8 @@ fn copy_block(pool: &[u8], k: Block, image: &mut [u8], at: usize)
     memory::set_four_bytes(&mut *image, at + 12, d);
 }
 
-// Of the 64 blocks from block 64 * i on, those that have a bit in `used` are copied, from `at` on. Returns the place behind them.
+// Of the 64 blocks from block 64 * i on, those that have a bit in `used` are copied, from `at` on. Returns the place behind them. The lowest bit that is left goes with each
+// turn, by a difference: a shift by j would have the next turn wait for j.
 fn copy_group(pool: &[u8], i: usize, used: u64, image: &mut [u8], at: usize) -> usize
     requires { ⌜ (i < 64) × ((at + length (blocksIn (now pool) i used) ≤ length (now image)) × ((j : ℕ) → j < 64 → bitOf used j ≢ 0 → 16 * (64 * i + j) + 16 ≤ length (now pool))) ⌝ }
     ensures { λ r. ⌜ (now (image .exit) ≡ sets (now (image .entry)) at (blocksIn (now (pool .entry)) i used)) × (r ≡ at + length (blocksIn (now (pool .entry)) i used)) ⌝ }
@@ -49,7 +50,7 @@ fn copy_group(pool: &[u8], i: usize, used: u64, image: &mut [u8], at: usize) -> 
         let j = freeruns::first(left);
         copy_block(pool, Block::first().plus(64 * i + j), &mut *image, to);
         to += 16;
-        left = left & !(1 << j);
+        left = left & (left - 1);
     }
     to
 }

@@ -4,14 +4,14 @@ use mathlib.Core.Path.{_≡_, sym, ap, _∙_}
 use mathlib.Core.Logic.{_≢_}
 use mathlib.Core.List.{List}
 use Prim.Native.Nat.{ℕ, zero, suc, _+_, _-_, _*_, _/_, _%_, _^_, _≤_, _<_, min, max}
-use native.Mathlib.Nat.{lt-of-lt-of-le, mod-lt, pow-suc, pow-succ', one-le-pow, div-div-eq-div-mul, zero-div, div-eq-of-lt, le-div-iff-mul-le, div-lt-iff-lt-mul}
-use native.Mathlib.Decide.{ℕ-discrete, decLt}
+use native.Mathlib.Nat.{lt-of-lt-of-le, pow-suc, pow-succ', one-le-pow, div-div-eq-div-mul, zero-div, div-eq-of-lt, le-div-iff-mul-le, div-lt-iff-lt-mul}
+use native.Mathlib.Decide.{decLt}
 use native.Mathlib.Omega.{arith}
 use lib.Dec.{eqb, eqb→eq}
 use lib.ListN.{length, getD, set}
 use lib.Bits.{bitAnd, bitOr, or-add-and, and-le-l, and-le-r, and-step, or-step, and-shr, or-shr, and-mask, shifted-half, shifted-even}
 use lib.Count.{leadingZeros, leading-top}
-use lib.Pow.{pow-add, pow-mono, pow-lt, high, low}
+use lib.Pow.{pow-add, pow-mono, high, low}
 use lib.Seq.{getD-set-same, getD-set-other}
 use Rattle.rules.specs.Bits.{bitOf, bitAt, byteOf}
 use Rattle.rules.proofs.Below.{below}
@@ -115,47 +115,52 @@ bitOf-mod a k j h =
     let e : min (bitOf a j) 1 ≡ bitOf a j = omega (arith, l) in
     rw (← and-mask a k) (bitOf-and a (2 ^ k - 1) j ∙ ap (min (bitOf a j)) (bitOf-ones k j h) ∙ e)
 
--- ---- one bit of k, as `1 << s` has it, and a number without it
+-- ---- a number without the lowest bit that is set in it
 
--- that bit
-bitOf-one : (k s : ℕ) → s < k → bitOf (1 * 2 ^ s % 2 ^ k) s ≡ 1
-bitOf-one k s h =
-    let e : s + 0 ≡ s = omega arith in
-    bitOf-mod (1 * 2 ^ s) k s h ∙ (rw e at (bitOf-shl 1 s 0)) ∙ bitOf-first 1
+-- s is that bit
+pub record LowestBit (a s : ℕ) : Type 0 where
+  pub below : (j : ℕ) → j < s → bitOf a j ≡ 0
+  pub set : bitOf a s ≡ 1
 
--- the others
-bitOf-others : (k s j : ℕ) → j < k → j ≢ s → bitOf (1 * 2 ^ s % 2 ^ k) j ≡ 0
-bitOf-others k s j h ne = bitOf-mod (1 * 2 ^ s) k j h ∙ go (decLt j s)
-  where
-    go : Dec (j < s) → bitOf (1 * 2 ^ s) j ≡ 0
-    go (yes l) = bitOf-below 1 s j l
-    go (no l) =
-        let e : s + (j - s) ≡ j = omega arith in
-        (rw e at (bitOf-shl 1 s (j - s))) ∙ bitOf-above 1 (j - s) (pow-lt {i = 0} {j = j - s} (omega arith))
+-- half of an even number has it one lower, and half of the number before that is the number before the half
+lowest-half : (a s : ℕ) → LowestBit a (suc s) → LowestBit (a / 2) s × ((a - 1) / 2 ≡ a / 2 - 1)
+lowest-half a s x =
+    let even : a % 2 ≡ 0 = sym (bitOf-first a) ∙ x .below 0 (omega arith) in
+    let low : LowestBit (a / 2) s = record { below = λ j l. sym (bitOf-suc a j) ∙ x .below (suc j) (omega arith); set = sym (bitOf-suc a s) ∙ x .set } in
+    (low, omega arith)
 
-module _ (k a s : ℕ) where
-  -- a, with bit s of k cleared
-  abbrev pub without : ℕ
-  without = bitAnd a (2 ^ k - 1 - 1 * 2 ^ s % 2 ^ k)
+-- the number before has a 0 there
+before-at : (a s : ℕ) → LowestBit a s → bitOf (a - 1) s ≡ 0
+before-at a zero x = let odd = sym (bitOf-first a) ∙ x .set in bitOf-first (a - 1) ∙ omega arith
+before-at a (suc s) x = let h = lowest-half a s x in bitOf-suc (a - 1) s ∙ ap (λ (n : ℕ). bitOf n s) (h .1) ∙ before-at (a / 2) s (h .0)
 
-  mask-bit : (j : ℕ) → j < k → bitOf without j ≡ min (bitOf a j) (1 - bitOf (1 * 2 ^ s % 2 ^ k) j)
-  mask-bit j l = bitOf-and a (2 ^ k - 1 - 1 * 2 ^ s % 2 ^ k) j ∙ ap (min (bitOf a j)) (bitOf-not k (1 * 2 ^ s % 2 ^ k) j (mod-lt (1 * 2 ^ s) (one-le-pow k 2 (omega arith))) l)
+-- and the same bits above it
+before-above : (a s j : ℕ) → LowestBit a s → s < j → bitOf (a - 1) j ≡ bitOf a j
+before-above a s zero x l = absurd (omega arith)
+before-above a zero (suc j) x l =
+    let odd = sym (bitOf-first a) ∙ x .set in
+    let half : (a - 1) / 2 ≡ a / 2 = omega arith in
+    bitOf-suc (a - 1) j ∙ ap (λ (n : ℕ). bitOf n j) half ∙ sym (bitOf-suc a j)
+before-above a (suc s) (suc j) x l =
+    let h = lowest-half a s x in
+    bitOf-suc (a - 1) j ∙ ap (λ (n : ℕ). bitOf n j) (h .1) ∙ before-above (a / 2) s j (h .0) (omega arith) ∙ sym (bitOf-suc a j)
 
+module _ (a s : ℕ) (x : LowestBit a s) where
   -- the bit is gone
-  pub bit-gone : s < k → bitOf without s ≡ 0
-  bit-gone h = omega (arith, mask-bit s h, bitOf-one k s h)
+  pub lowest-gone : bitOf (bitAnd a (a - 1)) s ≡ 0
+  lowest-gone = omega (arith, bitOf-and a (a - 1) s, before-at a s x)
 
   -- the others stay
-  pub bit-stays : (j : ℕ) → j < k → j ≢ s → bitOf without j ≡ bitOf a j
-  bit-stays j l ne = omega (arith, mask-bit j l, bitOf-others k s j l ne, bitOf-lt a j)
-
-  -- the number is smaller, if the bit was set
-  pub without-less : s < k → bitOf a s ≡ 1 → without < a
-  without-less h set = go (ℕ-discrete without a)
+  pub lowest-others : (j : ℕ) → j ≢ s → bitOf (bitAnd a (a - 1)) j ≡ bitOf a j
+  lowest-others j ne = bitOf-and a (a - 1) j ∙ go (decLt j s)
     where
-      go : Dec (without ≡ a) → without < a
-      go (yes e) = absurd (omega (arith, bit-gone h, ap (λ (x : ℕ). bitOf x s) e, set))
-      go (no e) = omega (arith, and-le-l a (2 ^ k - 1 - 1 * 2 ^ s % 2 ^ k))
+      go : Dec (j < s) → min (bitOf a j) (bitOf (a - 1) j) ≡ bitOf a j
+      go (yes l) = omega (arith, x .below j l)
+      go (no l) = omega (arith, before-above a s j x (omega arith))
+
+  -- the number is smaller
+  pub lowest-less : 0 < a → bitAnd a (a - 1) < a
+  lowest-less some = omega (arith, and-le-r a (a - 1))
 
 -- ---- a number is its bits
 

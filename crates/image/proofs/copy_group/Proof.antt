@@ -62,8 +62,8 @@ copy-block-requires c κs =
 add-to : tie.Need-add-to Inv-loop μ-loop
 add-to c = record { fits = omega (arith, room (c .before .before .before .before .before .before)) }
 
-shl-left : tie.Need-shl-left Inv-loop μ-loop
-shl-left c = turn (c .before .before .before .before .before .before) .few
+sub-left : tie.Need-sub-left Inv-loop μ-loop
+sub-left c = search needs
 
 loop-less : tie.Need-loop-less Inv-loop μ-loop
 loop-less c = turn (c .before .before .before .before .before .before) .less
@@ -101,7 +101,7 @@ copy-group-spec =
     plus-requires
     copy-block-requires
     add-to
-    shl-left
+    sub-left
     loop-less
     loop-again
     same-length
