@@ -33,7 +33,7 @@ use Rattle.rules.proofs.Twice.{twin-load}
 use Rattle.keeping.proofs.Owners.{reachable-head}
 use Rattle.promises.specs.Conditions.{when, First, RoomAfter, NoFit, ofInit, ofAllocate, ofFree, ofReallocate, ofCollect, ofSurvey, ofWord, ofWriteImage}
 use Rattle.promises.specs.Promises.{Object, blocksOf, Same, Counts, Surveyed}
-use Rattle.promises.specs.Determined.{partsOf}
+use Rattle.promises.specs.Determined.{partsOf, filledBy}
 use Rattle.promises.proofs.Promised.{promises}
 use Rattle.promises.specs.Images.{SameLife}
 use Rattle.promises.proofs.Imaging.{passed}
@@ -487,3 +487,8 @@ free-byte-unseen t base room roots pool table i v z z′ free =
         bytes = λ k held j l. sym (getD-set-other pool i (16 * k + j) v 0 (λ e. let q : (16 * k + j) / 16 ≡ k = omega arith in held (rw (sym q ∙ ap (λ (n : ℕ). n / 16) e) free)));
       },
     )
+
+-- a store writes into no buffer
+pub store-unfilled : (base : ℕ) (h : Heap) (k i w : ℕ) → step (Store base k i w) [] h .filled ≡ []
+unfolding filledBy
+store-unfilled base h k i w = whole .only-filled (Store base k i w) [] h

@@ -138,4 +138,4 @@ pub run-in-planes : RunInPlanes
 run-in-planes t ts m long =
     let h = there t m long in
     let x = planes-agree t .runs ts m (inPlanes t m) h in
-    (sym (x .0), are-planes t (afterIn packed ts m) (afterIn (planes t) ts (inPlanes t m)) (x .2) (after-written (planes t) (planes-faithful t) ts (inPlanes t m) (h .sound′) (there-written t m long)))
+    (sym (x .0), sym (x .1), are-planes t (afterIn packed ts m) (afterIn (planes t) ts (inPlanes t m)) (x .2) (after-written (planes t) (planes-faithful t) ts (inPlanes t m) (h .sound′) (there-written t m long)))

@@ -76,4 +76,5 @@ CallInPlanes = (t : ℕ) (c : Call) (stack : List ℕ) (m : Memory) → length (
 abbrev pub RunInPlanes : Type 0
 RunInPlanes =
     (t : ℕ) (ts : List Turn) (m : Memory) → length (m .table) ≡ t
-    → (answersIn (planes t) ts (inPlanes t m) ≡ answersIn packed ts m) × (afterIn (planes t) ts (inPlanes t m) ≡ inPlanes t (afterIn packed ts m))
+    → (answersIn (planes t) ts (inPlanes t m) ≡ answersIn packed ts m) × (filledIn (planes t) ts (inPlanes t m) ≡ filledIn packed ts m)
+    × (afterIn (planes t) ts (inPlanes t m) ≡ inPlanes t (afterIn packed ts m))
