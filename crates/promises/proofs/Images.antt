@@ -1,6 +1,6 @@
 -- An image says exactly what lives in its heap: each part is read off at its place, and no other part is written.
 -- Assumes nothing.
-use mathlib.Core.Path.{_≡_, refl, sym, ap, subst, _∙_}
+use mathlib.Core.Path.{_≡_, sym, ap, subst, _∙_}
 use mathlib.Core.Logic.{_≢_}
 use mathlib.Core.List.{List, []}
 use Prim.Native.Nat.{ℕ, _+_, _*_, _/_, _^_, _<_}
@@ -13,16 +13,16 @@ use Rattle.rules.specs.Tables.{entryAt, used}
 use Rattle.rules.specs.Forms.{Small}
 use Rattle.rules.specs.Meaning.{Accepted}
 use Rattle.rules.specs.Outcomes.{Heap}
-use Rattle.rules.specs.Planes.{entriesIn, planes}
+use Rattle.rules.specs.Planes.{planes}
 use Rattle.rules.specs.Images.{sections, usedFrom, imageOf}
 use Rattle.rules.specs.Calls.{writeImage}
-use Rattle.rules.specs.Runs.{Call, WriteImage, step}
-use Rattle.rules.specs.Memory.{Memory, heapIn, Result, AcceptedIn, perform}
+use Rattle.rules.specs.Runs.{WriteImage, step}
+use Rattle.rules.specs.Memory.{heapIn, Result}
 use Rattle.rules.proofs.Words.{number-bytesOf}
 use Rattle.rules.proofs.Entries.{length-tableOf, getD-tableOf, entriesOf-tableOf}
 use Rattle.rules.proofs.Images.{block-same, used-same}
 use Rattle.rules.proofs.Planes.{length-entriesIn, planes-faithful}
-use Rattle.promises.specs.Promises.{byteAt, packedByte, Imaged}
+use Rattle.promises.specs.Promises.{Imaged}
 use Rattle.promises.specs.Images.{SameLife, ImageSaysAll}
 use Rattle.promises.proofs.Imaging.{passed, filled-is, imaged}
 use Rattle.promises.proofs.Bytes.{on-bytes}
