@@ -3,26 +3,27 @@
 use mathlib.Core.Path.{_≡_, refl, sym, ap, _∙_}
 use mathlib.Core.Bool.{not}
 use mathlib.Core.List.{List, [], _∷_}
-use Prim.Native.Nat.{ℕ, _+_, _*_, _/_, _^_, _≤_, _<_}
+use Prim.Native.Nat.{ℕ, _+_, _*_, _^_, _≤_, _<_}
 use native.Mathlib.Omega.{arith}
 use lib.ListN.{length}
 use lib.Seq.{sets, sets-eq}
-use borrow.Author.Tests.{ltb-false, lt-ltb, le-ltb}
+use borrow.Author.Tests.{lt-ltb, le-ltb}
 use Rattle.rules.specs.Tables.{used}
 use Rattle.rules.specs.Meaning.{AllBytes}
 use Rattle.rules.specs.Outcomes.{Heap, writing}
-use Rattle.rules.specs.Refusals.{firstOf, goodShape, goodRoots, manyRoots, shortBuffer, rootTests}
+use Rattle.rules.specs.Refusals.{firstOf, shortBuffer, rootTests}
 use Rattle.rules.specs.Planes.{planes, entriesIn, IsTable, heapAt}
 use Rattle.rules.specs.Images.{imageOf}
 use Rattle.rules.specs.Calls.{imageTests, writeImage}
 use Rattle.rules.specs.Runs.{Call, WriteImage, step}
 use Rattle.rules.specs.Memory.{Memory, memory, Sound, withBuffer, testsIn, perform}
 use Rattle.rules.proofs.Tables.{used-le}
-use Rattle.rules.proofs.Planes.{length-entriesIn, planes-faithful, is-table}
-use Rattle.rules.proofs.Refusals.{refusal-is, both-left, first-yes, first-last, first-more, first-none, first-passed, accepts, shape-true}
+use Rattle.rules.proofs.Planes.{length-entriesIn, planes-faithful}
+use Rattle.rules.proofs.Refusals.{refusal-is, first-yes, first-last, first-more, accepts, roots-passed}
 use Rattle.rules.proofs.Images.{length-image}
 use Rattle.rules.proofs.Memory.{sound-of, refused-first-in, refused-next-in, left-in, acted-filling}
 use Rattle.checks.specs.Refusal.{refusalBy}
+use Rattle.checks.proofs.FirstTests.{is-table-roots}
 use Rattle.image.specs.Answers.{written, unwrittenBy}
 
 module _ (t base : ℕ) (pool table roots buffer : List ℕ) {r : ℕ} (first : r ≡ refusalBy t pool table (λ (h : Heap). rootTests base h roots)) where
@@ -72,15 +73,14 @@ module _ (t base : ℕ) (pool table roots buffer : List ℕ) {r : ℕ} (first : 
 
     pub known : Known
     known =
-        let p = first-passed (goodRoots base h roots) h (manyRoots roots ∷ []) (passes .1) in
-        let shape = shape-true base h (both-left (goodShape base h) _ (p .0)) in
-        let many = ltb-false 4096 (length roots / 4) (first-none (manyRoots roots) [] (omega arith) (p .2) .0) in
+        let (good, whole-words, few-words, _) = roots-passed base h roots [] (passes .1) in
+        let shape = good .shape in
         record {
-          is = is-table t pool table (shape .few) (passes .0);
+          is = is-table-roots base t pool table roots first ok .0;
           whole = shape .pool;
           address = omega (arith, shape .below, shape .some);
           few = omega (arith, used-le (entriesIn t table), shape .few);
-          few-roots = omega (arith, many);
+          few-roots = omega (arith, few-words);
           long = omega (arith, length-image base h roots (shape .pool), length-entriesIn t table);
         }
 
