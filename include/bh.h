@@ -226,7 +226,7 @@ static inline uint32_t bh_object_bytes(const struct blockheap *heap, uint32_t bl
     return BLOCKHEAP_BLOCK_BYTES * (end - block);
 }
 
-/* How many bytes the heap's image has with so many root words; 0 if the heap is refused, as bh_survey does. */
+/* How many bytes the heap's image has with so many root words; 0 if bh_survey refuses the heap. */
 static inline size_t bh_image_bytes(const struct blockheap *heap, size_t roots)
 {
     uint32_t used;

@@ -79,14 +79,17 @@
  *
  *   section   count         items
  *   base      1             the base: one word
- *   table     t             bytes with the two bits of four blocks each, those of
- *                           block 4 * i in the lowest two bits of byte i
+ *   table     t             bytes with the entries of four blocks each: that of
+ *                           block k is (byte[k / 4] >> 2 * (k % 4)) & 3, a
+ *                           number of enum blockheap_entry
  *   blocks    used blocks   the 16 bytes of each block that is not FREE, rising
  *   roots     root words    the root words as they were handed over
  *
  * That is 12 + t + 16 * used + 4 * roots bytes, BLOCKHEAP_IMAGE_BYTES. The table
- * is not in planes here, and has no spare bits. Of a free block the file has the
- * two bits alone.
+ * is not in planes here, and has no spare bits: blocks that are FREE, HEAD, TAIL
+ * and FREE are the byte 0x24. Of a free block the file has its entry alone. An
+ * object that nothing leads to any more is used until a collection frees it:
+ * collect first, or it is in the file.
  *
  * Here t is 1 and the base 4,096. Block 0 is an object, all of it 0, and the one
  * root is its address. The image has 33 bytes:

@@ -49,7 +49,7 @@ pub record Guarantees : Type 2 where
   -- That leaves one outcome: the same answer, the same entries and the same bytes; and no call changes the size of the heap.
   pub determined : Determined
   pub whole : Whole
-  -- An image says exactly what lives in the heap: two are the same if and only if t, the base, the roots, the entries and the bytes of used blocks are.
+  -- An image says exactly what is allocated in the heap, reachable or not: two are the same if and only if t, the base, the roots, the entries and the bytes of used blocks are.
   pub image-says-all : ImageSaysAll
   -- An object of four blocks or more that is made or gets more blocks starts at a block divisible by four, and from an accepted init on every such object does.
   pub new-objects-aligned : NewObjectsAligned

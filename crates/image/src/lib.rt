@@ -16,7 +16,7 @@ ghost use Rattle.image.specs.Answers.{written, unwrittenBy};
 use memory::Address;
 use memory::Block;
 
-// How long the image is.
+// The refusal number, and how long the image is.
 pub struct Written {
     pub refusal: u32,
     pub length: u32,

@@ -3,7 +3,7 @@
 use mathlib.Core.Path.{_≡_, refl, ap, sym, _∙_}
 use mathlib.Core.Logic.{_≢_, _⊎_, inl, inr, ⊎-elim}
 use mathlib.Core.Bool.{Bool, true, false, not}
-use mathlib.Core.List.{List, [], _∷_}
+use mathlib.Core.List.{List, [], _∷_, _++_}
 use Prim.Native.Nat.{ℕ, zero, suc, _+_, _-_, _*_, _≤_}
 use native.Mathlib.Decide.{ℕ-discrete}
 use native.Mathlib.Omega.{arith}
@@ -15,6 +15,7 @@ use Rattle.rules.specs.Tests.{both, either}
 use Rattle.rules.specs.Entries.{FREE}
 use Rattle.rules.specs.Outcomes.{Heap, Outcome, onlyRefusal}
 use Rattle.rules.specs.Refusals.{test, firstOf}
+use Rattle.rules.specs.Images.{imageOf}
 use Rattle.rules.specs.Runs.{Call, Init, Allocate, Free, Reallocate, Collect, Survey, Load, Store, WriteImage, step}
 use Rattle.rules.specs.Forms.{Form, Faithful}
 use Rattle.rules.specs.Planes.{planeBytes, entriesIn, spareFree, planesOf, planes, heapAt}
@@ -29,7 +30,7 @@ use Rattle.promises.specs.Bytes.{OnBytes, AsPacked}
 use Rattle.promises.proofs.Checked.{init-checked, acts}
 use Rattle.promises.proofs.Planes.{shape-in-bytes, spare-in-bytes, free-planes}
 use Rattle.promises.proofs.Storing.{stored, survey-leaves, load-leaves}
-use Rattle.promises.proofs.Imaging.{image-leaves, image-fits}
+use Rattle.promises.proofs.Imaging.{image-leaves, filled-is, image-fits}
 use Rattle.promises.proofs.Numbers.{first-step, first-end, init-refusal, allocate-refusal, free-refusal, reallocate-refusal, collect-refusal, survey-refusal, load-refusal, store-refusal, image-refusal}
 
 refused-bytes : (f : Form) (c : Call) (stack : List ℕ) (m : Memory) → ¬ AcceptedIn (perform f c stack m)
@@ -212,6 +213,14 @@ module _ (f : Form) (base : ℕ) (roots buffer : List ℕ) (m : Memory) where
             rw e (getD-append-add written (drop (length written) buffer) (i - length written) 0 ∙ getD-drop (length written) buffer (i - length written) 0),
       )
 
+  image-front : AcceptedIn (perform f c [] m) → let image : List ℕ = imageOf base (heapIn f m) roots in
+      withBuffer buffer (perform f c [] m) .filled ≡ image ++ drop (length image) buffer
+  unfolding step
+  image-front z =
+      let a = accepted-bytes f c [] m z in
+      let e = ap (λ (r : Result). r .filled) (a .1) ∙ filled-is base (heapIn f m) roots (length buffer) (a .0) in
+      ap (λ (bytes : List ℕ). bytes ++ drop (length bytes) buffer) e
+
   image-refused : ¬ AcceptedIn (perform f c [] m) → withBuffer buffer (perform f c [] m) .filled ≡ buffer
   image-refused no-number = rw (refused-bytes f c [] m no-number) refl
 
@@ -228,6 +237,7 @@ on-bytes = record {
   store-bytes = store-bytes;
   image-bytes = image-bytes;
   image-behind = image-behind;
+  image-front = image-front;
   image-refused = image-refused;
   planes-faithful = planes-faithful;
   packed-faithful = packed-faithful;

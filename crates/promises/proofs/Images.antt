@@ -1,4 +1,4 @@
--- An image says exactly what lives in its heap: each part is read off at its place, and no other part is written.
+-- An image says exactly what is allocated in its heap: each part is read off at its place, and no other part is written.
 -- Assumes nothing.
 use mathlib.Core.Path.{_≡_, sym, ap, subst, _∙_}
 use mathlib.Core.Logic.{_≢_}
@@ -23,8 +23,9 @@ use Rattle.rules.proofs.Entries.{length-tableOf, getD-tableOf, entriesOf-tableO
 use Rattle.rules.proofs.Images.{block-same, used-same}
 use Rattle.rules.proofs.Planes.{length-entriesIn, planes-faithful}
 use Rattle.promises.specs.Promises.{Imaged}
-use Rattle.promises.specs.Images.{SameLife, ImageSaysAll}
-use Rattle.promises.proofs.Imaging.{passed, filled-is, imaged}
+use Rattle.promises.specs.Images.{SameAllocated, ImageSaysAll}
+use Rattle.promises.proofs.Imaging.{passed, filled-is}
+use Rattle.promises.proofs.Promised.{promises}
 use Rattle.promises.proofs.Bytes.{on-bytes}
 
 -- its four bytes tell a number
@@ -53,10 +54,10 @@ module _ (base base′ room room′ : ℕ) (roots roots′ : List ℕ) (h h′ :
   es′ = h′ .entries
 
   said : Imaged base h roots (length es / 4) (used es) (writeImage base h roots room)
-  said = imaged base h roots room z
+  said = promises .imaged base h roots room z
 
   said′ : Imaged base′ h′ roots′ (length es′ / 4) (used es′) (writeImage base′ h′ roots′ room′)
-  said′ = imaged base′ h′ roots′ room′ z′
+  said′ = promises .imaged base′ h′ roots′ room′ z′
 
   -- they are the same
   module _ (same : image ≡ image′) where
@@ -92,8 +93,8 @@ module _ (base base′ room room′ : ℕ) (roots roots′ : List ℕ) (h h′ :
               let u : used es ≡ used es′ = ap used e in
               omega (arith, blocks-same, u, said .long, said′ .long, ap (λ (bytes : List ℕ). length bytes) same)
 
-      life-same : SameLife h h′
-      life-same = record {
+      allocated-same : SameAllocated h h′
+      allocated-same = record {
         entries = e;
         bytes = λ k held j l.
             sym (said .block-bytes k held j (omega (arith, l))) ∙ at (10 + length es / 4 + 16 * used (take k es) + j)
@@ -101,23 +102,23 @@ module _ (base base′ room room′ : ℕ) (roots roots′ : List ℕ) (h h′ :
             ∙ said′ .block-bytes k (subst (λ (es : List ℕ). entryAt es k ≢ FREE) e held) j (omega (arith, l));
       }
 
-  -- what lives is the same
-  same-image : base ≡ base′ → roots ≡ roots′ → SameLife h h′ → image ≡ image′
+  -- what is allocated is the same
+  same-image : base ≡ base′ → roots ≡ roots′ → SameAllocated h h′ → image ≡ image′
   unfolding imageOf
-  same-image eb er life =
+  same-image eb er allocated =
       filled-is base h roots room z
       ∙ ap (λ (b : ℕ). sections b es (usedFrom (h .pool) 0 es) roots) eb ∙ ap (λ (r : List ℕ). sections base′ es (usedFrom (h .pool) 0 es) r) er
       ∙ ap (λ (bytes : List ℕ). sections base′ es bytes roots′) bytes
-      ∙ ap (λ (es : List ℕ). sections base′ es (usedFrom (h′ .pool) 0 es) roots′) (life .entries)
+      ∙ ap (λ (es : List ℕ). sections base′ es (usedFrom (h′ .pool) 0 es) roots′) (allocated .entries)
       ∙ sym (filled-is base′ h′ roots′ room′ z′)
     where
       long : length (h .pool) ≡ length (h′ .pool)
       long =
-          let n : length es ≡ length es′ = ap (λ (es : List ℕ). length es) (life .entries) in
+          let n : length es ≡ length es′ = ap (λ (es : List ℕ). length es) (allocated .entries) in
           omega (arith, n, passed base h roots room z .0 .shape .pool, passed base′ h′ roots′ room′ z′ .0 .shape .pool)
 
       bytes : usedFrom (h .pool) 0 es ≡ usedFrom (h′ .pool) 0 es
-      bytes = used-same (h .pool) (h′ .pool) 0 es (λ k held. let here : 0 + k ≡ k = omega arith in rw here (block-same (h .pool) (h′ .pool) k long (life .bytes k held)))
+      bytes = used-same (h .pool) (h′ .pool) 0 es (λ k held. let here : 0 + k ≡ k = omega arith in rw here (block-same (h .pool) (h′ .pool) k long (allocated .bytes k held)))
 
 pub image-says-all : ImageSaysAll
 unfolding step
@@ -127,7 +128,7 @@ image-says-all t t′ base base′ room room′ roots roots′ m m′ z z′ =
     let w = ap (λ (r : Result). r .filled) (a .1) in
     let w′ = ap (λ (r : Result). r .filled) (a′ .1) in (
       λ same. all (a .0) (a′ .0) (sym w ∙ same ∙ w′),
-      λ (_, eb, er, life). w ∙ same-image base base′ room room′ roots roots′ (heapIn (planes t) m) (heapIn (planes t′) m′) (a .0) (a′ .0) eb er life ∙ sym w′,
+      λ (_, eb, er, allocated). w ∙ same-image base base′ room room′ roots roots′ (heapIn (planes t) m) (heapIn (planes t′) m′) (a .0) (a′ .0) eb er allocated ∙ sym w′,
     )
   where
     h : Heap
@@ -137,7 +138,7 @@ image-says-all t t′ base base′ room room′ roots roots′ m m′ z z′ =
     h′ = heapIn (planes t′) m′
 
     all : (x : Accepted (writeImage base h roots room)) (x′ : Accepted (writeImage base′ h′ roots′ room′))
-        → writeImage base h roots room .filled ≡ writeImage base′ h′ roots′ room′ .filled → (t ≡ t′) × (base ≡ base′) × (roots ≡ roots′) × SameLife h h′
+        → writeImage base h roots room .filled ≡ writeImage base′ h′ roots′ room′ .filled → (t ≡ t′) × (base ≡ base′) × (roots ≡ roots′) × SameAllocated h h′
     all x x′ same =
         let n = length-entriesIn t (m .table) in
         let n′ = length-entriesIn t′ (m′ .table) in
@@ -148,5 +149,5 @@ image-says-all t t′ base base′ room room′ roots roots′ m m′ z z′ =
           omega (arith, n, n′, b),
           base-same base base′ room room′ roots roots′ h h′ x x′ same,
           roots-same base base′ room room′ roots roots′ h h′ x x′ same e,
-          life-same base base′ room room′ roots roots′ h h′ x x′ same e,
+          allocated-same base base′ room room′ roots roots′ h h′ x x′ same e,
         )

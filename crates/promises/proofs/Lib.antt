@@ -10,9 +10,9 @@ pub mod Collecting
 pub mod Imaging
 pub mod Planes
 pub mod Bytes
-pub mod Images
 pub mod OtherT
 pub mod Promised
+pub mod Images
 pub mod Determined
 pub mod Whole
 pub mod Observed

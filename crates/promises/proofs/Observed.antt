@@ -33,9 +33,9 @@ use Rattle.rules.proofs.Twice.{twin-load}
 use Rattle.keeping.proofs.Owners.{reachable-head}
 use Rattle.promises.specs.Conditions.{when, First, RoomAfter, NoFit, ofInit, ofAllocate, ofFree, ofReallocate, ofCollect, ofSurvey, ofWord, ofWriteImage}
 use Rattle.promises.specs.Promises.{Object, blocksOf, Same, Counts, Surveyed}
-use Rattle.promises.specs.Determined.{partsOf, filledBy}
+use Rattle.promises.specs.Determined.{partsOf}
 use Rattle.promises.proofs.Promised.{promises}
-use Rattle.promises.specs.Images.{SameLife}
+use Rattle.promises.specs.Images.{SameAllocated}
 use Rattle.promises.proofs.Imaging.{passed}
 use Rattle.promises.proofs.Images.{image-says-all}
 use Rattle.promises.proofs.Bytes.{on-bytes}
@@ -447,14 +447,14 @@ module _ (base : ℕ) (h : Heap) where
 
 -- ---- images
 
--- what lives in two heaps is the same: their pools match
-life-matches : (base base′ room room′ : ℕ) (roots roots′ : List ℕ) (h h′ : Heap) → Accepted (writeImage base h roots room) → Accepted (writeImage base′ h′ roots′ room′)
-    → SameLife h h′ → Matching (h .entries) (h .pool) (h′ .pool)
-life-matches base base′ room room′ roots roots′ h h′ z z′ life = record {
+-- what is allocated in two heaps is the same: their pools match
+allocated-matches : (base base′ room room′ : ℕ) (roots roots′ : List ℕ) (h h′ : Heap) → Accepted (writeImage base h roots room) → Accepted (writeImage base′ h′ roots′ room′)
+    → SameAllocated h h′ → Matching (h .entries) (h .pool) (h′ .pool)
+allocated-matches base base′ room room′ roots roots′ h h′ z z′ allocated = record {
   long =
-      let n : length (h .entries) ≡ length (h′ .entries) = ap (λ (es : List ℕ). length es) (life .entries) in
+      let n : length (h .entries) ≡ length (h′ .entries) = ap (λ (es : List ℕ). length es) (allocated .entries) in
       omega (arith, n, passed base h roots room z .0 .shape .pool, passed base′ h′ roots′ room′ z′ .0 .shape .pool);
-  bytes = λ i held. let e : 16 * (i / 16) + i % 16 ≡ i = omega arith in rw e at (life .bytes (i / 16) held (i % 16) (omega arith));
+  bytes = λ i held. let e : 16 * (i / 16) + i % 16 ≡ i = omega arith in rw e at (allocated .bytes (i / 16) held (i % 16) (omega arith));
 }
 
 -- heaps with the same image answer every load alike
@@ -465,12 +465,12 @@ pub image-loads : (t t′ base base′ room room′ : ℕ) (roots roots′ : Lis
     → (k i : ℕ) → load base (heapIn (planes t) m) k i .answer ≡ load base′ (heapIn (planes t′) m′) k i .answer
 unfolding step
 image-loads t t′ base base′ room room′ roots roots′ m m′ z z′ same k i =
-    let (_, eb, er, life) = image-says-all t t′ base base′ room room′ roots roots′ m m′ z z′ .0 same in
+    let (_, eb, _, allocated) = image-says-all t t′ base base′ room room′ roots roots′ m m′ z z′ .0 same in
     let x = on-bytes .accepted-bytes (planes t) (WriteImage base roots room) [] m z .0 in
     let x′ = on-bytes .accepted-bytes (planes t′) (WriteImage base′ roots′ room′) [] m′ z′ .0 in
     let h = heapIn (planes t) m in
     let h′ = heapIn (planes t′) m′ in
-    rw (← eb, ← life .entries) (twin-load base (h .entries) (h .pool) (h′ .pool) (life-matches base base′ room room′ roots roots′ h h′ x x′ life) k i .answer)
+    rw (← eb, ← allocated .entries) (twin-load base (h .entries) (h .pool) (h′ .pool) (allocated-matches base base′ room room′ roots roots′ h h′ x x′ allocated) k i .answer)
 
 -- a byte of a FREE block is in no image
 pub free-byte-unseen : (t base room : ℕ) (roots pool table : List ℕ) (i v : ℕ)
@@ -487,8 +487,3 @@ free-byte-unseen t base room roots pool table i v z z′ free =
         bytes = λ k held j l. sym (getD-set-other pool i (16 * k + j) v 0 (λ e. let q : (16 * k + j) / 16 ≡ k = omega arith in held (rw (sym q ∙ ap (λ (n : ℕ). n / 16) e) free)));
       },
     )
-
--- a store writes into no buffer
-pub store-unfilled : (base : ℕ) (h : Heap) (k i w : ℕ) → step (Store base k i w) [] h .filled ≡ []
-unfolding filledBy
-store-unfilled base h k i w = whole .only-filled (Store base k i w) [] h

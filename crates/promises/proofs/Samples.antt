@@ -299,10 +299,13 @@ turns-answers =
     ∙ ap (λ (a : Answer). a ∷ load base (store base h 2 11 4294967295 .heap) 2 11 .answer ∷ []) (store-answer base h 2 11 4294967295 (computed .stores))
     ∙ ap (λ (a : Answer). onlyRefusal 0 ∷ a ∷ []) stored-back)
 
--- an image with a t of 4 writes nothing
-pub turns-filled : filledAt (turnAt 4 (WriteImage base sampleRoots 4096) [] ∷ []) sampleMemory ≡ [] ∷ []
+-- images with a t of 4 write nothing, and one with the heap's own t between them what it writes alone
+abbrev images : List TurnAt
+images = turnAt 4 (WriteImage base sampleRoots 4096) [] ∷ turnAt 3 (WriteImage base sampleRoots 4096) [] ∷ turnAt 4 (WriteImage base sampleRoots 4096) [] ∷ []
+
+pub turns-filled : filledAt images sampleMemory ≡ [] ∷ perform (planes 3) (WriteImage base sampleRoots 4096) [] sampleMemory .filled ∷ [] ∷ []
 unfolding ofT othersAs filledIn
-turns-filled = other-t-is-refused .filled 3 sampleMemory (turnAt 4 (WriteImage base sampleRoots 4096) [] ∷ []) (computed .shape .size)
+turns-filled = other-t-is-refused .filled 3 sampleMemory images (computed .shape .size)
 
 -- the two alone leave every byte
 pub turns-bytes : afterAt (turnAt 4 (Free base 2) [] ∷ turnAt 18446744073709551615 (Init base) [] ∷ []) sampleMemory ≡ sampleMemory

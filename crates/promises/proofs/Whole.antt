@@ -1,6 +1,7 @@
 -- What no record speaks of: every call is a list of tests and an act, and neither a refusal nor an act changes a size or answers a part of another call.
 -- Assumes nothing.
 use mathlib.Core.Path.{_≡_, refl, sym, _∙_}
+use mathlib.Core.Logic.{_≢_}
 use mathlib.Core.List.{List, []}
 use Prim.Native.Nat.{ℕ, zero, suc}
 use lib.Seq.{ext-getD}
@@ -11,7 +12,7 @@ use Rattle.rules.specs.Refusals.{Test, firstOf}
 use Rattle.rules.specs.Calls.{Way, stay, shrink, grow, move, noWay, along, placing, blocksFor, wayOf, collecting}
 use Rattle.rules.specs.Runs.{Call, Init, Allocate, Free, Reallocate, Collect, Survey, Load, Store, WriteImage, step}
 use Rattle.rules.proofs.Sizes.{step-keeps}
-use Rattle.promises.specs.Determined.{SameHeap, Sized, partsOf, filledBy, Whole}
+use Rattle.promises.specs.Determined.{SameHeap, Sized, partsOf, Whole}
 use Rattle.promises.proofs.Checked.{Checked, init-checked, allocate-checked, free-checked, reallocate-checked, collect-checked, survey-checked, load-checked, store-checked, image-checked}
 
 -- ---- sizes
@@ -90,18 +91,18 @@ unfilled-along grow h k b c = refl
 unfilled-along (move s) h k b c = refl
 unfilled-along noWay h k b c = refl
 
-pub only-filled : (c : Call) (stack : List ℕ) (h : Heap) → step c stack h .filled ≡ filledBy c (step c stack h .filled)
-unfolding step placing collecting filledBy
-only-filled (Init base) stack h = unfilled (init-checked base h) refl
-only-filled (Allocate base bytes) stack h = unfilled (allocate-checked base h bytes) refl
-only-filled (Free base k) stack h = unfilled (free-checked base h k) refl
-only-filled (Reallocate base k bytes) stack h =
+pub only-filled : (c : Call) (stack : List ℕ) (h : Heap) → ((base : ℕ) (roots : List ℕ) (room : ℕ) → c ≢ WriteImage base roots room) → step c stack h .filled ≡ []
+unfolding step placing collecting
+only-filled (Init base) stack h other = unfilled (init-checked base h) refl
+only-filled (Allocate base bytes) stack h other = unfilled (allocate-checked base h bytes) refl
+only-filled (Free base k) stack h other = unfilled (free-checked base h k) refl
+only-filled (Reallocate base k bytes) stack h other =
     unfilled (reallocate-checked base h k bytes) (unfilled-along (wayOf h k bytes) h k (blockCount (h .entries) k) (blocksFor bytes))
-only-filled (Collect base roots) stack h = unfilled (collect-checked base h roots stack) refl
-only-filled (Survey base) stack h = unfilled (survey-checked base h) refl
-only-filled (Load base k i) stack h = unfilled (load-checked base h k i) refl
-only-filled (Store base k i w) stack h = unfilled (store-checked base h k i w) refl
-only-filled (WriteImage base roots room) stack h = refl
+only-filled (Collect base roots) stack h other = unfilled (collect-checked base h roots stack) refl
+only-filled (Survey base) stack h other = unfilled (survey-checked base h) refl
+only-filled (Load base k i) stack h other = unfilled (load-checked base h k i) refl
+only-filled (Store base k i w) stack h other = unfilled (store-checked base h k i w) refl
+only-filled (WriteImage base roots room) stack h other = absurd (other base roots room refl)
 
 pub whole : Whole
 whole = record { sized = sized; one-heap = one-heap; only-parts = only-parts; only-filled = only-filled }

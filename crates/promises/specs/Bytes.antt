@@ -3,13 +3,14 @@
 use mathlib.Core.Path.{_≡_}
 use mathlib.Core.Logic.{_≢_, _↔_, _⊎_}
 use mathlib.Core.Bool.{true, false}
-use mathlib.Core.List.{List, [], _∷_}
+use mathlib.Core.List.{List, [], _∷_, _++_}
 use Prim.Native.Nat.{ℕ, _+_, _-_, _*_, _%_, _≤_, _<_}
-use lib.ListN.{length, getD, replicate}
+use lib.ListN.{length, getD, drop, replicate}
 use Rattle.rules.specs.Bits.{bitOf}
 use Rattle.rules.specs.Entries.{tableOf}
 use Rattle.rules.specs.Tables.{entryAt}
 use Rattle.rules.specs.Outcomes.{Outcome, onlyRefusal}
+use Rattle.rules.specs.Images.{imageOf}
 use Rattle.rules.specs.Runs.{Call, Init, Survey, Load, Store, WriteImage, step}
 use Rattle.rules.specs.Forms.{Form, packed, Faithful}
 use Rattle.rules.specs.Planes.{planeBytes, entriesIn, spareFree, planes, heapAt}
@@ -54,6 +55,10 @@ pub record OnBytes : Type 0 where
       → let r : Result = perform f (WriteImage base roots (length buffer)) [] m in
       let left : List ℕ = withBuffer buffer r .filled in
       (length left ≡ length buffer) × ((i : ℕ) → r .answer .length ≤ i → getD left i 0 ≡ getD buffer i 0)
+  -- its front is then the image
+  pub image-front : (f : Form) (base : ℕ) (roots buffer : List ℕ) (m : Memory) → AcceptedIn (perform f (WriteImage base roots (length buffer)) [] m)
+      → let image : List ℕ = imageOf base (heapIn f m) roots in
+      withBuffer buffer (perform f (WriteImage base roots (length buffer)) [] m) .filled ≡ image ++ drop (length image) buffer
   -- on a refusal it leaves all of it
   pub image-refused : (f : Form) (base : ℕ) (roots buffer : List ℕ) (m : Memory) → ¬ AcceptedIn (perform f (WriteImage base roots (length buffer)) [] m)
       → withBuffer buffer (perform f (WriteImage base roots (length buffer)) [] m) .filled ≡ buffer

@@ -2,6 +2,7 @@
 -- So a sentence that said less would not do. What no record speaks of, the size of the heap and the parts that a call does not answer, is said last.
 -- Assumes nothing.
 use mathlib.Core.Path.{_≡_}
+use mathlib.Core.Logic.{_≢_}
 use mathlib.Core.List.{List, []}
 use Prim.Native.Nat.{ℕ, _/_}
 use lib.ListN.{length}
@@ -72,18 +73,6 @@ partsOf (Load base k i) a = reading (a .refusal) (a .value)
 partsOf (Store base k i w) a = onlyRefusal (a .refusal)
 partsOf (WriteImage base roots room) a = writing (a .refusal) (a .length)
 
--- what a call writes into a buffer: an image, and nothing of every other call
-unfoldable pub filledBy : Call → List ℕ → List ℕ
-filledBy (Init base) bytes = []
-filledBy (Allocate base n) bytes = []
-filledBy (Free base k) bytes = []
-filledBy (Reallocate base k n) bytes = []
-filledBy (Collect base roots) bytes = []
-filledBy (Survey base) bytes = []
-filledBy (Load base k i) bytes = []
-filledBy (Store base k i w) bytes = []
-filledBy (WriteImage base roots room) bytes = bytes
-
 pub record Whole : Type 0 where
   -- no call changes the number of blocks or of bytes
   pub sized : (c : Call) (stack : List ℕ) (h : Heap) → Sized h (step c stack h)
@@ -91,5 +80,5 @@ pub record Whole : Type 0 where
   pub one-heap : (h : Heap) (r r' : Outcome) → Sized h r → Sized h r' → SameHeap (r .heap) (r' .heap) → r .heap ≡ r' .heap
   -- a part that a call does not answer is zero
   pub only-parts : (c : Call) (stack : List ℕ) (h : Heap) → step c stack h .answer ≡ partsOf c (step c stack h .answer)
-  -- and none but an image writes into a buffer
-  pub only-filled : (c : Call) (stack : List ℕ) (h : Heap) → step c stack h .filled ≡ filledBy c (step c stack h .filled)
+  -- and no other call than an image writes into a buffer
+  pub only-filled : (c : Call) (stack : List ℕ) (h : Heap) → ((base : ℕ) (roots : List ℕ) (room : ℕ) → c ≢ WriteImage base roots room) → step c stack h .filled ≡ []
