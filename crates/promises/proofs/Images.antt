@@ -3,7 +3,7 @@
 use mathlib.Core.Path.{_≡_, sym, ap, subst, _∙_}
 use mathlib.Core.Logic.{_≢_}
 use mathlib.Core.List.{List, []}
-use Prim.Native.Nat.{ℕ, _+_, _*_, _/_, _^_, _<_}
+use Prim.Native.Nat.{ℕ, _+_, _*_, _/_, _%_, _^_, _<_}
 use native.Mathlib.Omega.{arith}
 use lib.ListN.{length, getD, take}
 use lib.Seq.{ext-getD}
@@ -14,13 +14,14 @@ use Rattle.rules.specs.Forms.{Small}
 use Rattle.rules.specs.Meaning.{Accepted}
 use Rattle.rules.specs.Outcomes.{Heap}
 use Rattle.rules.specs.Planes.{planes}
-use Rattle.rules.specs.Images.{sections, usedFrom, imageOf}
+use Rattle.rules.specs.Images.{imageOf}
 use Rattle.rules.specs.Calls.{writeImage}
 use Rattle.rules.specs.Runs.{WriteImage, step}
 use Rattle.rules.specs.Memory.{heapIn, Result}
 use Rattle.rules.proofs.Words.{number-bytesOf}
 use Rattle.rules.proofs.Entries.{length-tableOf, getD-tableOf, entriesOf-tableOf}
-use Rattle.rules.proofs.Images.{block-same, used-same}
+use Rattle.rules.proofs.Matching.{Matching}
+use Rattle.rules.proofs.Twice.{image-same}
 use Rattle.rules.proofs.Planes.{length-entriesIn, planes-faithful}
 use Rattle.promises.specs.Promises.{Imaged}
 use Rattle.promises.specs.Images.{SameAllocated, ImageSaysAll}
@@ -102,23 +103,23 @@ module _ (base base′ room room′ : ℕ) (roots roots′ : List ℕ) (h h′ :
             ∙ said′ .block-bytes k (subst (λ (es : List ℕ). entryAt es k ≢ FREE) e held) j (omega (arith, l));
       }
 
-  -- what is allocated is the same
+  -- what is allocated is the same: the pools match
+  pub pools-match : SameAllocated h h′ → Matching es (h .pool) (h′ .pool)
+  pools-match allocated = record {
+    long =
+        let n : length es ≡ length es′ = ap (λ (es : List ℕ). length es) (allocated .entries) in
+        omega (arith, n, passed base h roots room z .0 .shape .pool, passed base′ h′ roots′ room′ z′ .0 .shape .pool);
+    bytes = λ i held. let e : 16 * (i / 16) + i % 16 ≡ i = omega arith in rw e at (allocated .bytes (i / 16) held (i % 16) (omega arith));
+  }
+
+  -- so the images are
   same-image : base ≡ base′ → roots ≡ roots′ → SameAllocated h h′ → image ≡ image′
-  unfolding imageOf
   same-image eb er allocated =
       filled-is base h roots room z
-      ∙ ap (λ (b : ℕ). sections b es (usedFrom (h .pool) 0 es) roots) eb ∙ ap (λ (r : List ℕ). sections base′ es (usedFrom (h .pool) 0 es) r) er
-      ∙ ap (λ (bytes : List ℕ). sections base′ es bytes roots′) bytes
-      ∙ ap (λ (es : List ℕ). sections base′ es (usedFrom (h′ .pool) 0 es) roots′) (allocated .entries)
+      ∙ ap (λ (b : ℕ). imageOf b h roots) eb ∙ ap (imageOf base′ h) er
+      ∙ image-same base′ es (h .pool) (h′ .pool) (pools-match allocated) roots′
+      ∙ ap (λ (es : List ℕ). imageOf base′ (record { pool = h′ .pool; entries = es }) roots′) (allocated .entries)
       ∙ sym (filled-is base′ h′ roots′ room′ z′)
-    where
-      long : length (h .pool) ≡ length (h′ .pool)
-      long =
-          let n : length es ≡ length es′ = ap (λ (es : List ℕ). length es) (allocated .entries) in
-          omega (arith, n, passed base h roots room z .0 .shape .pool, passed base′ h′ roots′ room′ z′ .0 .shape .pool)
-
-      bytes : usedFrom (h .pool) 0 es ≡ usedFrom (h′ .pool) 0 es
-      bytes = used-same (h .pool) (h′ .pool) 0 es (λ k held. let here : 0 + k ≡ k = omega arith in rw here (block-same (h .pool) (h′ .pool) k long (allocated .bytes k held)))
 
 pub image-says-all : ImageSaysAll
 unfolding step

@@ -10,7 +10,7 @@ use Prim.Native.Nat.{ℕ, zero, suc, _+_, _-_, _*_, _/_, _%_, _≤_, _<_}
 use native.Mathlib.Decide.{decLt}
 use native.Mathlib.Omega.{arith}
 use lib.IntN.{ℤ, pos, negℤ, subℕ, _+ℤ_, natAbs}
-use lib.ListN.{length, getD, set}
+use lib.ListN.{getD, set}
 use lib.Seq.{getD-set-other}
 use Rattle.rules.specs.Words.{number, wordAt, wordsOf}
 use Rattle.rules.specs.Entries.{FREE}
@@ -28,16 +28,13 @@ use Rattle.rules.proofs.Words.{wordAt-same}
 use Rattle.rules.proofs.Refusals.{true-not-false}
 use Rattle.rules.proofs.Tables.{entry-inside, well-says, run-shorter}
 use Rattle.rules.proofs.Pointers.{points-one, leads-one}
-use Rattle.rules.proofs.Matching.{Matching}
 use Rattle.rules.proofs.Twice.{twin-load}
 use Rattle.keeping.proofs.Owners.{reachable-head}
 use Rattle.promises.specs.Conditions.{when, First, RoomAfter, NoFit, ofInit, ofAllocate, ofFree, ofReallocate, ofCollect, ofSurvey, ofWord, ofWriteImage}
 use Rattle.promises.specs.Promises.{Object, blocksOf, Same, Counts, Surveyed}
 use Rattle.promises.specs.Determined.{partsOf}
 use Rattle.promises.proofs.Promised.{promises}
-use Rattle.promises.specs.Images.{SameAllocated}
-use Rattle.promises.proofs.Imaging.{passed}
-use Rattle.promises.proofs.Images.{image-says-all}
+use Rattle.promises.proofs.Images.{pools-match, image-says-all}
 use Rattle.promises.proofs.Bytes.{on-bytes}
 use Rattle.promises.proofs.Determined.{first-one, refused-one}
 use Rattle.promises.proofs.Whole.{whole}
@@ -447,16 +444,6 @@ module _ (base : ℕ) (h : Heap) where
 
 -- ---- images
 
--- what is allocated in two heaps is the same: their pools match
-allocated-matches : (base base′ room room′ : ℕ) (roots roots′ : List ℕ) (h h′ : Heap) → Accepted (writeImage base h roots room) → Accepted (writeImage base′ h′ roots′ room′)
-    → SameAllocated h h′ → Matching (h .entries) (h .pool) (h′ .pool)
-allocated-matches base base′ room room′ roots roots′ h h′ z z′ allocated = record {
-  long =
-      let n : length (h .entries) ≡ length (h′ .entries) = ap (λ (es : List ℕ). length es) (allocated .entries) in
-      omega (arith, n, passed base h roots room z .0 .shape .pool, passed base′ h′ roots′ room′ z′ .0 .shape .pool);
-  bytes = λ i held. let e : 16 * (i / 16) + i % 16 ≡ i = omega arith in rw e at (allocated .bytes (i / 16) held (i % 16) (omega arith));
-}
-
 -- heaps with the same image answer every load alike
 pub image-loads : (t t′ base base′ room room′ : ℕ) (roots roots′ : List ℕ) (m m′ : Memory)
     → let c : Call = WriteImage base roots room in
@@ -470,7 +457,7 @@ image-loads t t′ base base′ room room′ roots roots′ m m′ z z′ same k
     let x′ = on-bytes .accepted-bytes (planes t′) (WriteImage base′ roots′ room′) [] m′ z′ .0 in
     let h = heapIn (planes t) m in
     let h′ = heapIn (planes t′) m′ in
-    rw (← eb, ← allocated .entries) (twin-load base (h .entries) (h .pool) (h′ .pool) (allocated-matches base base′ room room′ roots roots′ h h′ x x′ allocated) k i .answer)
+    rw (← eb, ← allocated .entries) (twin-load base (h .entries) (h .pool) (h′ .pool) (pools-match base base′ room room′ roots roots′ h h′ x x′ allocated) k i .answer)
 
 -- a byte of a FREE block is in no image
 pub free-byte-unseen : (t base room : ℕ) (roots pool table : List ℕ) (i v : ℕ)

@@ -7,7 +7,7 @@ use mathlib.Core.List.{List, [], _∷_, _++_, append-assoc}
 use Prim.Native.Nat.{ℕ, zero, suc, _+_, _*_, _/_, _%_, _≤_, _<_}
 use native.Mathlib.Omega.{arith}
 use lib.ListN.{length, getD, set, take, drop, replicate, length-append, length-take, length-drop, List·getD-append}
-use lib.Seq.{ext-getD, getD-take, getD-drop, length-take-le, getD-append-add, drop-drop, take-add}
+use lib.Seq.{ext-getD, getD-take, getD-drop, length-take-le, getD-append-add, drop-drop, take-add, take-append-seam, drop-append-seam}
 use borrow.Author.Tests.{eq-eqb, ne-eqb, eqb-false}
 use Rattle.rules.specs.Tests.{pick, count}
 use Rattle.rules.specs.Words.{bytesOf, twoBytesOf}
@@ -115,15 +115,7 @@ used-nth (e ∷ es) q l = go (used-nth es) (isFree e) refl q l
     go later false f zero l = (0, eqb-false e FREE f, refl)
     go later false f (suc q) l = let m : suc q < suc (used es) = rw f at l in next f q (later q (omega arith))
 
--- those of two parts of the table, one after the other
-pub used-append : (pool : List ℕ) (k : ℕ) (es fs : List ℕ) → usedFrom pool k (es ++ fs) ≡ usedFrom pool k es ++ usedFrom pool (k + length es) fs
-unfolding usedFrom
-used-append pool k [] fs = let here : k + 0 ≡ k = omega arith in rw here
-used-append pool k (e ∷ es) fs =
-    let next : suc k + length es ≡ k + suc (length es) = omega arith in
-    rw (used-append pool (suc k) es fs, next) (sym (append-assoc (pick (isFree e) [] (blockBytes pool k)) (usedFrom pool (suc k) es) (usedFrom pool (k + suc (length es)) fs)))
-
--- and of its first n entries and the others, however many there are
+-- those of the first n entries and of the others, however many there are
 pub used-split : (pool : List ℕ) (k n : ℕ) (es : List ℕ) → usedFrom pool k es ≡ usedFrom pool k (take n es) ++ usedFrom pool (k + n) (drop n es)
 unfolding usedFrom
 used-split pool k zero es = let here : k + 0 ≡ k = omega arith in rw here
@@ -131,6 +123,10 @@ used-split pool k (suc n) [] = refl
 used-split pool k (suc n) (e ∷ es) =
     let next : suc k + n ≡ k + suc n = omega arith in
     rw (used-split pool (suc k) n es, next) (sym (append-assoc (pick (isFree e) [] (blockBytes pool k)) (usedFrom pool (suc k) (take n es)) (usedFrom pool (k + suc n) (drop n es))))
+
+-- those of two parts of the table, one after the other
+pub used-append : (pool : List ℕ) (k : ℕ) (es fs : List ℕ) → usedFrom pool k (es ++ fs) ≡ usedFrom pool k es ++ usedFrom pool (k + length es) fs
+used-append pool k es fs = rw (take-append-seam es fs, drop-append-seam es fs) at (used-split pool k (length es) (es ++ fs))
 
 -- which entries are FREE is all that matters: there are none past the end of a list that are not
 pub used-alike : (pool : List ℕ) (k : ℕ) (es fs : List ℕ) → ((i : ℕ) → isFree (entryAt es i) ≡ isFree (entryAt fs i)) → usedFrom pool k es ≡ usedFrom pool k fs

@@ -196,7 +196,7 @@ module _ (base : ℕ) (es p q : List ℕ) (a : Matching es p q) where
       (unless-both Twin _ refused
       (λ z. record { answer = ap loaded (word-same k i (named-object base h′ k _ z) (word-inside base h′ k i z)); table = refl; filled = refl; match = a }))
 
-  image-same : (roots : List ℕ) → imageOf base h roots ≡ imageOf base h′ roots
+  pub image-same : (roots : List ℕ) → imageOf base h roots ≡ imageOf base h′ roots
   unfolding imageOf
   image-same roots =
       rw (used-same p q 0 es (λ k u. block-same p q (0 + k) (a .long) (λ j l. let e : (16 * (0 + k) + j) / 16 ≡ k = omega arith in a .bytes (16 * (0 + k) + j) (rw e u))))

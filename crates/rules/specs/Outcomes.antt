@@ -91,7 +91,7 @@ leavesWith a h stack = record { answer = a; heap = h; stack = stack; filled = []
 abbrev pub leaves : Answer → Heap → Outcome
 leaves a h = leavesWith a h []
 
--- and this, if it writes so many bytes into a buffer
+-- and this, if it writes these bytes into a buffer
 abbrev pub fills : Answer → Heap → List ℕ → Outcome
 fills a h bytes = record { answer = a; heap = h; stack = []; filled = bytes }
 
