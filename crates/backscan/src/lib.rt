@@ -5,7 +5,7 @@ ghost use lib.ListN.{length};
 ghost use Rattle.rules.specs.Tables.{startOf};
 ghost use Rattle.rules.specs.Planes.{entriesIn, IsTable};
 ghost use Rattle.backscan.specs.Tails.{NonTails, Last, Back};
-use memory::Block;
+use numbers::Block;
 
 // A bit for each of the 64 blocks from block 64 * i on that is no TAIL.
 fn non_tails(t: usize, table: &[u8], i: usize) -> u64

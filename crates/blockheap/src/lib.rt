@@ -7,9 +7,9 @@ ghost use Rattle.rules.specs.Outcomes.{onlyRefusal, placement, collection, find
 ghost use Rattle.rules.specs.Runs.{Init, Allocate, Free, Reallocate, Collect, Survey, Load, Store, WriteImage};
 ghost use Rattle.rules.specs.Planes.{planes};
 ghost use Rattle.rules.specs.Memory.{memory, result, filling, withBuffer, perform};
-use memory::Address;
-use memory::Block;
-use memory::Bytes;
+use numbers::Address;
+use numbers::Block;
+use numbers::Bytes;
 
 #[no_mangle]
 pub extern "C" fn blockheap_init(base: u64, t: u64, pool: &[u8], table: &mut [u8]) -> u32

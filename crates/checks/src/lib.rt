@@ -7,9 +7,9 @@ ghost use Rattle.rules.specs.Planes.{entriesIn, spareFree, planes, Sized, IsTab
 ghost use Rattle.rules.specs.Outcomes.{Heap};
 ghost use Rattle.rules.specs.Refusals.{firstOf, goodShape, heapTests, requestTests, nameTests, objectTests, resizeTests, wordTests, rootTests, collectionTests};
 ghost use Rattle.checks.specs.Refusal.{refusalBy};
-use memory::Address;
-use memory::Block;
-use memory::Bytes;
+use numbers::Address;
+use numbers::Block;
+use numbers::Bytes;
 
 // Whether t is from 1 to 1,024, and the table's length, the pool's length and the base suit it.
 pub fn good_shape(base: Address, t: usize, pool: &[u8], table: &[u8]) -> bool

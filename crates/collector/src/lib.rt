@@ -8,7 +8,7 @@ ghost use Rattle.rules.specs.Runs.{Collect};
 ghost use Rattle.rules.specs.Memory.{memory, perform};
 ghost use Rattle.marker.specs.Variables.{contextOf, Shape};
 ghost use Rattle.collector.specs.Answers.{outcomeOf, resultOf};
-use memory::Address;
+use numbers::Address;
 
 // What a collection answers.
 pub struct Collected {
@@ -40,7 +40,7 @@ fn run(
         refusal: 0,
         kept,
         rescans,
-        change: memory::negated(swept.freed),
+        change: numbers::negated(swept.freed),
     }
 }
 

@@ -12,7 +12,7 @@ ghost use Rattle.rules.specs.Entries.{HEAD as head, MARK as mark};
 ghost use Rattle.rules.specs.Tables.{entryAt, isHead, isTail};
 ghost use Rattle.rules.specs.Planes.{planeBytes, entriesIn, Sized, IsTable, Holds};
 ghost use Rattle.entries.specs.Groups.{Span, FreeByte, InGroup};
-use memory::Block;
+use numbers::Block;
 
 pub const FREE: u8 = 0;
 

@@ -2,9 +2,9 @@
 // table after it. A table is the bytes of its low plane, a bar, and those of its high plane.
 mod print;
 
-use memory::Address;
-use memory::Block;
-use memory::Bytes;
+use numbers::Address;
+use numbers::Block;
+use numbers::Bytes;
 
 const BASE: u64 = 4096;
 

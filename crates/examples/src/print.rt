@@ -1,5 +1,5 @@
 // The parts of a line.
-use memory::Block;
+use numbers::Block;
 
 pub fn text(bytes: &[u8]) {
     io::write_all(1, bytes);

@@ -13,7 +13,7 @@ use Rattle.rules.specs.Planes.{entriesIn}
 use Rattle.rules.specs.Meaning.{Extent}
 use Rattle.rules.proofs.Planes.{few-entries}
 use Rattle.rules.proofs.Tables.{extent-of}
-use Rattle.memory.proofs.Signed.{sub-fits}
+use Rattle.numbers.proofs.Signed.{sub-fits}
 use Rattle.heap.specs.Held.{Held}
 
 module _ {t : ℕ} {pool table : List ℕ} {k b : ℕ} (held : Held t pool table k b) where

@@ -14,10 +14,10 @@ ghost use Rattle.rules.specs.Runs.{Init, Allocate, Free, Reallocate, Survey, Lo
 ghost use Rattle.rules.specs.Memory.{memory, perform};
 ghost use Rattle.heap.specs.Held.{Held};
 ghost use Rattle.heap.specs.Answers.{status, placed, placedIn, unplacedBy, freed, surveyed, loaded};
-use memory::Address;
-use memory::Block;
-use memory::Bytes;
-use memory::Found;
+use numbers::Address;
+use numbers::Block;
+use numbers::Bytes;
+use numbers::Found;
 
 // Where an object is, and the change in used blocks.
 pub struct Placed {
@@ -75,7 +75,7 @@ pub fn allocate(base: Address, t: usize, pool: &mut [u8], table: &mut [u8], byte
             Placed {
                 refusal: 0,
                 block: k,
-                change: memory::difference(count, 0),
+                change: numbers::difference(count, 0),
             }
         }
         Found::Nowhere => unplaced(9),
@@ -136,7 +136,7 @@ fn free_object(t: usize, table: &mut [u8], k: Block) -> i32
 {
     let count = table::block_count(t, &*table, k);
     table::release(t, table, k, count);
-    memory::negated(count)
+    numbers::negated(count)
 }
 
 // The object at k gets so many bytes: it stays, gives blocks back, grows in place, or moves.
@@ -178,7 +178,7 @@ fn shrink(t: usize, pool: &[u8], table: &mut [u8], k: Block, old: usize, new: us
     Placed {
         refusal: 0,
         block: k,
-        change: memory::difference(new, old),
+        change: numbers::difference(new, old),
     }
 }
 
@@ -194,7 +194,7 @@ fn grow(t: usize, pool: &mut [u8], table: &mut [u8], k: Block, old: usize, new: 
     Placed {
         refusal: 0,
         block: k,
-        change: memory::difference(new, old),
+        change: numbers::difference(new, old),
     }
 }
 
@@ -213,7 +213,7 @@ fn relocate(t: usize, pool: &mut [u8], table: &mut [u8], k: Block, old: usize, n
             Placed {
                 refusal: 0,
                 block: s,
-                change: memory::difference(new, old),
+                change: numbers::difference(new, old),
             }
         }
         Found::Nowhere => unplaced(9),

@@ -13,8 +13,8 @@ ghost use Rattle.rules.specs.Runs.{WriteImage};
 ghost use Rattle.rules.specs.Memory.{memory, withBuffer, perform};
 ghost use Rattle.image.specs.Copying.{blocksIn};
 ghost use Rattle.image.specs.Answers.{written, unwrittenBy};
-use memory::Address;
-use memory::Block;
+use numbers::Address;
+use numbers::Block;
 
 // The refusal number, and how long the image is.
 pub struct Written {

@@ -12,9 +12,9 @@ ghost use Rattle.rules.specs.Tables.{entryAt, startOf};
 ghost use Rattle.rules.specs.Pointers.{headAt};
 ghost use Rattle.rules.specs.Marking.{markedIn, markAll, marked, pushed, visitTo, visit as visitOf, walk as walkOf, trace as traceOf, markRoot, markRoots, passBlock, pass};
 ghost use Rattle.marker.specs.Variables.{contextOf, stateOf, idle, Shape, Knows, Remembers, Came};
-use memory::Address;
-use memory::Block;
-use memory::Found;
+use numbers::Address;
+use numbers::Block;
+use numbers::Found;
 
 // How many entries of the mark stack are in use, and whether a block has been lost because it was full. And the longest back scan from
 // a TAIL so far: the object of block `last` starts at block `first`.

@@ -7,7 +7,7 @@ ghost use lib.ListN.{length};
 ghost use Rattle.rules.specs.Tests.{pick};
 ghost use Rattle.rules.specs.Planes.{planeBytes, entriesIn, IsTable};
 ghost use Rattle.search.specs.Starts.{NoStart, MayStart, StartsIn, Starts, Next, FreeFor};
-use memory::Block;
+use numbers::Block;
 
 // The bits of the blocks of 64 that are aligned for four blocks or more.
 const ALIGNED: u64 = 0x1111111111111111;

@@ -5,9 +5,9 @@ ghost use lib.Dec.{leb};
 ghost use lib.ListN.{length};
 ghost use Rattle.rules.specs.Tables.{blockCount, freeFrom, firstFit, growsInPlace, placed, released, extended};
 ghost use Rattle.rules.specs.Planes.{entriesIn, IsTable, Holds};
-ghost use Rattle.memory.specs.Places.{found};
-use memory::Block;
-use memory::Found;
+ghost use Rattle.numbers.specs.Places.{found};
+use numbers::Block;
+use numbers::Found;
 
 // How many blocks the object with head k has.
 pub fn block_count(t: usize, table: &[u8], k: Block) -> usize

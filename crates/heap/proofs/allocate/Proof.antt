@@ -13,7 +13,7 @@ use Rattle.rules.proofs.Tables.{first-fits}
 use Rattle.rules.specs.Planes.{entriesIn}
 use Rattle.rules.specs.Refusals.{noBytes}
 use Rattle.rules.proofs.Calls.{blocks-some, blocks-least, request-nowhere}
-use Rattle.memory.specs.Places.{found}
+use Rattle.numbers.specs.Places.{found}
 use Rattle.heap.proofs.Held.{signed}
 use Rattle.heap.proofs.Ends.{Checked, gained, allocate-refused, allocate-checked, allocate-asks, allocate-full, allocate-done}
 use Rattle.heap.proofs.allocate.Statement.{statement}

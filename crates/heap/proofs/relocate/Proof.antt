@@ -22,7 +22,7 @@ use Rattle.rules.proofs.Tables.{first-fits}
 use Rattle.rules.proofs.Changes.{placed-length}
 use Rattle.rules.proofs.Pools.{moved-steps}
 use Rattle.rules.proofs.Calls.{move-change, run-beside}
-use Rattle.memory.specs.Places.{found}
+use Rattle.numbers.specs.Places.{found}
 use Rattle.heap.specs.Held.{Held}
 use Rattle.heap.specs.Answers.{placedIn, unplacedBy}
 use Rattle.heap.proofs.Held.{held-few, held-room, change-is}

@@ -19,6 +19,12 @@ cleared pool part a n room zero =
     let count : length {A = ℕ} (replicate n 0) ≡ n = length-replicate n 0 in
     rw (filled, drop-drop) (sym (sets-eq (replicate n 0) pool a (rw count (omega arith)) ∙ rw (count, append-assoc) refl))
 
+index-requires : tie.Need-index-requires
+index-requires c κs = search needs
+
+index-requires-2 : tie.Need-index-requires-2
+index-requires-2 c κs = search needs
+
 sub-clear : tie.Need-sub-clear
 sub-clear c = search needs
 
@@ -36,8 +42,9 @@ same-length c = search needs
 
 returns : tie.Need-returns
 returns c =
-    let args = c .before .before .before .before .before .args in
-    cleared _ _ (args .start .0) (args .end .0 - args .start .0) (omega arith) (c .before .before .clear .ensures)
+    let to = c .before .before .before .before .index2 in
+    let from = c .before .before .before .before .before .index in
+    rw (← (from .ensures), ← (to .ensures)) (cleared _ _ (from .result) (to .result - from .result) (omega arith) (c .before .before .clear .ensures))
 
 pub clear-part-spec : {M : Type 1} → statement M
-clear-part-spec = tie.close (tie.spec sub-clear part-clear-start part-clear-end clear-requires same-length returns)
+clear-part-spec = tie.close (tie.spec index-requires index-requires-2 sub-clear part-clear-start part-clear-end clear-requires same-length returns)

@@ -40,6 +40,15 @@ Inv-loop pool₀ source target n i₀ pool i = (i ≤ n) × ((length pool ≡ le
 abbrev μ-loop : tie.MeasureT-loop
 μ-loop pool₀ source target n i₀ pool i = n - i
 
+index-requires : tie.Need-index-requires Inv-loop μ-loop
+index-requires c κs = search needs
+
+index-requires-2 : tie.Need-index-requires-2 Inv-loop μ-loop
+index-requires-2 c κs = search needs
+
+index-requires-3 : tie.Need-index-requires-3 Inv-loop μ-loop
+index-requires-3 c κs = search needs
+
 loop-holds : tie.Need-loop-holds Inv-loop μ-loop
 loop-holds c = (search needs, (search needs, refl))
 
@@ -63,18 +72,25 @@ loop-less c = search needs
 
 loop-again : tie.Need-loop-again Inv-loop μ-loop
 loop-again c =
-    let a = c .before .before .before .args in
+    let count = c .before .before .before .index3 in
+    let to = c .before .before .before .before .index2 in
+    let from = c .before .before .before .before .before .index in
+    let start = c .before .before .before .before .before .before .before in
+    let apart = rw (← (from .ensures), ← (to .ensures), ← (count .ensures)) at (start .pre .1) in
     let l = c .before .before .loop in
     let inv = l .inv in
-    (omega arith, (simp length-set (inv .1 .0), rw (inv .1 .1) (turn (a .pool .now) (a .from .0) (a .to .0) (a .count .0) (l .i) (omega arith) (omega arith) (c .before .before .before .pre .1))))
+    (omega arith, (simp length-set (inv .1 .0), rw (inv .1 .1) (turn (start .args .pool .now) (from .result) (to .result) (count .result) (l .i) (omega arith) (omega arith) apart)))
 
 same-length : tie.Need-same-length Inv-loop μ-loop
 same-length c = search needs
 
 returns : tie.Need-returns Inv-loop μ-loop
 returns c =
-    let e : c .before .loop .i ≡ c .before .before .args .count .0 = omega arith in
-    rw e at (c .before .loop .inv .1 .1)
+    let count = c .before .before .index3 in
+    let to = c .before .before .before .index2 in
+    let from = c .before .before .before .before .index in
+    let e : c .before .loop .i ≡ count .result = omega arith in
+    rw (e, from .ensures, to .ensures, count .ensures) at (c .before .loop .inv .1 .1)
 
 pub copy-spec : {M : Type 1} → statement M
 copy-spec =
@@ -82,6 +98,9 @@ copy-spec =
     (tie.spec
     Inv-loop
     μ-loop
+    index-requires
+    index-requires-2
+    index-requires-3
     loop-holds
     add-pool
     slice-read-pool

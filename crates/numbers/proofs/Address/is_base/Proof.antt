@@ -7,8 +7,8 @@ use native.Mathlib.Omega.{arith}
 use borrow.Author.Needs.{needs}
 use borrow.Author.Tests.{le-leb, lt-leb, eq-eqb, ne-eqb}
 use Rattle.rules.specs.Pointers.{addressOf, goodBase}
-use Rattle.memory.proofs.Address.is_base.Statement.{statement}
-use Rattle.memory.proofs.Address.is_base.Tie as tie
+use Rattle.numbers.proofs.Address.is_base.Statement.{statement}
+use Rattle.numbers.proofs.Address.is_base.Tie as tie
 
 returns : tie.Need-returns
 unfolding goodBase

@@ -3,8 +3,8 @@
 use mathlib.Core.Path.{refl}
 use borrow.Author.Needs.{needs}
 use Rattle.rules.specs.Calls.{blocksFor}
-use Rattle.memory.proofs.Bytes.blocks.Statement.{statement}
-use Rattle.memory.proofs.Bytes.blocks.Tie as tie
+use Rattle.numbers.proofs.Bytes.blocks.Statement.{statement}
+use Rattle.numbers.proofs.Bytes.blocks.Tie as tie
 
 add-result : tie.Need-add-result
 add-result c = search needs

@@ -3,8 +3,8 @@
 use mathlib.Core.Path.{refl}
 use borrow.Author.Needs.{needs}
 use Rattle.rules.specs.Pointers.{addressOf}
-use Rattle.memory.proofs.Address.of_block.Statement.{statement}
-use Rattle.memory.proofs.Address.of_block.Tie as tie
+use Rattle.numbers.proofs.Address.of_block.Statement.{statement}
+use Rattle.numbers.proofs.Address.of_block.Tie as tie
 
 mul-t4 : tie.Need-mul-t4
 mul-t4 c = search needs

@@ -1,8 +1,8 @@
--- `memory::difference` meets its contract. Assumes nothing.
+-- `numbers::difference` meets its contract. Assumes nothing.
 use borrow.Author.Needs.{needs}
-use Rattle.memory.proofs.Signed.{difference-fits, difference-is}
-use Rattle.memory.proofs.difference.Statement.{statement}
-use Rattle.memory.proofs.difference.Tie as tie
+use Rattle.numbers.proofs.Signed.{difference-fits, difference-is}
+use Rattle.numbers.proofs.difference.Statement.{statement}
+use Rattle.numbers.proofs.difference.Tie as tie
 
 cast-result : tie.Need-cast-result
 cast-result c = search needs

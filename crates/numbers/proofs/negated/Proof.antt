@@ -1,9 +1,9 @@
--- `memory::negated` meets its contract. Assumes nothing.
+-- `numbers::negated` meets its contract. Assumes nothing.
 use native.Mathlib.Omega.{arith}
 use borrow.Author.Needs.{needs}
-use Rattle.memory.proofs.Signed.{difference-fits, negated-is}
-use Rattle.memory.proofs.negated.Statement.{statement}
-use Rattle.memory.proofs.negated.Tie as tie
+use Rattle.numbers.proofs.Signed.{difference-fits, negated-is}
+use Rattle.numbers.proofs.negated.Statement.{statement}
+use Rattle.numbers.proofs.negated.Tie as tie
 
 cast-result : tie.Need-cast-result
 cast-result c = search needs

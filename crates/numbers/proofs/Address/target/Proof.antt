@@ -2,8 +2,8 @@
 -- Assumes nothing.
 use borrow.Author.Tests.{le-leb, lt-leb, lt-ltb, le-ltb, eq-eqb, ne-eqb}
 use Rattle.rules.specs.Pointers.{targetOf}
-use Rattle.memory.proofs.Address.target.Statement.{statement}
-use Rattle.memory.proofs.Address.target.Tie as tie
+use Rattle.numbers.proofs.Address.target.Statement.{statement}
+use Rattle.numbers.proofs.Address.target.Tie as tie
 
 returns : tie.Need-returns
 unfolding targetOf

@@ -2,8 +2,8 @@
 -- Assumes nothing.
 use mathlib.Core.Option.{Option, some, none}
 use Prim.Native.Nat.{ℕ}
-use Rattle.memory.specs.declared.Found.{Found}
-use Rattle.memory.specs.declared.Found.the-variants.{At, Nowhere}
+use Rattle.numbers.specs.declared.Found.{Found}
+use Rattle.numbers.specs.declared.Found.the-variants.{At, Nowhere}
 
 -- the block that was found, if one was
 abbrev pub found : Found → Option ℕ

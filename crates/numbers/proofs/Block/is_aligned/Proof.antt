@@ -7,8 +7,8 @@ use lib.Dec.{eqb}
 use borrow.Author.Tests.{lt-ltb, le-ltb}
 use Rattle.rules.specs.Tests.{either}
 use Rattle.rules.specs.Tables.{aligned}
-use Rattle.memory.proofs.Block.is_aligned.Statement.{statement}
-use Rattle.memory.proofs.Block.is_aligned.Tie as tie
+use Rattle.numbers.proofs.Block.is_aligned.Statement.{statement}
+use Rattle.numbers.proofs.Block.is_aligned.Tie as tie
 
 returns : tie.Need-returns
 unfolding aligned
