@@ -30,17 +30,6 @@ pub fn word(bytes: &[u8], i: usize) -> u32
     from_le_bytes(bytes[at], bytes[at + 1], bytes[at + 2], bytes[at + 3])
 }
 
-// The four bytes from `at` on become those of w, the lowest first.
-pub fn set_four_bytes(bytes: &mut [u8], at: usize, w: u32)
-    requires { ⌜ at + 4 ≤ length (now bytes) ⌝ }
-    ensures { λ _. ⌜ now (bytes .exit) ≡ sets (now (bytes .entry)) at (bytesOf w) ⌝ }
-{
-    bytes[at] = (w % 256) as u8;
-    bytes[at + 1] = (w / 256 % 256) as u8;
-    bytes[at + 2] = (w / 65536 % 256) as u8;
-    bytes[at + 3] = (w / 16777216 % 256) as u8;
-}
-
 // The two bytes from `at` on become the two lowest of n, the lowest first.
 pub fn set_two_bytes(bytes: &mut [u8], at: usize, n: usize)
     requires { ⌜ at + 2 ≤ length (now bytes) ⌝ }
@@ -48,6 +37,15 @@ pub fn set_two_bytes(bytes: &mut [u8], at: usize, n: usize)
 {
     bytes[at] = (n % 256) as u8;
     bytes[at + 1] = (n / 256 % 256) as u8;
+}
+
+// The four bytes from `at` on become those of w, the lowest first.
+pub fn set_four_bytes(bytes: &mut [u8], at: usize, w: u32)
+    requires { ⌜ at + 4 ≤ length (now bytes) ⌝ }
+    ensures { λ _. ⌜ now (bytes .exit) ≡ sets (now (bytes .entry)) at (bytesOf w) ⌝ }
+{
+    set_two_bytes(&mut *bytes, at, w as usize);
+    set_two_bytes(bytes, at + 2, (w / 65536) as usize);
 }
 
 // w becomes word i.

@@ -1,73 +1,46 @@
--- `set_four_bytes` makes the rule's four stores, lowest byte first.
+-- `set_four_bytes`: the two lowest bytes, and behind them the two highest.
 -- Assumes nothing.
-use mathlib.Core.Path.{_≡_}
-use Prim.Native.Nat.{suc, _+_}
-use native.Mathlib.Omega.{arith}
-use lib.ListN.{length-set}
+use mathlib.Core.Path.{_≡_, refl, _∙_}
+use mathlib.Core.List.{List}
+use Prim.Native.Nat.{ℕ, _+_, _/_}
+use native.Mathlib.Nat.{div-div-eq-div-mul}
+use lib.Seq.{sets}
 use borrow.Author.Needs.{needs}
-use Rattle.rules.specs.Words.{bytesOf}
+use Rattle.rules.specs.Words.{bytesOf, twoBytesOf}
+use Rattle.rules.proofs.Lists.{sets-next}
 use Rattle.memory.proofs.set_four_bytes.Statement.{statement}
 use Rattle.memory.proofs.set_four_bytes.Tie as tie
 
-cast-bytes : tie.Need-cast-bytes
-cast-bytes c = search needs
+four-bytes : (bytes first second : List ℕ) (at w high : ℕ) → first ≡ sets bytes at (twoBytesOf w) → second ≡ sets first (at + 2) (twoBytesOf high) → high ≡ w / 65536
+    → second ≡ sets bytes at (bytesOf w)
+unfolding bytesOf twoBytesOf
+four-bytes bytes first second at w high e f h = f ∙ rw (e, h, sets-next bytes at (at + 2) (twoBytesOf w) (twoBytesOf (w / 65536)) refl, div-div-eq-div-mul w 65536 256)
 
-slice-write-bytes : tie.Need-slice-write-bytes
-slice-write-bytes c = search needs
+set-two-bytes-requires : tie.Need-set-two-bytes-requires
+set-two-bytes-requires c κs = search needs
 
-cast-bytes-2 : tie.Need-cast-bytes-2
-cast-bytes-2 c = search needs
+add-set-two-bytes : tie.Need-add-set-two-bytes
+add-set-two-bytes c = search needs
 
-add-bytes : tie.Need-add-bytes
-add-bytes c = search needs
+cast-set-two-bytes : tie.Need-cast-set-two-bytes
+cast-set-two-bytes c = search needs
 
-slice-write-bytes-2 : tie.Need-slice-write-bytes-2
-slice-write-bytes-2 c = simp length-set (omega arith)
-
-cast-bytes-3 : tie.Need-cast-bytes-3
-cast-bytes-3 c = search needs
-
-add-bytes-2 : tie.Need-add-bytes-2
-add-bytes-2 c = search needs
-
-slice-write-bytes-3 : tie.Need-slice-write-bytes-3
-slice-write-bytes-3 c = simp length-set (omega arith)
-
-cast-bytes-4 : tie.Need-cast-bytes-4
-cast-bytes-4 c = search needs
-
-add-bytes-3 : tie.Need-add-bytes-3
-add-bytes-3 c = search needs
-
-slice-write-bytes-4 : tie.Need-slice-write-bytes-4
-slice-write-bytes-4 c = simp length-set (omega arith)
+set-two-bytes-requires-2 : tie.Need-set-two-bytes-requires-2
+set-two-bytes-requires-2 c κs = search needs
 
 same-length : tie.Need-same-length
 same-length c = search needs
 
 returns : tie.Need-returns
-unfolding bytesOf
-returns c =
-    let at = c .args .at in
-    let e1 : at + 1 ≡ suc at = omega arith in
-    let e2 : at + 2 ≡ suc (suc at) = omega arith in
-    let e3 : at + 3 ≡ suc (suc (suc at)) = omega arith in
-    rw (e1, e2, e3)
+returns c = four-bytes _ _ _ _ _ _ (c .before .before .before .before .before .before .set-two-bytes .ensures) (c .before .before .set-two-bytes2 .ensures) refl
 
 pub set-four-bytes-spec : {M : Type 1} → statement M
 set-four-bytes-spec =
     tie.close
     (tie.spec
-    cast-bytes
-    slice-write-bytes
-    cast-bytes-2
-    add-bytes
-    slice-write-bytes-2
-    cast-bytes-3
-    add-bytes-2
-    slice-write-bytes-3
-    cast-bytes-4
-    add-bytes-3
-    slice-write-bytes-4
+    set-two-bytes-requires
+    add-set-two-bytes
+    cast-set-two-bytes
+    set-two-bytes-requires-2
     same-length
     returns)
