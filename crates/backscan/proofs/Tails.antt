@@ -4,7 +4,7 @@ use mathlib.Core.Path.{_≡_, refl, sym, ap, _∙_}
 use mathlib.Core.Logic.{_≢_}
 use mathlib.Core.Bool.{Bool, true, false}
 use mathlib.Core.List.{List}
-use Prim.Native.Nat.{ℕ, zero, suc, _+_, _-_, _*_, _/_, _%_, _^_, _≤_, _<_, min, max}
+use Prim.Native.Nat.{ℕ, _+_, _-_, _*_, _/_, _%_, _^_, _≤_, _<_, min, max}
 use native.Mathlib.Nat.{lt-of-lt-of-le}
 use native.Mathlib.Decide.{decLt}
 use native.Mathlib.Omega.{arith}
@@ -16,7 +16,7 @@ use Rattle.rules.specs.Tests.{pick}
 use Rattle.rules.specs.Bits.{bitOf}
 use Rattle.rules.specs.Entries.{TAIL}
 use Rattle.rules.specs.Tables.{entryAt, isTail, startOf}
-use Rattle.rules.proofs.Bits.{bitOf-lt, bitOf-zero, bitOf-above, bitOf-and, bitOf-or, bitOf-shr, bitOf-not, bitOf-ones, TopBit, top-bit}
+use Rattle.rules.proofs.Bits.{two-bits, bitOf-lt, bitOf-zero, bitOf-above, bitOf-and, bitOf-or, bitOf-shr, bitOf-not, bitOf-ones, TopBit, top-bit}
 use Rattle.rules.proofs.Tables.{start-says, start-one}
 use Rattle.entries.specs.Groups.{InGroup}
 use Rattle.backscan.specs.Tails.{NonTails, Last, Back}
@@ -27,18 +27,12 @@ abbrev pub ALL : ℕ
 ALL = 0xFFFF_FFFF_FFFF_FFFF
 
 -- an entry is TAIL if its low bit is clear and its high bit is set
-two-bits : (x y : ℕ) → x < 2 → y < 2 → max x (1 - y) ≡ pick (isTail (x + 2 * y)) 0 1
-two-bits zero zero hx hy = refl
-two-bits zero (suc zero) hx hy = refl
-two-bits (suc zero) zero hx hy = refl
-two-bits (suc zero) (suc zero) hx hy = refl
-two-bits zero (suc (suc y)) hx hy = absurd (omega arith)
-two-bits (suc zero) (suc (suc y)) hx hy = absurd (omega arith)
-two-bits (suc (suc x)) y hx hy = absurd (omega arith)
+tail-bits : (x y : ℕ) → x < 2 → y < 2 → max x (1 - y) ≡ pick (isTail (x + 2 * y)) 0 1
+tail-bits = two-bits (λ (x y : ℕ). max x (1 - y) ≡ pick (isTail (x + 2 * y)) 0 1) refl refl refl refl
 
 pub non-tails-are : (es : List ℕ) (i low high : ℕ) → high < 2 ^ 64 → InGroup es i low high → NonTails es i (bitOr low (ALL - high))
 non-tails-are es i low high h g j l =
-    bitOf-or low (ALL - high) j ∙ rw (bitOf-not 64 high j h l, g j l) (two-bits (bitOf low j) (bitOf high j) (bitOf-lt low j) (bitOf-lt high j))
+    bitOf-or low (ALL - high) j ∙ rw (bitOf-not 64 high j h l, g j l) (tail-bits (bitOf low j) (bitOf high j) (bitOf-lt low j) (bitOf-lt high j))
 
 -- the last bit, by the zeros above it
 pub top : (a : ℕ) → 0 < a → a < 2 ^ 64 → TopBit 64 a (leadingZeros 64 a)

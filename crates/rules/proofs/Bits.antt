@@ -28,6 +28,16 @@ eight P a b c d e f g h (suc (suc (suc (suc (suc (suc zero)))))) l = g
 eight P a b c d e f g h (suc (suc (suc (suc (suc (suc (suc zero))))))) l = h
 eight P a b c d e f g h (suc (suc (suc (suc (suc (suc (suc (suc j)))))))) l = absurd (omega arith)
 
+-- what holds of 0 and of 1 holds of a bit
+pub one-bit : (P : ℕ → Type 0) → P 0 → P 1 → (b : ℕ) → b < 2 → P b
+one-bit P p q zero h = p
+one-bit P p q (suc zero) h = q
+one-bit P p q (suc (suc b)) h = absurd (omega arith)
+
+-- and of two
+pub two-bits : (P : ℕ → ℕ → Type 0) → P 0 0 → P 0 1 → P 1 0 → P 1 1 → (l h : ℕ) → l < 2 → h < 2 → P l h
+two-bits P p q r s l h hl hh = one-bit (λ (l : ℕ). P l h) (one-bit (P 0) p q h hh) (one-bit (P 1) r s h hh) l hl
+
 -- ---- one bit
 
 pub bitOf-lt : (a j : ℕ) → bitOf a j < 2

@@ -3,7 +3,7 @@
 use mathlib.Core.Path.{_≡_, refl, sym, ap, _∙_}
 use mathlib.Core.Bool.{Bool, true, false}
 use mathlib.Core.List.{List}
-use Prim.Native.Nat.{ℕ, zero, suc, _+_, _-_, _*_, _/_, _%_, _≤_, _<_, max}
+use Prim.Native.Nat.{ℕ, _+_, _-_, _*_, _/_, _%_, _≤_, _<_, max}
 use native.Mathlib.Omega.{arith}
 use lib.Dec.{ltb}
 use lib.ListN.{length, getD, length-append, List·getD-eq-default, List·getD-append}
@@ -19,7 +19,7 @@ use Rattle.rules.specs.Memory.{memory, Sound}
 use Rattle.rules.specs.Planes.{planeBytes, entryIn, entriesIn, spare, spareFree, plane, planesOf, planes, Sized, IsTable, Holds}
 use Rattle.rules.proofs.Lists.{length-tabulate, getD-tabulate, count-no, no-count}
 use Rattle.rules.proofs.Refusals.{not-false}
-use Rattle.rules.proofs.Bits.{bitOf-lt, bitOf-byte, byte-bits, byteOf-same, bitAt-byte, bitAt-lt}
+use Rattle.rules.proofs.Bits.{two-bits, bitOf-lt, bitOf-byte, byte-bits, byteOf-same, bitAt-byte, bitAt-lt}
 
 -- ---- how many there are
 
@@ -50,13 +50,7 @@ getD-entriesIn t table k d h = getD-tabulate (4 * t) (entryIn t table) k d h
 
 -- an entry is FREE if neither of its bits is set
 pub neither-bit : (a b : ℕ) → a < 2 → b < 2 → 1 - max a b ≡ pick (isFree (a + 2 * b)) 1 0
-neither-bit zero zero h g = refl
-neither-bit zero (suc zero) h g = refl
-neither-bit (suc zero) zero h g = refl
-neither-bit (suc zero) (suc zero) h g = refl
-neither-bit zero (suc (suc b)) h g = absurd (omega arith)
-neither-bit (suc (suc a)) b h g = absurd (omega arith)
-neither-bit (suc zero) (suc (suc b)) h g = absurd (omega arith)
+neither-bit = two-bits (λ (a b : ℕ). 1 - max a b ≡ pick (isFree (a + 2 * b)) 1 0) refl refl refl refl
 
 -- bit j of byte i of each plane
 pub entryIn-byte : (t : ℕ) (table : List ℕ) (i j : ℕ) → j < 8 → entryIn t table (8 * i + j) ≡ bitOf (getD table i 0) j + 2 * bitOf (getD table (planeBytes t + i) 0) j

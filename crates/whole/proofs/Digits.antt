@@ -8,8 +8,8 @@ use native.Mathlib.Omega.{arith}
 use lib.Bits.{bitOr, or-block}
 use lib.Pow.{high, low}
 use Rattle.rules.specs.Words.{twoBytesOf}
+use Rattle.rules.proofs.Bits.{two-bits}
 use Rattle.whole.specs.Packing.{base4}
-use Rattle.whole.proofs.Lanes.{two-bits}
 
 -- the two bits of an entry
 or-bits : (l h : ℕ) → l < 2 → h < 2 → bitOr l (h * 2) ≡ l + 2 * h
