@@ -11,6 +11,7 @@ use Rattle.rules.specs.Tables.{entryAt}
 use Rattle.rules.specs.Planes.{planeBytes, entryIn, entriesIn}
 use Rattle.rules.proofs.Bits.{bitOf-lt, bitAt-stored, bitAt-kept}
 use Rattle.rules.proofs.Planes.{length-entriesIn, room-entries, getD-entriesIn, entryIn-byte}
+use Rattle.entries.specs.Groups.{lane}
 
 -- ---- in which byte an entry lies
 
@@ -24,7 +25,11 @@ entry-byte t table k =
     let e : 8 * (k / 8) + k % 8 ≡ k = omega arith in
     rw e at (entryIn-byte t table (k / 8) (k % 8) (omega arith))
 
--- the same with its low bit by itself
+-- bit j of byte i of each plane, where a plane has `half` bytes
+pub entry-in : (t half : ℕ) → half ≡ planeBytes t → (table : List ℕ) (i j : ℕ) → j < 8 → entryIn t table (8 * i + j) ≡ lane (getD table i 0) (getD table (half + i) 0) j
+entry-in t half is-half table i j h = rw is-half (entryIn-byte t table i j h)
+
+-- entry k with its low bit by itself
 pub entry-high : (t : ℕ) (table : List ℕ) (k : ℕ) → entryIn t table k ≡ bitAt table k + 2 * bitOf (getD table (planeBytes t + k / 8) 0) (k % 8)
 unfolding bitAt
 entry-high = entry-byte

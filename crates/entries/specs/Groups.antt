@@ -1,4 +1,4 @@
--- Entries by many: the bits of a plane's byte that a run of blocks has, and 64 entries in two numbers.
+-- Entries by many: the bits of a plane's byte that a run of blocks has, and entries in two numbers.
 -- Assumes nothing.
 use mathlib.Core.Path.{_≡_}
 use mathlib.Core.List.{List}
@@ -16,6 +16,10 @@ Span i a b bits = (j : ℕ) → j < 8 → bitOf bits j ≡ pick (both (leb a (8 
 abbrev pub FreeByte : List ℕ → ℕ → ℕ → Type 0
 FreeByte es i bits = (j : ℕ) → j < 8 → bitOf bits j ≡ pick (isFree (entryAt es (8 * i + j))) 1 0
 
--- two numbers hold the 64 entries from block 64 * i on: the low bit of each in one, its high bit in the other
+-- entry j of two numbers that hold entries: the low bit of each in one, its high bit in the other
+abbrev pub lane : ℕ → ℕ → ℕ → ℕ
+lane low high j = bitOf low j + 2 * bitOf high j
+
+-- they hold the 64 entries from block 64 * i on
 abbrev pub InGroup : List ℕ → ℕ → ℕ → ℕ → Type 0
-InGroup es i low high = (j : ℕ) → j < 64 → entryAt es (64 * i + j) ≡ bitOf low j + 2 * bitOf high j
+InGroup es i low high = (j : ℕ) → j < 64 → entryAt es (64 * i + j) ≡ lane low high j

@@ -1,5 +1,4 @@
 pub mod Lanes
-pub mod Places
 pub mod Sums
 pub mod Ones
 pub mod Digits

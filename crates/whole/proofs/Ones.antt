@@ -20,8 +20,8 @@ use Rattle.rules.specs.Planes.{planeBytes, entryIn, entriesIn, spare, spareFree
 use Rattle.rules.proofs.Lists.{one, count-cons, count-le, length-tabulate}
 use Rattle.rules.proofs.Bits.{bitOf-lt, bitOf-first, bitOf-suc, bitOf-and, bitOf-or, bitOf-not}
 use Rattle.rules.proofs.Planes.{room-entries}
+use Rattle.entries.proofs.Holding.{entry-in}
 use Rattle.whole.proofs.Lanes.{used-bit, head-bit}
-use Rattle.whole.proofs.Places.{entry-in}
 
 -- ---- a table of values
 

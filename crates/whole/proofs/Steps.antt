@@ -15,7 +15,8 @@ use Rattle.rules.specs.Planes.{planeBytes, entryIn, entriesIn, spareFree, Sized
 use Rattle.rules.proofs.Marking.{sweep-length}
 use Rattle.rules.proofs.Swept.{freeing-on, freeing-same, swept-at}
 use Rattle.rules.proofs.Planes.{length-entriesIn, entry-clean, holds-of}
-use Rattle.whole.specs.Sweeps.{lane, SweptBits, SweptTo}
+use Rattle.entries.specs.Groups.{lane}
+use Rattle.whole.specs.Sweeps.{SweptBits, SweptTo}
 
 -- nothing is swept at first, and TAILs are kept
 pub swept-start : (t : ℕ) (table : List ℕ) → spareFree t table ≡ true → SweptTo t (entriesIn t table) table 0 1

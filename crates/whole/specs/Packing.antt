@@ -3,7 +3,7 @@
 use mathlib.Core.Path.{_≡_}
 use Prim.Native.Nat.{ℕ, zero, suc, _+_, _*_}
 use Rattle.rules.specs.Bits.{bitOf}
-use Rattle.whole.specs.Sweeps.{lane}
+use Rattle.entries.specs.Groups.{lane}
 
 -- the number with these n digits in base 4, the lowest first
 unfoldable pub base4 : ℕ → (ℕ → ℕ) → ℕ

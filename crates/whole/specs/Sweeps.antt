@@ -10,10 +10,7 @@ use Rattle.rules.specs.Bits.{bitOf}
 use Rattle.rules.specs.Tables.{entryAt}
 use Rattle.rules.specs.Marking.{sweptEntry, freeingAt, sweep}
 use Rattle.rules.specs.Planes.{planeBytes, entryIn}
-
--- entry j
-abbrev pub lane : ℕ → ℕ → ℕ → ℕ
-lane low high j = bitOf low j + 2 * bitOf high j
+use Rattle.entries.specs.Groups.{lane}
 
 -- low′ and high′ hold the swept entries, and `kept` a bit for each behind which TAILs are kept. `keeping` is 1 if they are kept at first, else 0
 pub record SweptBits (low high keeping low′ high′ kept : ℕ) : Type 0 where

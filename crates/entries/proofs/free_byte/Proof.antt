@@ -12,8 +12,9 @@ use Rattle.rules.specs.Bits.{bitOf}
 use Rattle.rules.specs.Tables.{entryAt}
 use Rattle.rules.specs.Planes.{planeBytes, entriesIn, spareFree}
 use Rattle.rules.proofs.Bits.{bitOf-lt, bitOf-or, bitOf-not}
-use Rattle.rules.proofs.Planes.{neither-bit, entryIn-byte, entry-clean}
+use Rattle.rules.proofs.Planes.{neither-bit, entry-clean}
 use Rattle.entries.specs.Groups.{FreeByte}
+use Rattle.entries.proofs.Holding.{entry-in}
 use Rattle.entries.proofs.free_byte.Statement.{statement}
 use Rattle.entries.proofs.free_byte.Tie as tie
 
@@ -23,7 +24,7 @@ is-free : (t : ℕ) (table : List ℕ) (i half : ℕ) → half ≡ planeBytes t 
 is-free t table i half is-half clean h small small′ j l =
     let a : ℕ = getD table i 0 in
     let b : ℕ = getD table (half + i) 0 in
-    let e : entryAt (entriesIn t table) (8 * i + j) ≡ bitOf a j + 2 * bitOf b j = rw is-half (entry-clean t table clean (8 * i + j) (omega arith) ∙ entryIn-byte t table i j l) in
+    let e : entryAt (entriesIn t table) (8 * i + j) ≡ bitOf a j + 2 * bitOf b j = entry-clean t table clean (8 * i + j) (omega arith) ∙ entry-in t half is-half table i j l in
     rw e (bitOf-not 8 (bitOr a b) j (or-lt 8 a b small small′) l ∙ rw (bitOf-or a b j) (neither-bit (bitOf a j) (bitOf b j) (bitOf-lt a j) (bitOf-lt b j)))
 
 shared-slice-read-result : tie.Need-shared-slice-read-result

@@ -13,10 +13,10 @@ use Rattle.rules.specs.Planes.{planeBytes, entriesIn}
 use Rattle.rules.proofs.Entries.{length-tableOf, getD-tableOf}
 use Rattle.rules.proofs.Bits.{bitOf-lt}
 use Rattle.rules.proofs.Planes.{length-entriesIn, getD-entriesIn, room-entries}
-use Rattle.whole.specs.Sweeps.{lane}
+use Rattle.entries.specs.Groups.{lane}
+use Rattle.entries.proofs.Holding.{entry-in}
 use Rattle.whole.specs.Packing.{Interleaved}
 use Rattle.whole.proofs.Digits.{two-bytes}
-use Rattle.whole.proofs.Places.{entry-in}
 use Rattle.whole.proofs.pack.Statement.{statement}
 use Rattle.whole.proofs.pack.Tie as tie
 

@@ -11,7 +11,8 @@ use Rattle.rules.specs.Tests.{pick}
 use Rattle.rules.specs.Bits.{bitOf}
 use Rattle.rules.specs.Marking.{sweptEntry, freeingAfter, freeingAt}
 use Rattle.rules.proofs.Bits.{one-bit, two-bits, bitOf-lt, bitOf-and, bitOf-or, bitOf-not, bitOf-mod}
-use Rattle.whole.specs.Sweeps.{lane, SweptBits}
+use Rattle.entries.specs.Groups.{lane}
+use Rattle.whole.specs.Sweeps.{SweptBits}
 use Rattle.whole.proofs.Sums.{carryAt, bitOf-sum}
 use Rattle.whole.proofs.sweep_bits.Statement.{statement}
 use Rattle.whole.proofs.sweep_bits.Tie as tie

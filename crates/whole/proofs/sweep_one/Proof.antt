@@ -11,7 +11,7 @@ use lib.Seq.{getD-set-same, getD-set-other}
 use borrow.Author.Needs.{needs}
 use Rattle.rules.specs.Bits.{bitOf}
 use Rattle.rules.specs.Planes.{planeBytes, entryIn}
-use Rattle.whole.proofs.Places.{entry-in}
+use Rattle.entries.proofs.Holding.{entry-in}
 use Rattle.whole.proofs.Steps.{Step, swept-on}
 use Rattle.whole.proofs.sweep_one.Statement.{statement}
 use Rattle.whole.proofs.sweep_one.Tie as tie

@@ -21,8 +21,8 @@ use Rattle.rules.proofs.Lists.{one}
 use Rattle.rules.proofs.Tables.{entry-outside, may-at, may-all}
 use Rattle.rules.proofs.Bits.{two-bits, or-none, bitOf-lt, bitOf-first, bitOf-suc, bitOf-zero, bitOf-and, bitOf-or, bitOf-not, bitOf-mod, bitOf-shl, bitOf-below, bits-same}
 use Rattle.rules.proofs.Planes.{length-entriesIn, room-entries, entry-clean}
+use Rattle.entries.proofs.Holding.{entry-in}
 use Rattle.whole.proofs.Lanes.{used-bit}
-use Rattle.whole.proofs.Places.{entry-in}
 use Rattle.whole.proofs.well_formed.Statement.{statement}
 use Rattle.whole.proofs.well_formed.Tie as tie
 
