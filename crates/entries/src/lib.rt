@@ -1,5 +1,5 @@
 // The allocation table: two bit planes for 4t blocks, the low bits of all entries and then their high bits, eight blocks to a byte.
-// Only this crate and `whole` know where an entry's bits lie.
+// Only this crate, `whole` and `packing` know where an entry's bits lie.
 ghost use mathlib.Core.Path.{_≡_};
 ghost use mathlib.Core.List.{List};
 ghost use Prim.Native.Nat.{ℕ, _+_, _*_, _≤_, _<_};

@@ -87,7 +87,7 @@ fn write_sections(
     memory::set_two_bytes(&mut *image, 0, 1);
     memory::set_four_bytes(&mut *image, 2, base.to_word());
     memory::set_two_bytes(&mut *image, 6, t);
-    whole::pack(t, table, &mut *image, 8);
+    packing::pack(t, table, &mut *image, 8);
     let blocks = 8 + t;
     memory::set_two_bytes(&mut *image, blocks, used);
     copy_used(t, pool, table, &mut *image, blocks + 2);

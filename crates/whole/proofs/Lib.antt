@@ -1,5 +1,4 @@
 pub mod Lanes
 pub mod Sums
 pub mod Ones
-pub mod Digits
 pub mod Steps

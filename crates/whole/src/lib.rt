@@ -1,15 +1,12 @@
-// The whole table at once: a byte of both planes in a turn, which is eight blocks, or eight bytes, and no early exit. Beside `entries` only this crate
-// knows how entries lie in bytes.
+// The whole table at once: a byte of both planes in a turn, which is eight blocks, or eight bytes, and no early exit. Beside `entries` and
+// `packing` only this crate knows how entries lie in bytes.
 ghost use mathlib.Core.Path.{_≡_};
 ghost use Prim.Native.Nat.{_+_, _*_, _≤_, _<_};
 ghost use lib.ListN.{length};
-ghost use lib.Seq.{sets};
-ghost use Rattle.rules.specs.Entries.{tableOf};
 ghost use Rattle.rules.specs.Tables.{used, objects, wellFormed};
 ghost use Rattle.rules.specs.Marking.{sweep as sweepOf};
 ghost use Rattle.rules.specs.Planes.{entriesIn, spareFree, Sized, IsTable, Holds};
 ghost use Rattle.whole.specs.Sweeps.{SweptBits, SweepsOn};
-ghost use Rattle.whole.specs.Packing.{Spread, Interleaved};
 
 // Whether no spare bit is set: of the last byte of each plane the upper half, if t is odd.
 pub fn spare_free(t: usize, table: &[u8]) -> bool
@@ -137,40 +134,5 @@ pub fn sweep(t: usize, table: &mut [u8])
     while j < half {
         keeping = sweep_one(&mut *table, half, j, keeping);
         j += 1;
-    }
-}
-
-// The bits of a byte, spread: bit j becomes bit 2 * j.
-fn spread(b: u8) -> u16
-    ensures { λ r. ⌜ Spread b r ⌝ }
-{
-    let all = b as u16;
-    let fours = (all | (all << 4)) & 0x0F0F;
-    let twos = (fours | (fours << 2)) & 0x3333;
-    (twos | (twos << 1)) & 0x5555
-}
-
-// The eight entries whose low and high bits are these, packed into two bytes.
-fn interleave(low: u8, high: u8) -> u16
-    ensures { λ r. ⌜ Interleaved low high r ⌝ }
-{
-    spread(low) | (spread(high) << 1)
-}
-
-// The packed table of the entries, four blocks to a byte, from byte `at` of the buffer on: a byte of both planes at a time, and the last half of one if t is odd.
-pub fn pack(t: usize, table: &[u8], buffer: &mut [u8], at: usize)
-    requires { ⌜ IsTable t (now table) × (at + t ≤ length (now buffer)) ⌝ }
-    ensures { λ _. ⌜ now (buffer .exit) ≡ sets (now (buffer .entry)) at (tableOf (entriesIn t (now (table .entry)))) ⌝ }
-{
-    let half = entries::plane_bytes(t);
-    let mut i = 0;
-    while i < t / 2 {
-        let eight = interleave(table[i], table[half + i]);
-        memory::set_two_bytes(&mut *buffer, at + 2 * i, eight as usize);
-        i += 1;
-    }
-    if t % 2 == 1 {
-        let four = interleave(table[i], table[half + i]);
-        buffer[at + 2 * i] = (four % 256) as u8;
     }
 }

@@ -15,10 +15,10 @@ use Rattle.rules.proofs.Bits.{bitOf-lt}
 use Rattle.rules.proofs.Planes.{length-entriesIn, getD-entriesIn, room-entries}
 use Rattle.entries.specs.Groups.{lane}
 use Rattle.entries.proofs.Holding.{entry-in}
-use Rattle.whole.specs.Packing.{Interleaved}
-use Rattle.whole.proofs.Digits.{two-bytes}
-use Rattle.whole.proofs.pack.Statement.{statement}
-use Rattle.whole.proofs.pack.Tie as tie
+use Rattle.packing.specs.Packing.{Interleaved}
+use Rattle.packing.proofs.Digits.{two-bytes}
+use Rattle.packing.proofs.pack.Statement.{statement}
+use Rattle.packing.proofs.pack.Tie as tie
 
 module _ (t : ℕ) (table : List ℕ) where
   abbrev packed : List ℕ

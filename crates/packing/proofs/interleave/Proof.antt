@@ -7,10 +7,10 @@ use lib.Bits.{bitOr}
 use borrow.Author.Needs.{needs}
 use Rattle.rules.specs.Bits.{bitOf}
 use Rattle.rules.proofs.Bits.{bitOf-lt}
-use Rattle.whole.specs.Packing.{Spread, Interleaved}
-use Rattle.whole.proofs.Digits.{or-digits, bits-lt}
-use Rattle.whole.proofs.interleave.Statement.{statement}
-use Rattle.whole.proofs.interleave.Tie as tie
+use Rattle.packing.specs.Packing.{Spread, Interleaved}
+use Rattle.packing.proofs.Digits.{or-digits, bits-lt}
+use Rattle.packing.proofs.interleave.Statement.{statement}
+use Rattle.packing.proofs.interleave.Tie as tie
 
 -- a shift loses nothing, and the or is a sum digit by digit
 joined : (low high l h : ℕ) → Spread low l → Spread high h → Interleaved low high (bitOr l (h * 2 % 65536))

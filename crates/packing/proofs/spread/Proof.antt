@@ -6,9 +6,9 @@ use lib.Dec.{eqb, eqb→eq}
 use borrow.Author.Needs.{needs}
 use Rattle.rules.specs.Bits.{bitOf}
 use Rattle.rules.proofs.Below.{below}
-use Rattle.whole.specs.Packing.{base4, Spread}
-use Rattle.whole.proofs.spread.Statement.{statement}
-use Rattle.whole.proofs.spread.Tie as tie
+use Rattle.packing.specs.Packing.{base4, Spread}
+use Rattle.packing.proofs.spread.Statement.{statement}
+use Rattle.packing.proofs.spread.Tie as tie
 
 -- the two fours of bits, the four twos and the eight single ones, each with as many zeros above it
 abbrev fours : ℕ → ℕ
