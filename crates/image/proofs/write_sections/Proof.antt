@@ -39,8 +39,8 @@ add-blocks c = search needs
 set-two-bytes-requires-3 : tie.Need-set-two-bytes-requires-3
 set-two-bytes-requires-3 c κs = search needs
 
-add-copy-used : tie.Need-add-copy-used
-add-copy-used c = search needs
+add-gather : tie.Need-add-gather
+add-gather c = search needs
 
 -- the image is as long as it was
 module _ (c : tie.After-set-two-bytes3) where
@@ -55,11 +55,11 @@ module _ (c : tie.After-set-two-bytes3) where
       let one = base .before .before .before .before .before in
       c .set-two-bytes3 .kept .0 ∙ table .pack .kept .1 .1 .0 ∙ table-count .set-two-bytes2 .kept .0 ∙ base .set-four-bytes .kept .0 ∙ one .set-two-bytes .kept .0
 
-still-long : (c : tie.After-copy-used) → length (c .copy-used .last .1 .1 .1 .0) ≡ length (start (c .before .before .before .before) .args .image .now)
-still-long c = c .copy-used .kept .1 .1 .1 .0 ∙ long (c .before .before .before .before)
+still-long : (c : tie.After-gather) → length (c .gather .last .1 .1 .1 .0) ≡ length (start (c .before .before .before .before) .args .image .now)
+still-long c = c .gather .kept .1 .1 .1 .0 ∙ long (c .before .before .before .before)
 
-copy-used-requires : tie.Need-copy-used-requires
-copy-used-requires c κs =
+gather-requires : tie.Need-gather-requires
+gather-requires c κs =
     let s = start (c .before .before .before) in
     (s .pre .0 .0, (s .pre .0 .1 .0, omega (arith, long (c .before .before .before), s .pre .1 .0, s .pre .1 .1)))
 
@@ -110,7 +110,7 @@ returns c =
     section-next (length es / 4) (tableOf es) {m = 8 + a .t} first (table-count .set-two-bytes2 .ensures) (table .pack .ensures)
     (omega arith) (omega arith) (omega (arith, entries)) (omega (arith, entries, length-tableOf es)) in
     let third =
-    section-next (used es) (usedFrom (a .pool .now) 0 es) {m = 10 + a .t + 16 * a .used} second (blocks-count .set-two-bytes3 .ensures) (blocks .copy-used .ensures)
+    section-next (used es) (usedFrom (a .pool .now) 0 es) {m = 10 + a .t + 16 * a .used} second (blocks-count .set-two-bytes3 .ensures) (blocks .gather .ensures)
     (omega arith) (omega arith) (omega (arith, count)) (omega (arith, count, length-used (a .pool .now) 0 es (omega (arith, start blocks-count .pre .0 .1 .0)))) in
     let fourth =
     section-next (length (a .roots .now) / 4) (a .roots .now) {m = 12 + a .t + 16 * a .used + length (a .roots .now)} third (words-count .set-two-bytes4 .ensures) (words .set-part .ensures)
@@ -128,8 +128,8 @@ write-sections-spec =
     pack-requires
     add-blocks
     set-two-bytes-requires-3
-    add-copy-used
-    copy-used-requires
+    add-gather
+    gather-requires
     add-list
     mul-list
     add-list-2

@@ -2,9 +2,9 @@
 -- Assumes nothing.
 use mathlib.Core.Path.{_∙_}
 use borrow.Author.Needs.{needs}
-use Rattle.image.proofs.Copying.{four-words}
-use Rattle.image.proofs.copy_block.Statement.{statement}
-use Rattle.image.proofs.copy_block.Tie as tie
+use Rattle.transfer.proofs.Copying.{four-words}
+use Rattle.transfer.proofs.copy_block.Statement.{statement}
+use Rattle.transfer.proofs.copy_block.Tie as tie
 
 first-word-requires : tie.Need-first-word-requires
 first-word-requires c κs = search needs

@@ -24,7 +24,7 @@ use Rattle.rules.proofs.Images.{length-block, used-split, used-first, used-alik
 use Rattle.entries.specs.Groups.{InGroup}
 use Rattle.freeruns.specs.Rows.{Zeros}
 use Rattle.freeruns.proofs.Rows.{first-lt}
-use Rattle.image.specs.Copying.{blocksIn}
+use Rattle.transfer.specs.Copying.{blocksIn}
 
 -- ---- what is still to be stored
 

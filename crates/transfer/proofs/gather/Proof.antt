@@ -1,4 +1,4 @@
--- `copy_used`: what remains is the used blocks from the next 64 on.
+-- `gather`: what remains is the used blocks from the next 64 on.
 -- Assumes nothing.
 use Prim.Native.Nat.{_+_, _-_, _*_, _≤_, _<_}
 use native.Mathlib.Omega.{arith}
@@ -9,9 +9,9 @@ use Rattle.rules.specs.Images.{usedFrom}
 use Rattle.rules.proofs.Bits.{bitOf-or}
 use Rattle.rules.proofs.Planes.{few-entries}
 use Rattle.rules.proofs.Images.{length-used}
-use Rattle.image.proofs.Copying.{Remains, remains-all, remains-none, remains-room, remains-next, groups-end, group-next, group-inside}
-use Rattle.image.proofs.copy_used.Statement.{statement}
-use Rattle.image.proofs.copy_used.Tie as tie
+use Rattle.transfer.proofs.Copying.{Remains, remains-all, remains-none, remains-room, remains-next, groups-end, group-next, group-inside}
+use Rattle.transfer.proofs.gather.Statement.{statement}
+use Rattle.transfer.proofs.gather.Tie as tie
 
 abbrev Inv-loop : tie.InvT-loop
 Inv-loop t pool table image₀ at n i₀ to₀ image i to =
@@ -84,8 +84,8 @@ returns c =
     let l = c .before .loop in
     remains-none (l .inv .1) (groups-end (s .args .pool .now) (entriesIn (s .args .t) (s .args .table .now)) (l .i) (omega (arith, c .loop-test .left, c .before .before .blocks2 .ensures (s .args .table .now)))) .0
 
-pub copy-used-spec : {M : Type 1} → statement M
-copy-used-spec =
+pub gather-spec : {M : Type 1} → statement M
+gather-spec =
     tie.close
     (tie.spec
     Inv-loop

@@ -5,10 +5,10 @@ use Prim.Native.Nat.{_+_, _*_, _^_, _≤_, _<_}
 use native.Mathlib.Omega.{arith}
 use lib.ListN.{length}
 use borrow.Author.Needs.{needs}
-use Rattle.image.specs.Copying.{blocksIn}
-use Rattle.image.proofs.Copying.{Remains, remains-all, remains-none, remains-room, remains-next, Inside, blocks-none, First, first-block}
-use Rattle.image.proofs.copy_group.Statement.{statement}
-use Rattle.image.proofs.copy_group.Tie as tie
+use Rattle.transfer.specs.Copying.{blocksIn}
+use Rattle.transfer.proofs.Copying.{Remains, remains-all, remains-none, remains-room, remains-next, Inside, blocks-none, First, first-block}
+use Rattle.transfer.proofs.copy_group.Statement.{statement}
+use Rattle.transfer.proofs.copy_group.Tie as tie
 
 abbrev Inv-loop : tie.InvT-loop
 Inv-loop pool i used image₀ at left₀ to₀ image left to = (left < 2 ^ 64) × (Inside pool i left × Remains image₀ at (blocksIn pool i used) image to (blocksIn pool i left))
