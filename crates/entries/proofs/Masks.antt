@@ -2,16 +2,15 @@
 -- Assumes nothing.
 use mathlib.Core.Path.{_≡_}
 use Prim.Native.Nat.{ℕ, _-_, _*_, _/_, _%_, _^_, _<_}
-use lib.Dec.{T, eqb, leb, ltb, eqb→eq}
+use lib.Dec.{T, eqb, leb, ltb}
 use Rattle.rules.specs.Tests.{pick}
 use Rattle.rules.specs.Bits.{bitOf}
-use Rattle.rules.proofs.Below.{allBelow, below}
+use Rattle.rules.proofs.Below.{allBelow, below, equal-below}
 
 -- an equation that holds at all places s and j of a byte, by computing
 places : (f g : ℕ → ℕ → ℕ) → T (allBelow 8 (λ (s : ℕ). allBelow 8 (λ (j : ℕ). eqb (f s j) (g s j)))) → (s j : ℕ) → s < 8 → j < 8 → f s j ≡ g s j
 places f g all s j hs hj =
-    eqb→eq (f s j) (g s j)
-    (below 8 (λ (j : ℕ). eqb (f s j) (g s j)) (below 8 (λ (s : ℕ). allBelow 8 (λ (j : ℕ). eqb (f s j) (g s j))) all s hs) j hj)
+    equal-below 8 (f s) (g s) (below 8 (λ (s : ℕ). allBelow 8 (λ (j : ℕ). eqb (f s j) (g s j))) all s hs) j hj
 
 pub one-bit : (s j : ℕ) → s < 8 → j < 8 → bitOf (1 * 2 ^ s % 256) j ≡ pick (eqb j s) 1 0
 unfolding bitOf

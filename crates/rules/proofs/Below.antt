@@ -1,11 +1,11 @@
 -- A test that is computed at each number below n, and read at one of them.
 -- Assumes nothing.
-use mathlib.Core.Path.{sym, subst}
+use mathlib.Core.Path.{_≡_, refl, sym, subst}
 use mathlib.Core.Logic.{⊎-elim}
-use mathlib.Core.Bool.{Bool, true, false}
+use mathlib.Core.Bool.{Bool, true, false, not}
 use Prim.Native.Nat.{ℕ, zero, suc, _<_}
 use native.Mathlib.Nat.{le-of-suc-le-suc, not-suc-le-zero, eq-or-lt-of-le}
-use lib.Dec.{T}
+use lib.Dec.{T, eqb, eqb→eq}
 use Rattle.rules.specs.Tests.{both}
 
 both-left : (a b : Bool) → T (both a b) → T a
@@ -26,3 +26,23 @@ below zero f t k h = absurd (not-suc-le-zero h)
 below (suc n) f t k h =
     ⊎-elim (λ e. subst (λ (m : ℕ). T (f m)) (sym e) (both-left (f n) (allBelow n f) t)) (λ l. below n f (both-right (f n) (allBelow n f) t) k l)
     (eq-or-lt-of-le (le-of-suc-le-suc h))
+
+-- ---- an equation that is computed
+
+-- of numbers
+pub equal-below : (n : ℕ) (f g : ℕ → ℕ) → T (allBelow n (λ (k : ℕ). eqb (f k) (g k))) → (k : ℕ) → k < n → f k ≡ g k
+equal-below n f g all k h = eqb→eq (f k) (g k) (below n (λ (k : ℕ). eqb (f k) (g k)) all k h)
+
+-- of tests
+abbrev pub alike : Bool → Bool → Bool
+alike true b = b
+alike false b = not b
+
+alike-same : (a b : Bool) → T (alike a b) → a ≡ b
+alike-same true true t = refl
+alike-same true false t = absurd t
+alike-same false true t = absurd t
+alike-same false false t = refl
+
+pub alike-below : (n : ℕ) (f g : ℕ → Bool) → T (allBelow n (λ (k : ℕ). alike (f k) (g k))) → (k : ℕ) → k < n → f k ≡ g k
+alike-below n f g all k h = alike-same (f k) (g k) (below n (λ (k : ℕ). alike (f k) (g k)) all k h)

@@ -7,14 +7,13 @@ use Prim.Native.Nat.{ℕ, zero, suc, _+_, _-_, _*_, _/_, _%_, _^_, _≤_, _<_, m
 use native.Mathlib.Nat.{lt-of-lt-of-le, pow-suc, pow-succ', one-le-pow, div-div-eq-div-mul, zero-div, div-eq-of-lt, le-div-iff-mul-le, div-lt-iff-lt-mul}
 use native.Mathlib.Decide.{decLt}
 use native.Mathlib.Omega.{arith}
-use lib.Dec.{eqb, eqb→eq}
 use lib.ListN.{length, getD, set}
 use lib.Bits.{bitAnd, bitOr, or-add-and, and-le-l, and-le-r, and-step, or-step, and-shr, or-shr, and-mask, shifted-half, shifted-even}
 use lib.Count.{leadingZeros, leading-top}
 use lib.Pow.{pow-add, pow-mono, high, low}
 use lib.Seq.{getD-set-same, getD-set-other}
 use Rattle.rules.specs.Bits.{bitOf, bitAt, byteOf}
-use Rattle.rules.proofs.Below.{below}
+use Rattle.rules.proofs.Below.{equal-below}
 
 -- what holds at 0 to 7 holds below 8
 pub eight : (P : ℕ → Type 0) → P 0 → P 1 → P 2 → P 3 → P 4 → P 5 → P 6 → P 7 → (j : ℕ) → j < 8 → P j
@@ -224,7 +223,7 @@ joined-high a b s j h = sym (bitOf-shr (b * 2 ^ s + a) s j) ∙ ap (λ (x : ℕ)
 
 pub byte-bits : (b : ℕ) → b < 256 → byteOf (bitOf b) ≡ b
 unfolding byteOf bitOf
-byte-bits b h = eqb→eq (byteOf (bitOf b)) b (below 256 (λ (b : ℕ). eqb (byteOf (bitOf b)) b) tt b h)
+byte-bits = equal-below 256 (λ (b : ℕ). byteOf (bitOf b)) (λ (b : ℕ). b) tt
 
 pub bitOf-byte : (bit : ℕ → ℕ) → ((j : ℕ) → bit j < 2) → (j : ℕ) → j < 8 → bitOf (byteOf bit) j ≡ bit j
 unfolding byteOf bitOf

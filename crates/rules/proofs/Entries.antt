@@ -5,11 +5,10 @@ use mathlib.Core.List.{List, [], _∷_}
 use Prim.Native.Nat.{ℕ, zero, suc, _+_, _-_, _*_, _/_, _%_, _^_, _≤_, _<_}
 use native.Mathlib.Nat.{zero-div}
 use native.Mathlib.Omega.{arith}
-use lib.Dec.{eqb, eqb→eq}
 use lib.ListN.{length, getD}
 use Rattle.rules.specs.Entries.{entryOf, entriesOf, tableOf}
 use Rattle.rules.specs.Meaning.{TableIsEntries}
-use Rattle.rules.proofs.Below.{below}
+use Rattle.rules.proofs.Below.{equal-below}
 
 -- what holds at 0, 1, 2 and 3 holds below 4
 pub four : (P : ℕ → Type 0) → P 0 → P 1 → P 2 → P 3 → (j : ℕ) → j < 4 → P j
@@ -32,9 +31,7 @@ entryOf-lt b j = omega arith
 -- a byte is its four entries
 pub byte-entries : (b : ℕ) → b < 256 → entryOf b 0 + 4 * entryOf b 1 + 16 * entryOf b 2 + 64 * entryOf b 3 ≡ b
 unfolding entryOf
-byte-entries b h =
-    eqb→eq (entryOf b 0 + 4 * entryOf b 1 + 16 * entryOf b 2 + 64 * entryOf b 3) b
-    (below 256 (λ (b : ℕ). eqb (entryOf b 0 + 4 * entryOf b 1 + 16 * entryOf b 2 + 64 * entryOf b 3) b) tt b h)
+byte-entries = equal-below 256 (λ (b : ℕ). entryOf b 0 + 4 * entryOf b 1 + 16 * entryOf b 2 + 64 * entryOf b 3) (λ (b : ℕ). b) tt
 
 -- ---- the entries of a table
 

@@ -8,7 +8,7 @@ use Prim.Native.Nat.{ℕ, _+_, _-_, _*_, _/_, _%_, _^_, _≤_, _<_, min}
 use native.Mathlib.Decide.{decLt}
 use native.Mathlib.Omega.{arith}
 use lib.Bits.{bitAnd, and-le-l}
-use lib.Dec.{T, eqb, eqb→eq}
+use lib.Dec.{eqb}
 use lib.ListN.{length, getD}
 use lib.Pow.{shr-le}
 use borrow.Author.Tests.{eqb-true, eq-eqb}
@@ -17,7 +17,7 @@ use Rattle.rules.specs.Bits.{bitOf}
 use Rattle.rules.specs.Entries.{FREE, HEAD}
 use Rattle.rules.specs.Meaning.{Aligned, Run, Fits}
 use Rattle.rules.proofs.Refusals.{true-not-false}
-use Rattle.rules.proofs.Below.{allBelow, below}
+use Rattle.rules.proofs.Below.{equal-below}
 use Rattle.rules.proofs.Bits.{bitOf-lt, bitOf-zero, bitOf-and, bitOf-shr, bitOf-shl, bitOf-below, bitOf-ones, bitOf-mod, bitOf-not}
 use Rattle.freeruns.specs.Rows.{FreeIn, Zeros, RowStarts}
 use Rattle.search.specs.Starts.{NoStart, Starts, Next, FreeFor}
@@ -30,13 +30,9 @@ use Rattle.freeruns.proofs.Frees.{inside, free-run, run-free, bit-free, free-bi
 abbrev ALIGNED : ℕ
 ALIGNED = 0x1111_1111_1111_1111
 
-aligned-right : T (allBelow 64 (λ (j : ℕ). eqb (bitOf ALIGNED j) (pick (eqb (j % 4) 0) 1 0)))
-unfolding bitOf
-aligned-right = tt
-
 aligned-bit : (j : ℕ) → j < 64 → bitOf ALIGNED j ≡ pick (eqb (j % 4) 0) 1 0
-aligned-bit j h =
-    eqb→eq (bitOf ALIGNED j) (pick (eqb (j % 4) 0) 1 0) (below 64 (λ (j : ℕ). eqb (bitOf ALIGNED j) (pick (eqb (j % 4) 0) 1 0)) aligned-right j h)
+unfolding bitOf
+aligned-bit = equal-below 64 (bitOf ALIGNED) (λ (j : ℕ). pick (eqb (j % 4) 0) 1 0) tt
 
 -- its bit is set, and no other
 set-aligned : (j : ℕ) → j < 64 → bitOf ALIGNED j ≡ 1 → j % 4 ≡ 0

@@ -2,10 +2,9 @@
 -- Assumes nothing.
 use Prim.Native.Nat.{ℕ, _*_, _%_, _<_}
 use lib.Bits.{bitAnd, bitOr}
-use lib.Dec.{eqb, eqb→eq}
 use borrow.Author.Needs.{needs}
 use Rattle.rules.specs.Bits.{bitOf}
-use Rattle.rules.proofs.Below.{below}
+use Rattle.rules.proofs.Below.{equal-below}
 use Rattle.packing.specs.Packing.{base4, Spread}
 use Rattle.packing.proofs.spread.Statement.{statement}
 use Rattle.packing.proofs.spread.Tie as tie
@@ -23,7 +22,7 @@ singles b = bitAnd (bitOr (twos b) (twos b * 2 % 65536)) 0x5555
 -- bit j becomes digit j, of every byte
 all-bytes : (b : ℕ) → b < 256 → Spread b (singles b)
 unfolding base4 bitOf
-all-bytes b h = eqb→eq (singles b) (base4 8 (bitOf b)) (below 256 (λ (b : ℕ). eqb (singles b) (base4 8 (bitOf b))) tt b h)
+all-bytes = equal-below 256 singles (λ (b : ℕ). base4 8 (bitOf b)) tt
 
 returns : tie.Need-returns
 returns c = all-bytes (c .args .b) (search needs)

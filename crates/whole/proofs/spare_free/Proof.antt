@@ -1,13 +1,13 @@
 -- `spare_free`: the upper half of the last byte of each plane has the four spare entries, where t is odd.
 -- Assumes nothing.
-use mathlib.Core.Path.{_≡_, refl, sym, _∙_}
-use mathlib.Core.Bool.{Bool, true, false}
+use mathlib.Core.Path.{_≡_, sym, _∙_}
+use mathlib.Core.Bool.{true}
 use mathlib.Core.List.{List}
 use Prim.Native.Nat.{ℕ, _+_, _-_, _*_, _/_, _%_, _≤_, _<_}
 use native.Mathlib.Omega.{arith}
 use lib.Bits.{bitOr, or-lt}
 use lib.Count.{ones}
-use lib.Dec.{eqb, eqb→eq, ltb}
+use lib.Dec.{eqb, ltb}
 use lib.ListN.{getD}
 use borrow.Author.Needs.{needs}
 use Rattle.rules.specs.Tests.{count, tabulate}
@@ -15,7 +15,7 @@ use Rattle.rules.specs.Bits.{bitOf}
 use Rattle.rules.specs.Tables.{isUsed, used}
 use Rattle.rules.specs.Meaning.{AllBytes}
 use Rattle.rules.specs.Planes.{planeBytes, entryIn, spare, spareFree}
-use Rattle.rules.proofs.Below.{below}
+use Rattle.rules.proofs.Below.{alike-below}
 use Rattle.rules.proofs.Lists.{one}
 use Rattle.rules.proofs.Bits.{bitOf-lt, bitOf-or, bitOf-shr}
 use Rattle.rules.proofs.Planes.{entryIn-byte}
@@ -36,18 +36,10 @@ four-spare : (t : ℕ) → t % 2 ≡ 1 → 8 * planeBytes t - 4 * t ≡ 4
 unfolding planeBytes
 four-spare t odd = omega arith
 
-one-same : (a b : Bool) → one a ≡ one b → a ≡ b
-one-same true true e = refl
-one-same true false e = absurd (omega arith)
-one-same false true e = absurd (omega arith)
-one-same false false e = refl
-
 -- a byte below 16 has no one in its upper half
 upper-free : (b : ℕ) → b < 256 → ltb b 16 ≡ eqb (ones (b / 16)) 0
 unfolding ones
-upper-free b h =
-    one-same (ltb b 16) (eqb (ones (b / 16)) 0)
-    (eqb→eq (one (ltb b 16)) (one (eqb (ones (b / 16)) 0)) (below 256 (λ (b : ℕ). eqb (one (ltb b 16)) (one (eqb (ones (b / 16)) 0))) tt b h))
+upper-free = alike-below 256 (λ (b : ℕ). ltb b 16) (λ (b : ℕ). eqb (ones (b / 16)) 0) tt
 
 module _ (t : ℕ) (table : List ℕ) (bytes : AllBytes table) (odd : t % 2 ≡ 1) where
   abbrev low : ℕ
