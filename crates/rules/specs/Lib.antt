@@ -7,6 +7,7 @@ pub mod Pointers
 pub mod Outcomes
 pub mod Refusals
 pub mod Images
+pub mod Files
 pub mod Marking
 pub mod Reach
 pub mod Calls

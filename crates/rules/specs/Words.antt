@@ -18,6 +18,10 @@ bytesOf w = w % 256 ∷ w / 256 % 256 ∷ w / 65536 % 256 ∷ w / 16777216 % 256
 unfoldable pub twoBytesOf : ℕ → List ℕ
 twoBytesOf n = n % 256 ∷ n / 256 % 256 ∷ []
 
+-- the number in the first two bytes, the first the lowest
+unfoldable pub firstTwo : List ℕ → ℕ
+firstTwo bs = getD bs 0 0 + 256 * getD bs 1 0
+
 -- word i of a list of bytes
 unfoldable pub wordAt : List ℕ → ℕ → ℕ
 wordAt bs i = number (getD bs (4 * i) 0) (getD bs (4 * i + 1) 0) (getD bs (4 * i + 2) 0) (getD bs (4 * i + 3) 0)
