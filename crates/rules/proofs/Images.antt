@@ -17,6 +17,7 @@ use Rattle.rules.specs.Outcomes.{Heap}
 use Rattle.rules.specs.Images.{section, sections, blockBytes, usedFrom, imageOf}
 use Rattle.rules.proofs.Words.{length-bytesOf}
 use Rattle.rules.proofs.Entries.{length-tableOf}
+use Rattle.rules.proofs.Tables.{entry-inside}
 
 -- ---- the bytes of the used blocks
 
@@ -93,6 +94,16 @@ used-before (e ∷ es) (suc i) u = go (used-before es i u) (isFree e)
     go : used (take i es) < used es → (b : Bool) → pick (not b) (suc (used (take i es))) (used (take i es)) < pick (not b) (suc (used es)) (used es)
     go rest true = rest
     go rest false = omega arith
+
+-- the 16 bytes of the used block i
+pub used-block : (pool : List ℕ) (k : ℕ) (es : List ℕ) (i : ℕ) → 16 * (k + length es) ≤ length pool → entryAt es i ≢ FREE
+    → blockBytes (usedFrom pool k es) (used (take i es)) ≡ blockBytes pool (k + i)
+used-block pool k es i room u =
+    let inside = entry-inside es i u in
+    let all = length-used pool k es room in
+    let long = length-block (usedFrom pool k es) (used (take i es)) (omega (arith, used-before es i u)) in
+    ext-getD 0 (blockBytes (usedFrom pool k es) (used (take i es))) (blockBytes pool (k + i)) (long ∙ sym (length-block pool (k + i) (omega arith)))
+    (λ j l. block-at (usedFrom pool k es) (used (take i es)) j (omega arith) ∙ used-at pool k es i j room u (omega arith) ∙ sym (block-at pool (k + i) j (omega arith)))
 
 -- a used block with so many used blocks before it
 abbrev pub Nth : List ℕ → ℕ → Type 0

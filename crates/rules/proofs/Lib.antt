@@ -15,6 +15,7 @@ pub mod Matching
 pub mod Pointers
 pub mod Pools
 pub mod Images
+pub mod Files
 pub mod Twice
 pub mod Used
 pub mod Sizes
