@@ -16,6 +16,9 @@ pub mod Pointers
 pub mod Pools
 pub mod Images
 pub mod Files
+pub mod Faults
+pub mod Opening
+pub mod RoundTrips
 pub mod Twice
 pub mod Used
 pub mod Sizes

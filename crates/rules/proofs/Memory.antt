@@ -1,23 +1,25 @@
 -- Calls on lent memory: a refused call of the rules leaves the heap, so the bytes that the code leaves are those that the memory's rules give.
 -- Assumes nothing.
 use mathlib.Core.Path.{_≡_, refl, sym, ap, subst, _∙_}
+use mathlib.Core.Logic.{_≢_}
 use mathlib.Core.Bool.{Bool, true, false, not}
 use mathlib.Core.List.{List, [], _∷_, _++_}
 use Prim.Native.Nat.{ℕ, zero, suc, _<_}
 use native.Mathlib.Omega.{arith}
 use lib.Dec.{eqb, ltb}
 use lib.ListN.{length}
-use borrow.Author.Tests.{eqb-true, ne-eqb, ltb-true}
+use borrow.Author.Tests.{eqb-true, eqb-false, ne-eqb, ltb-true}
 use Rattle.rules.specs.Tests.{pick, both, either}
 use Rattle.rules.specs.Forms.{Form, packed, Faithful}
 use Rattle.rules.specs.Outcomes.{Heap, Answer, Outcome, onlyRefusal, leavesWith, unlessRefused}
 use Rattle.rules.specs.Refusals.{Test, firstOf}
-use Rattle.rules.specs.Calls.{init, placing, allocate, free, Way, stay, shrink, grow, move, noWay, along, reallocate, collecting, collect, survey, load, store, writeImage}
-use Rattle.rules.specs.Runs.{Call, Init, Allocate, Free, Reallocate, Collect, Survey, Load, Store, WriteImage, step, Turn, after, answers, fillings}
-use Rattle.rules.specs.Memory.{Memory, lengthsFit, SameBeside, Sound, heapIn, holding, doneIn, Result, result, AcceptedIn, stackFor, readsTable, testsIn, orRefused, perform, turnIn, afterIn, answersIn, filledIn}
+use Rattle.rules.specs.Calls.{init, placing, allocate, free, Way, stay, shrink, grow, move, noWay, along, reallocate, collecting, collect, survey, load, store, writeImage, openTests, openImage}
+use Rattle.rules.specs.Files.{faultOf, fileTests}
+use Rattle.rules.specs.Runs.{Call, Init, Allocate, Free, Reallocate, Collect, Survey, Load, Store, WriteImage, OpenImage, step, Turn, after, answers, fillings}
+use Rattle.rules.specs.Memory.{Memory, lengthsFit, SameBeside, Sound, heapIn, holding, doneIn, Result, result, AcceptedIn, stackFor, readsTable, faultIn, testsIn, orRefused, perform, turnIn, afterIn, answersIn, filledIn}
 use Rattle.rules.specs.Meaning.{AllBytes}
 use Rattle.rules.proofs.Entries.{length-entriesOf, length-tableOf, entriesOf-lt, tableOf-entriesOf, entriesOf-tableOf}
-use Rattle.rules.proofs.Refusals.{both-false, both-left, both-right, not-false, numbered, first-more, first-less}
+use Rattle.rules.proofs.Refusals.{both-false, both-left, both-right, not-false, numbered, first-none, first-more, first-less, refusal-is}
 use Rattle.rules.proofs.Sizes.{Kept, step-keeps}
 
 -- ---- a call of the rules is accepted, or leaves all as it was
@@ -40,7 +42,7 @@ ended-along (move s) h k b c = accepted refl
 ended-along noWay h k b c = refused 8 refl
 
 pub step-ended : (c : Call) (stack : List ℕ) (h : Heap) → Ended h (stackFor c stack) (step c stack h)
-unfolding step init allocate free reallocate collect survey load store writeImage placing collecting
+unfolding step init allocate free reallocate collect survey load store writeImage openImage placing collecting
 step-ended (Init base) stack h = ended-unless _ h [] (accepted refl)
 step-ended (Allocate base bytes) stack h = ended-unless _ h [] (accepted refl)
 step-ended (Free base k) stack h = ended-unless _ h [] (accepted refl)
@@ -50,14 +52,30 @@ step-ended (Survey base) stack h = ended-unless _ h [] (accepted refl)
 step-ended (Load base k i) stack h = ended-unless _ h [] (accepted refl)
 step-ended (Store base k i w) stack h = ended-unless _ h [] (accepted refl)
 step-ended (WriteImage base roots room) stack h = ended-unless _ h [] (accepted refl)
+step-ended (OpenImage image room) stack h = ended-unless _ h [] (accepted refl)
 
 -- ---- the tests on memory
 
+-- the fault of a file is the refusal of the call on any heap
+pub fault-refuses : (c : Call) (stack : List ℕ) (h : Heap) → faultIn c ≢ 0 → step c stack h .answer .refusal ≡ faultIn c
+unfolding step openImage faultOf
+fault-refuses (Init base) stack h f = absurd (f refl)
+fault-refuses (Allocate base bytes) stack h f = absurd (f refl)
+fault-refuses (Free base k) stack h f = absurd (f refl)
+fault-refuses (Reallocate base k bytes) stack h f = absurd (f refl)
+fault-refuses (Collect base roots) stack h f = absurd (f refl)
+fault-refuses (Survey base) stack h f = absurd (f refl)
+fault-refuses (Load base k i) stack h f = absurd (f refl)
+fault-refuses (Store base k i w) stack h f = absurd (f refl)
+fault-refuses (WriteImage base roots room) stack h f = absurd (f refl)
+fault-refuses (OpenImage image room) stack h f =
+    refusal-is (firstOf (openTests h image room)) h [] _ (λ _. refl) ∙ first-less (fileTests image ++ _) _ _ (omega (arith, f)) (first-less (fileTests image) _ _ (omega (arith, f)) refl)
+
 -- the number that the call on the heap gives, where the form adds no refusal of its own
-pub tests-own : (f : Form) (c : Call) (m : Memory) (r : ℕ) → lengthsFit f m ≡ true → both (readsTable c) (not (f .clean (m .table))) ≡ false
+pub tests-own : (f : Form) (c : Call) (m : Memory) (r : ℕ) → (faultIn c ≢ 0 → r ≡ faultIn c) → lengthsFit f m ≡ true → both (readsTable c) (not (f .clean (m .table))) ≡ false
     → firstOf (testsIn f c m r) ≡ r
 unfolding firstOf
-tests-own f c m r fits clean = rw (fits, clean) (go (eqb r 1) (eqb r 2) (eqb r 0) refl refl refl)
+tests-own f c m r fault fits clean = rw (fits, clean) (file (eqb (faultIn c) 0) refl)
   where
     go : (a b z : Bool) → eqb r 1 ≡ a → eqb r 2 ≡ b → eqb r 0 ≡ z → pick (either a false) 1 (pick (either b false) 2 (pick (not z) r 0)) ≡ r
     go true b z p q s = sym (eqb-true r 1 p)
@@ -65,17 +83,25 @@ tests-own f c m r fits clean = rw (fits, clean) (go (eqb r 1) (eqb r 2) (eqb r 0
     go false false true p q s = sym (eqb-true r 0 s)
     go false false false p q s = refl
 
--- none of the tests holds, where a and b are those of the call on the heap, and d and e those of the form
+    file : (g : Bool) → eqb (faultIn c) 0 ≡ g → pick (not g) (faultIn c) (pick (either (eqb r 1) false) 1 (pick (either (eqb r 2) false) 2 (pick (not (eqb r 0)) r 0))) ≡ r
+    file true q = go (eqb r 1) (eqb r 2) (eqb r 0) refl refl refl
+    file false q = sym (fault (eqb-false (faultIn c) 0 q))
+
+-- a test for a number other than 0, and another behind it: neither holds
+neither : (n x : ℕ) → pick (not (eqb n 0)) n x ≡ 0 → (n ≡ 0) × (x ≡ 0)
+neither n x z = go (eqb n 0) refl z
+  where
+    go : (t : Bool) → eqb n 0 ≡ t → pick (not t) n x ≡ 0 → (n ≡ 0) × (x ≡ 0)
+    go true q z = (eqb-true n 0 q, z)
+    go false q z = absurd (eqb-false n 0 q z)
+
+-- none of the tests but that of a file holds, where a and b are those of the call on the heap, and d and e those of the form
 none-holds : (a b d e : Bool) (r : ℕ) → pick (either a (not d)) 1 (pick (either b e) 2 (pick (not (eqb r 0)) r 0)) ≡ 0 → (d ≡ true) × (e ≡ false) × (r ≡ 0)
 none-holds true b d e r z = absurd (omega arith)
 none-holds false b false e r z = absurd (omega arith)
 none-holds false true true e r z = absurd (omega arith)
 none-holds false false true true r z = absurd (omega arith)
-none-holds false false true false r z = (refl, refl, go (eqb r 0) refl z)
-  where
-    go : (t : Bool) → eqb r 0 ≡ t → pick (not t) r 0 ≡ 0 → r ≡ 0
-    go true q z = eqb-true r 0 q
-    go false q z = z
+none-holds false false true false r z = (refl, refl, neither r 0 z .0)
 
 -- then neither the form nor the call on the heap refuses
 pub record Passes (f : Form) (c : Call) (m : Memory) (r : ℕ) : Type 0 where
@@ -86,7 +112,7 @@ pub record Passes (f : Form) (c : Call) (m : Memory) (r : ℕ) : Type 0 where
 pub tests-passed : (f : Form) (c : Call) (m : Memory) (r : ℕ) → firstOf (testsIn f c m r) ≡ 0 → Passes f c m r
 unfolding firstOf
 tests-passed f c m r z =
-    let n = none-holds (eqb r 1) (eqb r 2) (lengthsFit f m) (both (readsTable c) (not (f .clean (m .table)))) r z in
+    let n = none-holds (eqb r 1) (eqb r 2) (lengthsFit f m) (both (readsTable c) (not (f .clean (m .table)))) r (neither (faultIn c) _ z .1) in
     record { fits = n .0; clean = n .1; own = n .2 }
 
 -- ---- lengths
@@ -114,7 +140,7 @@ module _ (f : Form) (c : Call) (stack : List ℕ) (m : Memory) (fits : lengthsFi
   o = step c stack (heapIn f m)
 
   number : firstOf (testsIn f c m (o .answer .refusal)) ≡ o .answer .refusal
-  number = tests-own f c m (o .answer .refusal) fits clean
+  number = tests-own f c m (o .answer .refusal) (fault-refuses c stack (heapIn f m)) fits clean
 
   pub perform-accepted : o .answer .refusal ≡ 0 → perform f c stack m ≡ doneIn f c stack m
   unfolding perform orRefused
@@ -324,7 +350,7 @@ refused-first-in f m ts us {r = r} k l e ne = go (firstOf ts) refl
 pub refused-next-in : (f : Form) (m : Memory) (ts us : List Test) {r n : ℕ} → numbered ts ≡ true → r ≡ refusedIn f m ts → r ≡ 0 → n ≡ firstOf us → n ≡ refusedIn f m (ts ++ us)
 refused-next-in f m ts us k e z h =
     let p = sound-of f m ts e z in
-    h ∙ sym (ap (λ (x : ℕ). firstOf (testsIn f (Survey 0) m x)) (first-more ts us k (p .1)) ∙ tests-own f (Survey 0) m (firstOf us) (p .0 .fits) (ap not (p .0 .clean)))
+    h ∙ sym (ap (λ (x : ℕ). firstOf (testsIn f (Survey 0) m x)) (first-more ts us k (p .1)) ∙ tests-own f (Survey 0) m (firstOf us) (λ x. absurd (x refl)) (p .0 .fits) (ap not (p .0 .clean)))
 
 -- ---- what the code leaves, in bytes
 

@@ -100,6 +100,14 @@ first-less (t ∷ ts) us r p e = go (t .holds) e (first-less ts us r p)
 pub refused-first : (ts us : List Test) {r : ℕ} → r ≡ firstOf ts → (r ≡ 0 → ⊥) → r ≡ firstOf (ts ++ us)
 refused-first ts us {r} e ne = sym (first-less ts us r (omega arith) (sym e))
 
+-- tests in two parts: none of either holds
+pub first-neither : (ts us : List Test) → numbered ts ≡ true → firstOf (ts ++ us) ≡ 0 → (firstOf ts ≡ 0) × (firstOf us ≡ 0)
+first-neither ts us k e = go (firstOf ts) refl
+  where
+    go : (n : ℕ) → firstOf ts ≡ n → (firstOf ts ≡ 0) × (firstOf us ≡ 0)
+    go zero q = (q, sym (first-more ts us k q) ∙ e)
+    go (suc n) q = let r = first-less ts us (suc n) (omega arith) q in absurd (omega arith)
+
 -- ---- what a call leaves
 
 pub refuses : (r : ℕ) (h : Heap) (stack : List ℕ) (acted : Outcome) {n : ℕ} → n ≡ r → 0 < r

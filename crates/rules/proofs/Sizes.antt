@@ -13,14 +13,19 @@ use Rattle.rules.specs.Entries.{FREE, HEAD, TAIL, MARK}
 use Rattle.rules.specs.Words.{bytesOf, withWord}
 use Rattle.rules.specs.Tables.{placed, released, extended}
 use Rattle.rules.specs.Forms.{Small}
-use Rattle.rules.specs.Outcomes.{Heap, Answer, Outcome, onlyRefusal, leavesWith, unlessRefused, clearedBlocks}
+use Rattle.rules.specs.Outcomes.{Heap, Answer, Outcome, onlyRefusal, leavesWith, fills, unlessRefused, clearedBlocks}
 use Rattle.rules.specs.Meaning.{AllBytes}
 use Rattle.rules.specs.Marking.{Context, State, state, walk, trace, markRoot, markRoots, passBlock, pass, markAll, sweptEntry, freeingAfter, sweepFrom, sweep}
-use Rattle.rules.specs.Calls.{init, taken, placing, allocate, freed, free, Way, stay, shrink, grow, move, noWay, shrunk, grown, moved, along, reallocate, collecting, collect, survey, load, store, writeImage}
-use Rattle.rules.specs.Runs.{Call, Init, Allocate, Free, Reallocate, Collect, Survey, Load, Store, WriteImage, step}
+use Rattle.rules.specs.Calls.{init, taken, placing, allocate, freed, free, Way, stay, shrink, grow, move, noWay, shrunk, grown, moved, along, reallocate, collecting, collect, survey, load, store, writeImage, openTests, openImage}
+use Rattle.rules.specs.Files.{File, fileOf, entriesFor, heapOfFile, rootsOf}
+use Rattle.rules.specs.Runs.{Call, Init, Allocate, Free, Reallocate, Collect, Survey, Load, Store, WriteImage, OpenImage, step, FileIs}
 use Rattle.rules.proofs.Lists.{bounded-sets, bounded-replicate, bounded-append, bounded-take, bounded-drop}
+use Rattle.rules.proofs.Entries.{entriesOf-lt}
 use Rattle.rules.proofs.Words.{bytesOf-lt, length-withWord}
 use Rattle.rules.proofs.Pools.{cleared-length, moved-length}
+use Rattle.rules.proofs.Files.{length-pool, pool-bytes}
+use Rattle.rules.proofs.Faults.{length-blocks, bytes-blocks}
+use Rattle.rules.proofs.Opening.{Opens, open-passed}
 use Rattle.rules.proofs.Marking.{Rooted, idle, takes, rooted, Passed, skips, walks, passed, drain-keeps, pass-keeps, rescan-keeps, Sane, sane-start, sane-pop, sane-walk, sweep-length}
 
 -- ---- the number of entries
@@ -119,42 +124,58 @@ kept-extended : (es : List ℕ) (s b : ℕ) → Kept es (extended es s b)
 unfolding extended
 kept-extended es s b = kept-sets es s (replicate b TAIL) (bounded-replicate b TAIL (omega arith))
 
-pub record Keeps (h : Heap) (o : Outcome) : Type 0 where
+-- the pool's elements stay bytes if those of the call's file are
+pub record Keeps (c : Call) (h : Heap) (o : Outcome) : Type 0 where
   pub entries : Kept (h .entries) (o .heap .entries)
   pub bytes : length (o .heap .pool) ≡ length (h .pool)
-  pub all-bytes : AllBytes (h .pool) → AllBytes (o .heap .pool)
+  pub all-bytes : FileIs AllBytes c → AllBytes (h .pool) → AllBytes (o .heap .pool)
 
-keeps-all : (h : Heap) (a : Answer) (stack : List ℕ) → Keeps h (leavesWith a h stack)
-keeps-all h a stack = record { entries = kept-same (h .entries); bytes = refl; all-bytes = λ y. y }
+keeps-all : (c : Call) (h : Heap) (a : Answer) (stack : List ℕ) → Keeps c h (leavesWith a h stack)
+keeps-all c h a stack = record { entries = kept-same (h .entries); bytes = refl; all-bytes = λ _ y. y }
 
-keeps-unless : (n : ℕ) (h : Heap) (stack : List ℕ) {acted : Outcome} → Keeps h acted → Keeps h (unlessRefused n h stack acted)
+-- a call that is not refused has passed its tests
+keeps-if : (c : Call) (n : ℕ) (h : Heap) (stack : List ℕ) {acted : Outcome} → (n ≡ 0 → Keeps c h acted) → Keeps c h (unlessRefused n h stack acted)
 unfolding unlessRefused
-keeps-unless zero h stack k = k
-keeps-unless (suc r) h stack k = keeps-all h (onlyRefusal (suc r)) stack
+keeps-if c zero h stack k = k refl
+keeps-if c (suc r) h stack k = keeps-all c h (onlyRefusal (suc r)) stack
 
-keeps-along : (way : Way) (h : Heap) (k b c : ℕ) → Keeps h (along way h k b c)
+keeps-unless : (c : Call) (n : ℕ) (h : Heap) (stack : List ℕ) {acted : Outcome} → Keeps c h acted → Keeps c h (unlessRefused n h stack acted)
+keeps-unless c n h stack k = keeps-if c n h stack (λ _. k)
+
+keeps-opened : (h : Heap) (image : List ℕ) (room : ℕ) (a : Answer) → Opens h image room → Keeps (OpenImage image room) h (fills a (heapOfFile (fileOf image)) (rootsOf (fileOf image)))
+keeps-opened h image room a o =
+    let f : File = fileOf image in
+    let bytes = length-blocks image (o .faultless) in
+    record {
+      entries = record { long = o .long; small = λ _. entriesOf-lt (f .table .body) };
+      bytes = length-pool (entriesFor (f .table)) (f .blocks .body) (omega (arith, bytes)) ∙ omega (arith, o .long, o .shape .pool);
+      all-bytes = λ given _. pool-bytes (entriesFor (f .table)) (f .blocks .body) (bytes-blocks image (given image refl));
+    }
+
+keeps-along : (call : Call) (way : Way) (h : Heap) (k b c : ℕ) → Keeps call h (along way h k b c)
 unfolding along placing shrunk grown moved
-keeps-along stay h k b c = keeps-all h _ []
-keeps-along shrink h k b c = record { entries = kept-released (h .entries) (k + c) (b - c); bytes = refl; all-bytes = λ y. y }
-keeps-along grow h k b c = record { entries = kept-extended (h .entries) (k + b) (c - b); bytes = cleared-length (h .pool) (k + b) (c - b); all-bytes = bytes-cleared (h .pool) (k + b) (c - b) }
-keeps-along (move s) h k b c =
+keeps-along call stay h k b c = keeps-all call h _ []
+keeps-along call shrink h k b c = record { entries = kept-released (h .entries) (k + c) (b - c); bytes = refl; all-bytes = λ _ y. y }
+keeps-along call grow h k b c = record { entries = kept-extended (h .entries) (k + b) (c - b); bytes = cleared-length (h .pool) (k + b) (c - b); all-bytes = λ _. bytes-cleared (h .pool) (k + b) (c - b) }
+keeps-along call (move s) h k b c =
     let p = kept-placed (h .entries) s c in
     let r = kept-released (placed (h .entries) s c) k b in
-    record { entries = record { long = r .long ∙ p .long; small = λ x. r .small (p .small x) }; bytes = moved-length h k b c s; all-bytes = bytes-moved h k b c s }
-keeps-along noWay h k b c = keeps-all h _ []
+    record { entries = record { long = r .long ∙ p .long; small = λ x. r .small (p .small x) }; bytes = moved-length h k b c s; all-bytes = λ _. bytes-moved h k b c s }
+keeps-along call noWay h k b c = keeps-all call h _ []
 
-pub step-keeps : (c : Call) (stack : List ℕ) (h : Heap) → Keeps h (step c stack h)
-unfolding step init allocate free reallocate collect survey load store writeImage placing taken freed collecting sweep
+pub step-keeps : (c : Call) (stack : List ℕ) (h : Heap) → Keeps c h (step c stack h)
+unfolding step init allocate free reallocate collect survey load store writeImage openImage placing taken freed collecting sweep
 step-keeps (Init base) stack h =
-    keeps-unless _ h []
-    (record { entries = record { long = length-replicate {A = ℕ} (length (h .entries)) FREE; small = λ s. bounded-replicate (length (h .entries)) FREE (omega arith) }; bytes = refl; all-bytes = λ y. y })
-step-keeps (Allocate base bytes) stack h = keeps-unless _ h [] (record { entries = kept-placed (h .entries) _ _; bytes = cleared-length (h .pool) _ _; all-bytes = bytes-cleared (h .pool) _ _ })
-step-keeps (Free base k) stack h = keeps-unless _ h [] (record { entries = kept-released (h .entries) k _; bytes = refl; all-bytes = λ y. y })
-step-keeps (Reallocate base k bytes) stack h = keeps-unless _ h [] (keeps-along _ h k _ _)
+    keeps-unless _ _ h []
+    (record { entries = record { long = length-replicate {A = ℕ} (length (h .entries)) FREE; small = λ s. bounded-replicate (length (h .entries)) FREE (omega arith) }; bytes = refl; all-bytes = λ _ y. y })
+step-keeps (Allocate base bytes) stack h = keeps-unless _ _ h [] (record { entries = kept-placed (h .entries) _ _; bytes = cleared-length (h .pool) _ _; all-bytes = λ _. bytes-cleared (h .pool) _ _ })
+step-keeps (Free base k) stack h = keeps-unless _ _ h [] (record { entries = kept-released (h .entries) k _; bytes = refl; all-bytes = λ _ y. y })
+step-keeps (Reallocate base k bytes) stack h = keeps-unless _ _ h [] (keeps-along _ _ h k _ _)
 step-keeps (Collect base roots) stack h =
-    keeps-unless _ h stack
-    (record { entries = record { long = sweep-length false _ ∙ marking-length _ _ (h .entries); small = λ s. small-swept false _ }; bytes = refl; all-bytes = λ y. y })
-step-keeps (Survey base) stack h = keeps-unless _ h [] (keeps-all h _ [])
-step-keeps (Load base k i) stack h = keeps-unless _ h [] (keeps-all h _ [])
-step-keeps (Store base k i w) stack h = keeps-unless _ h [] (record { entries = kept-same (h .entries); bytes = length-withWord (h .pool) (4 * k + i) w; all-bytes = bytes-stored (h .pool) (4 * k + i) w })
-step-keeps (WriteImage base roots room) stack h = keeps-unless _ h [] (record { entries = kept-same (h .entries); bytes = refl; all-bytes = λ y. y })
+    keeps-unless _ _ h stack
+    (record { entries = record { long = sweep-length false _ ∙ marking-length _ _ (h .entries); small = λ s. small-swept false _ }; bytes = refl; all-bytes = λ _ y. y })
+step-keeps (Survey base) stack h = keeps-unless _ _ h [] (keeps-all _ h _ [])
+step-keeps (Load base k i) stack h = keeps-unless _ _ h [] (keeps-all _ h _ [])
+step-keeps (Store base k i w) stack h = keeps-unless _ _ h [] (record { entries = kept-same (h .entries); bytes = length-withWord (h .pool) (4 * k + i) w; all-bytes = λ _. bytes-stored (h .pool) (4 * k + i) w })
+step-keeps (WriteImage base roots room) stack h = keeps-unless _ _ h [] (record { entries = kept-same (h .entries); bytes = refl; all-bytes = λ _ y. y })
+step-keeps (OpenImage image room) stack h = keeps-if _ _ h [] (λ e. keeps-opened h image room _ (open-passed h image room e))

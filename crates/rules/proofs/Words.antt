@@ -9,7 +9,7 @@ use native.Mathlib.Decide.{decLt}
 use native.Mathlib.Omega.{arith}
 use lib.ListN.{length, getD, take, drop, length-append, List·getD-append}
 use lib.Seq.{ext-getD, drop-cons, getD-append-add, length-sets}
-use Rattle.rules.specs.Words.{number, bytesOf, wordAt, withWord, wordsOf}
+use Rattle.rules.specs.Words.{number, bytesOf, twoBytesOf, firstTwo, wordAt, withWord, wordsOf}
 use Rattle.rules.specs.Meaning.{AllBytes}
 use Rattle.rules.proofs.Lists.{sets-before, sets-after, sets-in, length-tabulate, getD-tabulate}
 
@@ -53,6 +53,28 @@ bytesOf-number a b c d la lb lc ld =
     let e2 : n / 65536 % 256 ≡ c = let q : n / 65536 ≡ c + 256 * d = omega arith in rw q (omega arith) in
     let e3 : n / 16777216 % 256 ≡ d = let q : n / 16777216 ≡ d = omega arith in rw q (omega arith) in
     rw (e0, e1, e2, e3)
+
+pub length-twoBytesOf : (n : ℕ) → length (twoBytesOf n) ≡ 2
+unfolding twoBytesOf
+length-twoBytesOf n = refl
+
+-- the number in two bytes is that of which they are the lowest
+pub firstTwo-back : (n : ℕ) (bs : List ℕ) → n < 65536 → firstTwo (twoBytesOf n ++ bs) ≡ n
+unfolding firstTwo twoBytesOf
+firstTwo-back n bs few = omega arith
+
+pub twoBytesOf-back : (a b : ℕ) (bs : List ℕ) → a < 256 → b < 256 → twoBytesOf (firstTwo (a ∷ b ∷ bs)) ≡ a ∷ b ∷ []
+unfolding firstTwo twoBytesOf
+twoBytesOf-back a b bs la lb =
+    let high : (a + 256 * b) / 256 ≡ b = omega arith in
+    let low : (a + 256 * b) % 256 ≡ a = omega (arith, high) in
+    let all : b % 256 ≡ b = omega arith in
+    rw (low, high, all)
+
+-- what is behind two bytes
+pub drop-two : (n : ℕ) (bs : List ℕ) → drop 2 (twoBytesOf n ++ bs) ≡ bs
+unfolding twoBytesOf
+drop-two n bs = refl
 
 -- ---- a word of a list of bytes
 

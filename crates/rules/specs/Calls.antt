@@ -1,20 +1,21 @@
--- The nine calls. Each is one outcome for every input: the tests that concern its arguments in rising order, then the act.
+-- The ten calls. Each is one outcome for every input: the tests that concern its arguments, in rising order but for those of a file, then the act.
 -- Assumes nothing.
 use mathlib.Core.Bool.{Bool, true, false}
 use mathlib.Core.List.{List, [], _∷_, _++_}
 use mathlib.Core.Option.{Option, some, none}
-use Prim.Native.Nat.{ℕ, _+_, _-_, _*_, _/_}
+use Prim.Native.Nat.{ℕ, _+_, _-_, _*_, _/_, _%_}
 use lib.Dec.{eqb, ltb}
 use lib.ListN.{length, take, drop, replicate}
 use lib.Seq.{sets}
-use Rattle.rules.specs.Tests.{pick, isNone, orElse}
+use Rattle.rules.specs.Tests.{pick, both, isNone, orElse}
 use Rattle.rules.specs.Words.{wordAt, withWord, wordsOf}
 use Rattle.rules.specs.Entries.{FREE}
 use Rattle.rules.specs.Tables.{blockCount, firstFit, growsInPlace, placed, released, extended, used, objects, longest}
-use Rattle.rules.specs.Outcomes.{Heap, Outcome, changeFrom, onlyRefusal, placedAt, collectedTo, surveyed, loaded, writtenTo, leaves, fills, unlessRefused, clearedBlocks}
-use Rattle.rules.specs.Refusals.{Test, firstOf, noRoom, initTests, heapTests, requestTests, objectTests, resizeTests, wordTests, shortBuffer, rootTests, collectionTests}
+use Rattle.rules.specs.Outcomes.{Heap, Outcome, changeFrom, onlyRefusal, placedAt, collectedTo, surveyed, loaded, writtenTo, openedAt, leaves, fills, unlessRefused, clearedBlocks}
+use Rattle.rules.specs.Refusals.{Test, firstOf, goodShape, noRoom, initTests, firstTests, heapTests, requestTests, objectTests, resizeTests, wordTests, shortBuffer, rootTests, shortRoots, collectionTests}
 use Rattle.rules.specs.Marking.{Marked, markAll, sweep}
 use Rattle.rules.specs.Images.{imageOf}
+use Rattle.rules.specs.Files.{File, fileOf, fileTests, baseOf, heapOfFile, rootsOf}
 
 -- how many blocks hold a number of bytes
 unfoldable pub blocksFor : ℕ → ℕ
@@ -158,3 +159,20 @@ unfoldable pub writeImage : ℕ → Heap → List ℕ → ℕ → Outcome
 writeImage base h roots room =
     unlessRefused (firstOf (imageTests base h roots room)) h []
     (fills (writtenTo (length (imageOf base h roots))) h (imageOf base h roots))
+
+-- 1, of a file that is opened: pool and table are as large as its own, its base suits them, and the root list of `room` bytes is whole words
+unfoldable pub goodTarget : File → Heap → ℕ → Bool
+goodTarget f h room = both (both (goodShape (baseOf f) h) (eqb (length (heapOfFile f .entries)) (length (h .entries)))) (eqb (room % 4) 0)
+
+-- Open an image: a file, into the lent pool and table and a root list of `room` bytes. Its own faults come first; 2 is said of the heap in it; 17 if the root list is too short.
+-- What the lent memory held is not looked at
+abbrev pub openTests : Heap → List ℕ → ℕ → List Test
+openTests h image room =
+    let f : File = fileOf image in
+    fileTests image ++ firstTests (goodTarget f h room) (heapOfFile f) ++ shortRoots room (rootsOf f) ∷ []
+
+unfoldable pub openImage : Heap → List ℕ → ℕ → Outcome
+openImage h image room =
+    let f : File = fileOf image in
+    unlessRefused (firstOf (openTests h image room)) h []
+    (fills (openedAt (baseOf f) (length (rootsOf f) / 4)) (heapOfFile f) (rootsOf f))

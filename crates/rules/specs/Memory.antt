@@ -5,6 +5,7 @@
 use mathlib.Core.Path.{_≡_}
 use mathlib.Core.Bool.{Bool, true, false, not}
 use mathlib.Core.List.{List, [], _∷_, _++_}
+use mathlib.Core.Option.{Option, some, none}
 use Prim.Native.Nat.{ℕ, zero, suc}
 use lib.Dec.{eqb}
 use lib.ListN.{length, drop}
@@ -12,7 +13,8 @@ use Rattle.rules.specs.Tests.{both, either}
 use Rattle.rules.specs.Forms.{Form}
 use Rattle.rules.specs.Outcomes.{Heap, Answer, Outcome, onlyRefusal}
 use Rattle.rules.specs.Refusals.{Test, test, firstOf}
-use Rattle.rules.specs.Runs.{Call, Init, Allocate, Free, Reallocate, Collect, Survey, Load, Store, WriteImage, step, Turn}
+use Rattle.rules.specs.Files.{faultOf}
+use Rattle.rules.specs.Runs.{Call, Init, Allocate, Free, Reallocate, Collect, Survey, Load, Store, WriteImage, OpenImage, step, fileIn, Turn}
 
 -- what is lent to every call. A table or record that is lent beside these is one more field
 pub record Memory : Type 0 where
@@ -49,7 +51,7 @@ pub record Result : Type 0 where
   pub memory : Memory
   -- the mark stack; only a collection takes one
   pub stack : List ℕ
-  -- what the call wrote, from the front on, into a buffer that was lent for it to fill: an image
+  -- what the call wrote, from the front on, into a buffer that was lent for it to fill: an image, or the roots of one
   pub filled : List ℕ
 
 abbrev pub result : Answer → Memory → List ℕ → Result
@@ -78,8 +80,9 @@ stackFor (Survey base) stack = []
 stackFor (Load base k i) stack = []
 stackFor (Store base k i w) stack = []
 stackFor (WriteImage base roots room) stack = []
+stackFor (OpenImage image room) stack = []
 
--- whether the call reads the table: init only fills it, and does not test what it held
+-- whether the call reads the table: init and the opening of an image only fill it, and do not test what it held
 abbrev pub readsTable : Call → Bool
 readsTable (Init base) = false
 readsTable (Allocate base bytes) = true
@@ -90,12 +93,22 @@ readsTable (Survey base) = true
 readsTable (Load base k i) = true
 readsTable (Store base k i w) = true
 readsTable (WriteImage base roots room) = true
+readsTable (OpenImage image room) = false
 
--- The tests of a call on lent memory, where the call on the heap in it is refused by r, or not if r is 0: those that come first, which are 1 and 2 with what the form
--- adds to them, then the call's own. What is tested last comes after these.
+-- the fault of the file that a call reads, 0 if it has none or there is no file
+abbrev pub faultBy : Option (List ℕ) → ℕ
+faultBy none = 0
+faultBy (some image) = faultOf image
+
+abbrev pub faultIn : Call → ℕ
+faultIn c = faultBy (fileIn c)
+
+-- The tests of a call on lent memory, where the call on the heap in it is refused by r, or not if r is 0: the fault of a file; then those that come first in the other calls,
+-- which are 1 and 2 with what the form adds to them; then the call's own. What is tested last comes after these.
 abbrev pub testsIn : Form → Call → Memory → ℕ → List Test
 testsIn f c m r =
-    test 1 (either (eqb r 1) (not (lengthsFit f m)))
+    test (faultIn c) (not (eqb (faultIn c) 0))
+    ∷ test 1 (either (eqb r 1) (not (lengthsFit f m)))
     ∷ test 2 (either (eqb r 2) (both (readsTable c) (not (f .clean (m .table)))))
     ∷ test r (not (eqb r 0))
     ∷ []

@@ -29,6 +29,8 @@ pub record Answer : Type 0 where
   pub longest : ℕ
   pub value : ℕ
   pub length : ℕ
+  pub base : ℕ
+  pub roots : ℕ
 
 -- the answer, and what the lent memory then holds
 pub record Outcome : Type 0 where
@@ -41,23 +43,27 @@ pub record Outcome : Type 0 where
 
 -- the answer of a call that answers a block and the change
 abbrev pub placement : ℕ → ℕ → ℤ → Answer
-placement r k d = record { refusal = r; block = k; change = d; kept = 0; rescans = 0; used = 0; objects = 0; longest = 0; value = 0; length = 0 }
+placement r k d = record { refusal = r; block = k; change = d; kept = 0; rescans = 0; used = 0; objects = 0; longest = 0; value = 0; length = 0; base = 0; roots = 0 }
 
 -- of a collection: the kept objects, the rescans and the change
 abbrev pub collection : ℕ → ℕ → ℕ → ℤ → Answer
-collection r n s d = record { refusal = r; block = 0; change = d; kept = n; rescans = s; used = 0; objects = 0; longest = 0; value = 0; length = 0 }
+collection r n s d = record { refusal = r; block = 0; change = d; kept = n; rescans = s; used = 0; objects = 0; longest = 0; value = 0; length = 0; base = 0; roots = 0 }
 
 -- of a survey: used blocks, objects, the longest free run
 abbrev pub findings : ℕ → ℕ → ℕ → ℕ → Answer
-findings r u n l = record { refusal = r; block = 0; change = pos 0; kept = 0; rescans = 0; used = u; objects = n; longest = l; value = 0; length = 0 }
+findings r u n l = record { refusal = r; block = 0; change = pos 0; kept = 0; rescans = 0; used = u; objects = n; longest = l; value = 0; length = 0; base = 0; roots = 0 }
 
 -- of a load: the word
 abbrev pub reading : ℕ → ℕ → Answer
-reading r w = record { refusal = r; block = 0; change = pos 0; kept = 0; rescans = 0; used = 0; objects = 0; longest = 0; value = w; length = 0 }
+reading r w = record { refusal = r; block = 0; change = pos 0; kept = 0; rescans = 0; used = 0; objects = 0; longest = 0; value = w; length = 0; base = 0; roots = 0 }
 
 -- of an image that was written: its length
 abbrev pub writing : ℕ → ℕ → Answer
-writing r n = record { refusal = r; block = 0; change = pos 0; kept = 0; rescans = 0; used = 0; objects = 0; longest = 0; value = 0; length = n }
+writing r n = record { refusal = r; block = 0; change = pos 0; kept = 0; rescans = 0; used = 0; objects = 0; longest = 0; value = 0; length = n; base = 0; roots = 0 }
+
+-- of an image that was opened: its base, and how many roots it has
+abbrev pub opening : ℕ → ℕ → ℕ → Answer
+opening r b n = record { refusal = r; block = 0; change = pos 0; kept = 0; rescans = 0; used = 0; objects = 0; longest = 0; value = 0; length = 0; base = b; roots = n }
 
 -- only a refusal number, all other parts zero
 abbrev pub onlyRefusal : ℕ → Answer
@@ -82,6 +88,9 @@ loaded w = reading 0 w
 
 abbrev pub writtenTo : ℕ → Answer
 writtenTo n = writing 0 n
+
+abbrev pub openedAt : ℕ → ℕ → Answer
+openedAt b n = opening 0 b n
 
 -- a call leaves this
 abbrev pub leavesWith : Answer → Heap → List ℕ → Outcome

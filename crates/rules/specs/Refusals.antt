@@ -1,5 +1,5 @@
 -- The refusal numbers: the test behind each, and the tests of the calls in rising order. The first that holds gives the answer.
--- Calls that can run out of room test 9 or 10 after these.
+-- Calls that can run out of room test 9, 10 or 17 after these; a file that is opened is tested before them, from its front (Files): 14 to 16, and 3.
 -- Assumes nothing.
 use mathlib.Core.Bool.{Bool, not}
 use mathlib.Core.List.{List, [], _∷_, _++_}
@@ -79,6 +79,10 @@ noRoom b = test 9 b
 -- 10: the buffer, of so many bytes, is shorter than what is to be written into it
 abbrev pub shortBuffer : ℕ → List ℕ → Test
 shortBuffer room bytes = test 10 (ltb room (length bytes))
+
+-- 17: the root list, of so many bytes, is shorter than the roots that are to be written into it
+abbrev pub shortRoots : ℕ → List ℕ → Test
+shortRoots room roots = test 17 (ltb room (length roots))
 
 -- ---- the tests of the calls, in rising order
 
