@@ -21,3 +21,4 @@ pub mod Examples
 pub mod Orders
 pub mod PlaneExamples
 pub mod ImageExamples
+pub mod FileExamples
