@@ -8,17 +8,18 @@ use lib.IntN.{pos}
 use lib.ListN.{length}
 use Rattle.rules.specs.Tests.{count, leading, tabulate}
 use Rattle.rules.specs.Bits.{bitOf, bitAt, byteOf}
-use Rattle.rules.specs.Words.{number, bytesOf, twoBytesOf, wordAt, wordsOf}
-use Rattle.rules.specs.Entries.{tableOf}
+use Rattle.rules.specs.Words.{number, bytesOf, twoBytesOf, firstTwo, wordAt, wordsOf}
+use Rattle.rules.specs.Entries.{entryOf, entriesOf, tableOf}
 use Rattle.rules.specs.Images.{section, sections, blockBytes, usedFrom, imageOf}
+use Rattle.rules.specs.Files.{sectionIn, sectionTests, fileOf, fileTests, faultOf, poolOf}
 use Rattle.rules.specs.Tables.{mayFollow, wellAfter, wellFormed, blockCount, startOf, freeFrom, aligned, fits, firstFrom, firstFit, growsInPlace, placed, released, extended, used, objects, longest}
 use Rattle.rules.specs.Pointers.{addressOf, goodBase, targetOf, headsObject, headAt, leadsTo}
 use Rattle.rules.specs.Planes.{planeBytes, entryIn, entriesIn, spare, spareFree, plane, planesOf, planes}
 use Rattle.rules.specs.Outcomes.{Answer, onlyRefusal, changeFrom, placedAt, collectedTo, unlessRefused, clearedBlocks}
 use Rattle.rules.specs.Refusals.{firstOf, goodShape, wholeWords}
 use Rattle.rules.specs.Marking.{pushed, visitTo, visit, walkWords, walk, drainFor, drain, trace, rootTo, markRoot, markRoots, passBlock, passFrom, pass, rescanFor, rescan, markAll, sweptEntry, freeingAfter, sweepFrom, sweep}
-use Rattle.rules.specs.Calls.{blocksFor, init, taken, placing, allocate, freed, free, shrunk, grown, moved, movesTo, wayToGrow, wayTo, along, reallocate, collecting, collect, survey, load, store, writeImage}
-use Rattle.rules.specs.Runs.{Call, Init, Allocate, Free, Reallocate, Collect, Survey, Load, Store, WriteImage, step}
+use Rattle.rules.specs.Calls.{blocksFor, init, taken, placing, allocate, freed, free, shrunk, grown, moved, movesTo, wayToGrow, wayTo, along, reallocate, collecting, collect, survey, load, store, writeImage, goodTarget, openImage}
+use Rattle.rules.specs.Runs.{Call, Init, Allocate, Free, Reallocate, Collect, Survey, Load, Store, WriteImage, OpenImage, step}
 use Rattle.rules.specs.Memory.{Memory, memory, Result, result, orRefused, perform}
 use Rattle.rules.specs.Examples.{zeros, fives, sevens, stale, linkedPool, minus}
 
@@ -93,23 +94,27 @@ spareLow = memory (zeros 192) (21 ∷ 16 ∷ 42 ∷ 0 ∷ [])
 abbrev pub spareHigh : Memory
 spareHigh = memory (zeros 192) (21 ∷ 0 ∷ 42 ∷ 128 ∷ [])
 
--- each call, with arguments that are refused where they can be, a mark stack of 65 entries, and no room for an image
+-- a file of twelve FREE blocks and one root
+abbrev pub rooted : List ℕ
+rooted = 1 ∷ 0 ∷ 0 ∷ 16 ∷ 0 ∷ 0 ∷ 3 ∷ 0 ∷ 0 ∷ 0 ∷ 0 ∷ 0 ∷ 0 ∷ 1 ∷ 0 ∷ 5 ∷ 5 ∷ 5 ∷ 5 ∷ []
+
+-- each call, with arguments that are refused where they can be, a mark stack of 65 entries, and no room for an image or a root
 abbrev pub eachCall : List Call
-eachCall = Init 4096 ∷ Allocate 4096 0 ∷ Free 4096 99 ∷ Reallocate 4096 99 0 ∷ Collect 4096 [] ∷ Survey 4096 ∷ Load 4096 99 0 ∷ Store 4096 99 0 0 ∷ WriteImage 4096 [] 0 ∷ []
+eachCall = Init 4096 ∷ Allocate 4096 0 ∷ Free 4096 99 ∷ Reallocate 4096 99 0 ∷ Collect 4096 [] ∷ Survey 4096 ∷ Load 4096 99 0 ∷ Store 4096 99 0 0 ∷ WriteImage 4096 [] 0 ∷ OpenImage rooted 0 ∷ []
 
 unfoldable pub refusalsAt : ℕ → Memory → List ℕ
 refusalsAt t m = map (λ (c : Call). perform (planes t) c (sevens 260) m .answer .refusal) eachCall
 
 abbrev pub alwaysOne : List ℕ
-alwaysOne = 1 ∷ 1 ∷ 1 ∷ 1 ∷ 1 ∷ 1 ∷ 1 ∷ 1 ∷ 1 ∷ []
+alwaysOne = 1 ∷ 1 ∷ 1 ∷ 1 ∷ 1 ∷ 1 ∷ 1 ∷ 1 ∷ 1 ∷ 1 ∷ []
 
--- A spare bit is 2, before any number of the call's own, and but for init, which only fills the table. Another t, even one that has as many table bytes, a table as long as a packed
--- one, or one that is a byte longer is 1, also for init, and before the spare bit.
+-- A spare bit is 2, before any number of the call's own, and but for init and an opening, which only fill the table. Another t, even one that has as many table bytes, a table as long as a packed
+-- one, or one that is a byte longer is 1, also for these, and before the spare bit.
 abbrev pub PlaneRefusals : Type 0
 PlaneRefusals =
-    (refusalsAt 3 twelve ≡ 0 ∷ 5 ∷ 6 ∷ 5 ∷ 4 ∷ 0 ∷ 6 ∷ 6 ∷ 10 ∷ [])
-    × (refusalsAt 3 spareLow ≡ 0 ∷ 2 ∷ 2 ∷ 2 ∷ 2 ∷ 2 ∷ 2 ∷ 2 ∷ 2 ∷ [])
-    × (refusalsAt 3 spareHigh ≡ 0 ∷ 2 ∷ 2 ∷ 2 ∷ 2 ∷ 2 ∷ 2 ∷ 2 ∷ 2 ∷ [])
+    (refusalsAt 3 twelve ≡ 0 ∷ 5 ∷ 6 ∷ 5 ∷ 4 ∷ 0 ∷ 6 ∷ 6 ∷ 10 ∷ 17 ∷ [])
+    × (refusalsAt 3 spareLow ≡ 0 ∷ 2 ∷ 2 ∷ 2 ∷ 2 ∷ 2 ∷ 2 ∷ 2 ∷ 2 ∷ 17 ∷ [])
+    × (refusalsAt 3 spareHigh ≡ 0 ∷ 2 ∷ 2 ∷ 2 ∷ 2 ∷ 2 ∷ 2 ∷ 2 ∷ 2 ∷ 17 ∷ [])
     × (refusalsAt 4 twelve ≡ alwaysOne)
     × (refusalsAt 2 twelve ≡ alwaysOne)
     × (refusalsAt 0 (memory [] []) ≡ alwaysOne)
@@ -117,5 +122,5 @@ PlaneRefusals =
     × (refusalsAt 3 (memory (zeros 192) (21 ∷ 16 ∷ 42 ∷ 0 ∷ 0 ∷ [])) ≡ alwaysOne)
 
 pub plane-refusals : PlaneRefusals
-unfolding refusalsAt count leading tabulate bitOf bitAt byteOf planeBytes entryIn entriesIn spare spareFree plane planesOf mayFollow wellAfter wellFormed used objects longest addressOf goodBase changeFrom unlessRefused firstOf goodShape wholeWords init placing allocate free along reallocate collecting collect survey load store writeImage bytesOf twoBytesOf tableOf section sections blockBytes usedFrom imageOf step orRefused perform
+unfolding refusalsAt count leading tabulate bitOf bitAt byteOf planeBytes entryIn entriesIn spare spareFree plane planesOf mayFollow wellAfter wellFormed used objects longest addressOf goodBase changeFrom unlessRefused firstOf goodShape wholeWords init placing allocate free along reallocate collecting collect survey load store writeImage bytesOf twoBytesOf tableOf section sections blockBytes usedFrom imageOf number wordAt firstTwo entryOf entriesOf sectionIn sectionTests fileOf fileTests faultOf poolOf goodTarget openImage step orRefused perform
 plane-refusals = (refl, refl, refl, refl, refl, refl, refl, refl)
