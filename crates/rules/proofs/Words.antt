@@ -78,6 +78,11 @@ drop-two n bs = refl
 
 -- ---- a word of a list of bytes
 
+-- the word in the bytes of a number
+pub wordAt-bytesOf : (w : ℕ) → w < 2 ^ 32 → wordAt (bytesOf w) 0 ≡ w
+unfolding wordAt bytesOf
+wordAt-bytesOf w l = number-bytesOf w l
+
 -- a word depends on its four bytes alone
 pub wordAt-same : (bs cs : List ℕ) (i j : ℕ) → ((k : ℕ) → k < 4 → getD bs (4 * i + k) 0 ≡ getD cs (4 * j + k) 0) → wordAt bs i ≡ wordAt cs j
 unfolding wordAt
