@@ -90,7 +90,7 @@ pub record Collected (base : ℕ) (h : Heap) (roots lent : List ℕ) (o : Outcom
 -- an answer with r rescans
 abbrev pub withRescans : ℕ → Answer → Answer
 withRescans r a =
-    record { refusal = a .refusal; block = a .block; change = a .change; kept = a .kept; rescans = r; used = a .used; objects = a .objects; longest = a .longest; value = a .value; length = a .length }
+    record { refusal = a .refusal; block = a .block; change = a .change; kept = a .kept; rescans = r; used = a .used; objects = a .objects; longest = a .longest; value = a .value; length = a .length; base = a .base; roots = a .roots }
 
 -- an answer but for the number of rescans
 abbrev pub butRescans : Answer → Answer

@@ -12,17 +12,19 @@ use Rattle.rules.specs.Tables.{entryAt, blockCount}
 use Rattle.rules.specs.Meaning.{Aligned, Accepted}
 use Rattle.rules.specs.Outcomes.{Heap}
 use Rattle.rules.specs.Forms.{Form, Faithful, Small}
-use Rattle.rules.specs.Calls.{blocksFor, allocate, free, reallocate, collect}
-use Rattle.rules.specs.Runs.{Call, Init, Allocate, Free, Reallocate, Collect, Survey, Load, Store, WriteImage, Turn, step}
+use Rattle.rules.specs.Calls.{blocksFor, allocate, free, reallocate, collect, openImage}
+use Rattle.rules.specs.Runs.{Call, Init, Allocate, Free, Reallocate, Collect, Survey, Load, Store, WriteImage, OpenImage, Turn, step, FileIs, EveryFile, done, next}
 use Rattle.rules.specs.Memory.{Memory, heapIn, AcceptedIn, perform, turnIn, afterIn}
 use Rattle.rules.proofs.Refusals.{named-resize}
 use Rattle.rules.proofs.Tables.{entry-inside, extent-of}
+use Rattle.rules.proofs.Faults.{no-fault}
+use Rattle.rules.proofs.Opening.{open-passed}
 use Rattle.rules.proofs.Memory.{kept-by, passes-in, follows-accepted}
 use Rattle.keeping.proofs.Owners.{reachable-head}
 use Rattle.keeping.proofs.Collections.{collect-keeps, collect-well}
 use Rattle.promises.specs.Promises.{Object, blocksOf, Among, Same, Allocated, Freed, Reallocated}
-use Rattle.promises.specs.Alignment.{AllAligned, Older, NewAligned, NewObjectsAligned, AlignedFromInit}
-use Rattle.promises.proofs.Checked.{reallocate-checked, no-refusal}
+use Rattle.promises.specs.Alignment.{AllAligned, Older, NewAligned, FileAligned, NewObjectsAligned, AlignedFromInit}
+use Rattle.promises.proofs.Checked.{reallocate-checked, open-checked, acts, no-refusal}
 use Rattle.promises.proofs.Promised.{promises}
 
 -- ---- aligned and older
@@ -41,7 +43,7 @@ same-table before after e o head = inr (record { head = rw e at head; blocks = r
 
 -- what is new after two calls was new after the first, or is after the second
 two-calls : (h h′ h″ : Heap) → NewAligned h h′ → NewAligned h′ h″ → NewAligned h h″
-two-calls h h′ h″ first next o head = ⊎-elim inl later (next o head)
+two-calls h h′ h″ first second o head = ⊎-elim inl later (second o head)
   where
     later : Older h′ h″ o → Aligned (blocksOf h″ o) o ⊎ Older h h″ o
     later p =
@@ -138,37 +140,44 @@ module _ (base : ℕ) (h : Heap) where
       let reached = keeps .only o head in
       inr (record { head = reachable-head base h _ (collect-well base h roots stack accepted) o reached; blocks = omega (arith, keeps .count o reached) })
 
-new-accepted : (c : Call) (stack : List ℕ) (h : Heap) → Small (h .entries) → Accepted (step c stack h) → NewAligned h (step c stack h .heap)
+-- every object that a file brings is aligned
+new-opened : (h : Heap) (image : List ℕ) (room : ℕ) → FileAligned image → Accepted (openImage h image room) → NewAligned h (openImage h image room .heap)
+new-opened h image room file accepted =
+    let o = open-passed h image room (no-refusal (open-checked h image room) accepted) in
+    rw (acts (open-checked h image room) accepted) (λ k head. inl (file (no-fault image (o .faultless)) (o .well) k head))
+
+new-accepted : (c : Call) (stack : List ℕ) (h : Heap) → FileIs FileAligned c → Small (h .entries) → Accepted (step c stack h) → NewAligned h (step c stack h .heap)
 unfolding step
-new-accepted (Init base) stack h small accepted = λ o head. absurd (omega (arith, promises .initialised base h accepted .free o))
-new-accepted (Allocate base bytes) stack h small accepted = new-allocated base h bytes accepted
-new-accepted (Free base k) stack h small accepted = new-freed base h k accepted
-new-accepted (Reallocate base k bytes) stack h small accepted = new-reallocated base h k bytes accepted
-new-accepted (Collect base roots) stack h small accepted = new-collected base h roots stack small accepted
-new-accepted (Survey base) stack h small accepted = same-table h _ (ap (λ (g : Heap). g .entries) (promises .survey-leaves base h))
-new-accepted (Load base k i) stack h small accepted = same-table h _ (ap (λ (g : Heap). g .entries) (promises .load-leaves base h k i))
-new-accepted (Store base k i w) stack h small accepted = same-table h _ (promises .stored base h k i w accepted .table)
-new-accepted (WriteImage base roots room) stack h small accepted = same-table h _ (ap (λ (g : Heap). g .entries) (promises .image-leaves base h roots room))
+new-accepted (Init base) stack h file small accepted = λ o head. absurd (omega (arith, promises .initialised base h accepted .free o))
+new-accepted (Allocate base bytes) stack h file small accepted = new-allocated base h bytes accepted
+new-accepted (Free base k) stack h file small accepted = new-freed base h k accepted
+new-accepted (Reallocate base k bytes) stack h file small accepted = new-reallocated base h k bytes accepted
+new-accepted (Collect base roots) stack h file small accepted = new-collected base h roots stack small accepted
+new-accepted (Survey base) stack h file small accepted = same-table h _ (ap (λ (g : Heap). g .entries) (promises .survey-leaves base h))
+new-accepted (Load base k i) stack h file small accepted = same-table h _ (ap (λ (g : Heap). g .entries) (promises .load-leaves base h k i))
+new-accepted (Store base k i w) stack h file small accepted = same-table h _ (promises .stored base h k i w accepted .table)
+new-accepted (WriteImage base roots room) stack h file small accepted = same-table h _ (ap (λ (g : Heap). g .entries) (promises .image-leaves base h roots room))
+new-accepted (OpenImage image room) stack h file small accepted = new-opened h image room (file image refl) accepted
 
 -- ---- lists of calls on lent memory
 
 module _ (f : Form) (faithful : Faithful f) where
-  new-performed : (c : Call) (stack : List ℕ) (m : Memory) → NewAligned (heapIn f m) (heapIn f (perform f c stack m .memory))
-  new-performed c stack m =
+  new-performed : (c : Call) (stack : List ℕ) → FileIs FileAligned c → (m : Memory) → NewAligned (heapIn f m) (heapIn f (perform f c stack m .memory))
+  new-performed c stack file m =
       kept-by (λ (n : Memory). NewAligned (heapIn f m) (heapIn f n)) f c stack m
       (λ z. subst (NewAligned (heapIn f m)) (sym (follows-accepted f faithful c stack m z .heap))
-      (new-accepted c stack (heapIn f m) (faithful .small (m .table)) (passes-in f c stack m z .own)))
+      (new-accepted c stack (heapIn f m) file (faithful .small (m .table)) (passes-in f c stack m z .own)))
       (same-table (heapIn f m) (heapIn f m) refl)
 
-  new-after : (ts : List Turn) (m : Memory) → NewAligned (heapIn f m) (heapIn f (afterIn f ts m))
+  new-after : (ts : List Turn) → EveryFile FileAligned ts → (m : Memory) → NewAligned (heapIn f m) (heapIn f (afterIn f ts m))
   unfolding afterIn
-  new-after [] m = same-table (heapIn f m) (heapIn f m) refl
-  new-after (t ∷ ts) m = two-calls (heapIn f m) _ _ (new-performed (t .call) (t .stack) m) (new-after ts (turnIn f t m .memory))
+  new-after [] done m = same-table (heapIn f m) (heapIn f m) refl
+  new-after (t ∷ ts) (next file files) m = two-calls (heapIn f m) _ _ (new-performed (t .call) (t .stack) file m) (new-after ts files (turnIn f t m .memory))
 
   -- a heap in which every object is aligned stays one
-  all-after : (ts : List Turn) (m : Memory) → AllAligned (heapIn f m) → AllAligned (heapIn f (afterIn f ts m))
-  all-after ts m all o head =
-      ⊎-elim (λ a. a) (λ p. fewer-aligned (blocksOf (heapIn f m) o) (blocksOf (heapIn f (afterIn f ts m)) o) o (p .blocks) (all o (p .head))) (new-after ts m o head)
+  all-after : (ts : List Turn) → EveryFile FileAligned ts → (m : Memory) → AllAligned (heapIn f m) → AllAligned (heapIn f (afterIn f ts m))
+  all-after ts files m all o head =
+      ⊎-elim (λ a. a) (λ p. fewer-aligned (blocksOf (heapIn f m) o) (blocksOf (heapIn f (afterIn f ts m)) o) o (p .blocks) (all o (p .head))) (new-after ts files m o head)
 
   all-from-init : (base : ℕ) (stack : List ℕ) (m : Memory) → AcceptedIn (perform f (Init base) stack m) → AllAligned (heapIn f (perform f (Init base) stack m .memory))
   unfolding step
@@ -177,7 +186,7 @@ module _ (f : Form) (faithful : Faithful f) where
       (λ o head. absurd (omega (arith, promises .initialised base (heapIn f m) (passes-in f (Init base) stack m z .own) .free o)))
 
 pub new-objects-aligned : NewObjectsAligned
-new-objects-aligned f faithful ts m = new-after f faithful ts m
+new-objects-aligned f faithful ts files m = new-after f faithful ts files m
 
 pub aligned-from-init : AlignedFromInit
-aligned-from-init f faithful base stack ts m z = all-after f faithful ts (perform f (Init base) stack m .memory) (all-from-init f faithful base stack m z)
+aligned-from-init f faithful base stack ts files m z = all-after f faithful ts files (perform f (Init base) stack m .memory) (all-from-init f faithful base stack m z)

@@ -13,24 +13,28 @@ use lib.Seq.{getD-append-add, getD-drop}
 use borrow.Author.Tests.{eqb-true, eqb-false, eq-eqb}
 use Rattle.rules.specs.Tests.{both, either}
 use Rattle.rules.specs.Entries.{FREE}
-use Rattle.rules.specs.Outcomes.{Heap, Outcome, onlyRefusal}
-use Rattle.rules.specs.Refusals.{test, firstOf}
+use Rattle.rules.specs.Outcomes.{Heap, Answer, Outcome, onlyRefusal}
+use Rattle.rules.specs.Refusals.{Test, test, firstOf}
 use Rattle.rules.specs.Images.{imageOf}
-use Rattle.rules.specs.Runs.{Call, Init, Allocate, Free, Reallocate, Collect, Survey, Load, Store, WriteImage, step}
+use Rattle.rules.specs.Files.{fileOf, rootsOf}
+use Rattle.rules.specs.Calls.{openImage}
+use Rattle.rules.specs.Runs.{Call, Init, Allocate, Free, Reallocate, Collect, Survey, Load, Store, WriteImage, OpenImage, step}
 use Rattle.rules.specs.Forms.{Form, Faithful}
 use Rattle.rules.specs.Planes.{planeBytes, entriesIn, spareFree, planesOf, planes, heapAt}
-use Rattle.rules.specs.Memory.{Memory, memory, heapIn, lengthsFit, doneIn, Result, result, withBuffer, AcceptedIn, stackFor, readsTable, testsIn, orRefused, perform}
+use Rattle.rules.specs.Memory.{Memory, memory, heapIn, lengthsFit, doneIn, Result, result, withBuffer, AcceptedIn, stackFor, readsTable, faultIn, testsIn, orRefused, perform}
 use Rattle.rules.specs.Meaning.{AllBytes, Shape, Accepted}
 use Rattle.rules.proofs.Refusals.{true-not-false, both-left, both-right, not-true, not-false}
 use Rattle.rules.proofs.Memory.{tests-passed, perform-accepted, passes-in, accepted-sound, Performed, acted, left, performed, packed-faithful, follows-accepted, follows-sound, sound-next}
+use Rattle.rules.proofs.Opening.{open-passed, open-passes}
 use Rattle.rules.proofs.Planes.{length-entriesIn, getD-entriesIn, entryIn-byte, planes-faithful}
 use Rattle.rules.proofs.Agreement.{in-planes, in-packed, planes-agree, call-in-planes, run-in-planes}
 use Rattle.promises.specs.Conditions.{Condition, First, when, ofInit, ofAllocate, ofFree, ofReallocate, ofCollect, ofSurvey, ofWord, ofWriteImage}
 use Rattle.promises.specs.Bytes.{OnBytes, AsPacked}
-use Rattle.promises.proofs.Checked.{init-checked, acts}
+use Rattle.promises.proofs.Checked.{number as number-of, no-refusal, init-checked, open-checked, acts}
 use Rattle.promises.proofs.Planes.{shape-in-bytes, spare-in-bytes, free-planes}
 use Rattle.promises.proofs.Storing.{stored, survey-leaves, load-leaves}
 use Rattle.promises.proofs.Imaging.{image-leaves, filled-is, image-fits}
+use Rattle.promises.proofs.Opening.{open-shape, open-fits, roots-are, opens-elsewhere}
 use Rattle.promises.proofs.Numbers.{first-step, first-end, init-refusal, allocate-refusal, free-refusal, reallocate-refusal, collect-refusal, survey-refusal, load-refusal, store-refusal, image-refusal}
 
 refused-bytes : (f : Form) (c : Call) (stack : List ℕ) (m : Memory) → ¬ AcceptedIn (perform f c stack m)
@@ -56,21 +60,28 @@ unfolding orRefused
 answered zero m stack done z = z refl
 answered (suc n) m stack done z = refl
 
+-- a number that is tested for not being 0
+nonzero-step : (n : ℕ) (ts : List Test) (cs : List Condition) → (n ≡ 0 → First cs (firstOf ts)) → First (when n (n ≢ 0) ∷ cs) (firstOf (test n (not (eqb n 0)) ∷ ts))
+nonzero-step n ts cs rest =
+    first-step (test n (not (eqb n 0))) ts (when n (n ≢ 0)) cs refl (λ e p. true-not-false (eq-eqb n 0 p) (not-true (eqb n 0) e)) (λ e p. p (eqb-true n 0 (not-false (eqb n 0) e)))
+    (λ e. rest (eqb-true n 0 (not-false (eqb n 0) e)))
+
 number : (f : Form) (c : Call) (stack : List ℕ) (m : Memory)
     → let r : ℕ = step c stack (heapIn f m) .answer .refusal in
     First
-    (when 1 ((r ≡ 1) ⊎ (lengthsFit f m ≡ false)) ∷ when 2 ((r ≡ 2) ⊎ ((readsTable c ≡ true) × (f .clean (m .table) ≡ false))) ∷ when r (r ≢ 0) ∷ [])
+    (when (faultIn c) (faultIn c ≢ 0) ∷ when 1 ((r ≡ 1) ⊎ (lengthsFit f m ≡ false)) ∷ when 2 ((r ≡ 2) ⊎ ((readsTable c ≡ true) × (f .clean (m .table) ≡ false))) ∷ when r (r ≢ 0) ∷ [])
     (perform f c stack m .answer .refusal)
 unfolding perform
 number f c stack m =
     rw (answered (firstOf (testsIn f c m r)) m (stackFor c stack) (doneIn f c stack m) (λ z. tests-passed f c m r z .own))
-    (first-step (test 1 (either (eqb r 1) misfit)) _ _ _ refl
+    (nonzero-step (faultIn c) _ _
+    (λ _. first-step (test 1 (either (eqb r 1) misfit)) _ _ _ refl
     (λ e. ⊎-elim (λ p. inl (eqb-true r 1 p)) (λ p. inr (not-true (lengthsFit f m) p)) (one-of (eqb r 1) misfit e))
     (λ e. let q = neither (eqb r 1) misfit e in ⊎-elim (eqb-false r 1 (q .0)) (λ p. true-not-false (not-false (lengthsFit f m) (q .1)) p))
     (λ _. first-step (test 2 (either (eqb r 2) dirty)) _ _ _ refl
     (λ e. ⊎-elim (λ p. inl (eqb-true r 2 p)) (λ p. inr (both-left (readsTable c) (not (f .clean (m .table))) p, not-true (f .clean (m .table)) (both-right (readsTable c) _ p))) (one-of (eqb r 2) dirty e))
     (λ e. let q = neither (eqb r 2) dirty e in ⊎-elim (eqb-false r 2 (q .0)) (λ p. true-not-false {b = dirty} (rw (p .0, p .1)) (q .1)))
-    (λ _. first-step (test r (not (eqb r 0))) _ _ _ refl (λ e p. true-not-false (eq-eqb r 0 p) (not-true (eqb r 0) e)) (λ e p. p (eqb-true r 0 (not-false (eqb r 0) e))) (λ _. first-end))))
+    (λ _. nonzero-step r _ _ (λ _. first-end)))))
   where
     o : Outcome
     o = step c stack (heapIn f m)
@@ -112,6 +123,16 @@ first-not : (c : Condition) (cs : List Condition) (r : ℕ) → First (c ∷ cs)
 unfolding First
 first-not c cs r x other = ⊎-elim (λ here. absurd (other (here .1))) (λ later. later .0) x
 
+-- if it holds, the number is its own
+pub first-at : (c : Condition) (cs : List Condition) (r : ℕ) → First (c ∷ cs) r → c .holds → r ≡ c .number
+unfolding First
+first-at c cs r x given = ⊎-elim (λ here. here .1) (λ later. absurd (later .0 given)) x
+
+-- and if it does not hold, the number is that of the others
+pub first-past : (c : Condition) (cs : List Condition) (r : ℕ) → First (c ∷ cs) r → ¬ (c .holds) → First cs r
+unfolding First
+first-past c cs r x fails = ⊎-elim (λ here. absurd (fails (here .0))) (λ later. later .1) x
+
 sized : (base : ℕ) (h : Heap) → ¬ (¬ Shape base h) → length (h .pool) ≡ 16 * length (h .entries)
 sized base h given = go (ℕ-discrete (length (h .pool)) (16 * length (h .entries)))
   where
@@ -120,27 +141,28 @@ sized base h given = go (ℕ-discrete (length (h .pool)) (16 * length (h .entrie
     go (no bad) = absurd (given (λ s. bad (s .pool)))
 
 -- a call that is not refused by 1 has 16 bytes of the pool for each block
-pool-size : (c : Call) (stack : List ℕ) (h : Heap) → step c stack h .answer .refusal ≢ 1 → length (h .pool) ≡ 16 * length (h .entries)
+pool-size : (c : Call) (stack : List ℕ) (h : Heap) → faultIn c ≡ 0 → step c stack h .answer .refusal ≢ 1 → length (h .pool) ≡ 16 * length (h .entries)
 unfolding step ofInit ofAllocate ofFree ofReallocate ofCollect ofSurvey ofWord ofWriteImage
-pool-size (Init base) stack h other = sized base h (first-not _ _ _ (init-refusal base h) other)
-pool-size (Allocate base bytes) stack h other = sized base h (first-not _ _ _ (allocate-refusal base h bytes) other)
-pool-size (Free base k) stack h other = sized base h (first-not _ _ _ (free-refusal base h k) other)
-pool-size (Reallocate base k bytes) stack h other = sized base h (first-not _ _ _ (reallocate-refusal base h k bytes) other)
-pool-size (Collect base roots) stack h other = sized base h (λ bad. first-not _ _ _ (collect-refusal base h roots stack) other (λ s. bad (s .0)))
-pool-size (Survey base) stack h other = sized base h (first-not _ _ _ (survey-refusal base h) other)
-pool-size (Load base k i) stack h other = sized base h (first-not _ _ _ (load-refusal base h k i) other)
-pool-size (Store base k i w) stack h other = sized base h (first-not _ _ _ (store-refusal base h k i w) other)
-pool-size (WriteImage base roots room) stack h other = sized base h (λ bad. first-not _ _ _ (image-refusal base h roots room) other (λ s. bad (s .0)))
+pool-size (Init base) stack h whole other = sized base h (first-not _ _ _ (init-refusal base h) other)
+pool-size (Allocate base bytes) stack h whole other = sized base h (first-not _ _ _ (allocate-refusal base h bytes) other)
+pool-size (Free base k) stack h whole other = sized base h (first-not _ _ _ (free-refusal base h k) other)
+pool-size (Reallocate base k bytes) stack h whole other = sized base h (first-not _ _ _ (reallocate-refusal base h k bytes) other)
+pool-size (Collect base roots) stack h whole other = sized base h (λ bad. first-not _ _ _ (collect-refusal base h roots stack) other (λ s. bad (s .0)))
+pool-size (Survey base) stack h whole other = sized base h (first-not _ _ _ (survey-refusal base h) other)
+pool-size (Load base k i) stack h whole other = sized base h (first-not _ _ _ (load-refusal base h k i) other)
+pool-size (Store base k i w) stack h whole other = sized base h (first-not _ _ _ (store-refusal base h k i w) other)
+pool-size (WriteImage base roots room) stack h whole other = sized base h (λ bad. first-not _ _ _ (image-refusal base h roots room) other (λ s. bad (s .0)))
+pool-size (OpenImage image room) stack h whole other = open-shape h image room whole other .pool
 
 -- so 64 for each of t
-pub pool-of : (t : ℕ) (c : Call) (stack : List ℕ) (m : Memory) → perform (planes t) c stack m .answer .refusal ≢ 1 → length (m .pool) ≡ 64 * t
-pool-of t c stack m other =
-    let own : step c stack (heapIn (planes t) m) .answer .refusal ≢ 1 = λ e. first-not _ _ _ (number (planes t) c stack m) other (inl e) in
-    omega (arith, pool-size c stack (heapIn (planes t) m) own, length-entriesIn t (m .table))
+pub pool-of : (t : ℕ) (c : Call) (stack : List ℕ) (m : Memory) → faultIn c ≡ 0 → perform (planes t) c stack m .answer .refusal ≢ 1 → length (m .pool) ≡ 64 * t
+pool-of t c stack m whole other =
+    let own : step c stack (heapIn (planes t) m) .answer .refusal ≢ 1 = λ e. first-not _ _ _ (first-past _ _ _ (number (planes t) c stack m) (λ bad. bad whole)) other (inl e) in
+    omega (arith, pool-size c stack (heapIn (planes t) m) whole own, length-entriesIn t (m .table))
 
-one-t : (t t′ : ℕ) (c c′ : Call) (stack stack′ : List ℕ) (m : Memory) → perform (planes t) c stack m .answer .refusal ≢ 1
+one-t : (t t′ : ℕ) (c c′ : Call) (stack stack′ : List ℕ) (m : Memory) → faultIn c ≡ 0 → faultIn c′ ≡ 0 → perform (planes t) c stack m .answer .refusal ≢ 1
     → perform (planes t′) c′ stack′ m .answer .refusal ≢ 1 → t ≡ t′
-one-t t t′ c c′ stack stack′ m other other′ = omega (arith, pool-of t c stack m other, pool-of t′ c′ stack′ m other′)
+one-t t t′ c c′ stack stack′ m whole whole′ other other′ = omega (arith, pool-of t c stack m whole other, pool-of t′ c′ stack′ m whole′ other′)
 
 -- ---- calls that leave the table
 
@@ -187,31 +209,44 @@ image-bytes f faithful base roots room m bytes =
     let e = image-leaves base (heapIn f m) roots room in
     memory-left f faithful (WriteImage base roots room) [] m bytes refl (λ _. ap (λ (h : Heap). h .entries) e) (λ _. ap (λ (h : Heap). h .pool) e)
 
--- ---- the buffer for an image
+-- ---- a buffer that is filled
+
+-- behind what was written it is as it was
+behind : (buffer : List ℕ) (r : Result) → length (r .filled) ≤ length buffer → let left : List ℕ = withBuffer buffer r .filled in
+    (length left ≡ length buffer) × ((i : ℕ) → length (r .filled) ≤ i → getD left i 0 ≡ getD buffer i 0)
+behind buffer r fits =
+    let written = r .filled in (
+      length-append written (drop (length written) buffer) ∙ omega (arith, length-drop (length written) buffer, fits),
+      λ i past.
+          let e : i ≡ length written + (i - length written) = omega (arith, past) in
+          rw e (getD-append-add written (drop (length written) buffer) (i - length written) 0 ∙ getD-drop (length written) buffer (i - length written) 0),
+    )
+
+-- and all of it, if the call is refused
+left-as-it-was : (f : Form) (c : Call) (stack buffer : List ℕ) (m : Memory) → ¬ AcceptedIn (perform f c stack m) → withBuffer buffer (perform f c stack m) .filled ≡ buffer
+left-as-it-was f c stack buffer m no-number = rw (refused-bytes f c stack m no-number) refl
+
+-- a number that the answer gives is the length of what was written, and fits: of a refusal it is 0
+fits-in : (f : Form) (c : Call) (m : Memory) (part : Answer → ℕ) (room : ℕ) → ((r : ℕ) → part (onlyRefusal r) ≡ 0)
+    → (Accepted (step c [] (heapIn f m)) → (part (step c [] (heapIn f m) .answer) ≡ length (step c [] (heapIn f m) .filled)) × (length (step c [] (heapIn f m) .filled) ≤ room))
+    → (part (perform f c [] m .answer) ≡ length (perform f c [] m .filled)) × (length (perform f c [] m .filled) ≤ room)
+fits-in f c m part room zero-part given = go (performed f c [] m)
+  where
+    go : Performed m (stackFor c []) (perform f c [] m) → (part (perform f c [] m .answer) ≡ length (perform f c [] m .filled)) × (length (perform f c [] m .filled) ≤ room)
+    go (acted z) = let a = accepted-bytes f c [] m z in rw (a .1) (given (a .0))
+    go (left r e) = rw e (zero-part (suc r), omega arith)
 
 module _ (f : Form) (base : ℕ) (roots buffer : List ℕ) (m : Memory) where
   abbrev c : Call
   c = WriteImage base roots (length buffer)
 
-  -- the answer is how much was written, and there was room for it
-  filled-long : (perform f c [] m .answer .length ≡ length (perform f c [] m .filled)) × (length (perform f c [] m .filled) ≤ length buffer)
-  unfolding step
-  filled-long = go (performed f c [] m)
-    where
-      go : Performed m [] (perform f c [] m) → (perform f c [] m .answer .length ≡ length (perform f c [] m .filled)) × (length (perform f c [] m .filled) ≤ length buffer)
-      go (acted z) = let a = accepted-bytes f c [] m z in rw (a .1) (image-fits base (heapIn f m) roots (length buffer) (a .0))
-      go (left r e) = rw e (refl, omega arith)
-
   image-behind : let left : List ℕ = withBuffer buffer (perform f c [] m) .filled in
       (length left ≡ length buffer) × ((i : ℕ) → perform f c [] m .answer .length ≤ i → getD left i 0 ≡ getD buffer i 0)
+  unfolding step
   image-behind =
-      let l = filled-long in
-      let written = perform f c [] m .filled in (
-        length-append written (drop (length written) buffer) ∙ omega (arith, length-drop (length written) buffer, l .1),
-        λ i past.
-            let e : i ≡ length written + (i - length written) = omega (arith, l .0) in
-            rw e (getD-append-add written (drop (length written) buffer) (i - length written) 0 ∙ getD-drop (length written) buffer (i - length written) 0),
-      )
+      let l = fits-in f c m (λ (a : Answer). a .length) (length buffer) (λ r. refl) (image-fits base (heapIn f m) roots (length buffer)) in
+      let b = behind buffer (perform f c [] m) (l .1) in
+      (b .0, λ i past. b .1 i (omega (arith, past, l .0)))
 
   image-front : AcceptedIn (perform f c [] m) → let image : List ℕ = imageOf base (heapIn f m) roots in
       withBuffer buffer (perform f c [] m) .filled ≡ image ++ drop (length image) buffer
@@ -221,8 +256,38 @@ module _ (f : Form) (base : ℕ) (roots buffer : List ℕ) (m : Memory) where
       let e = ap (λ (r : Result). r .filled) (a .1) ∙ filled-is base (heapIn f m) roots (length buffer) (a .0) in
       ap (λ (bytes : List ℕ). bytes ++ drop (length bytes) buffer) e
 
-  image-refused : ¬ AcceptedIn (perform f c [] m) → withBuffer buffer (perform f c [] m) .filled ≡ buffer
-  image-refused no-number = rw (refused-bytes f c [] m no-number) refl
+module _ (f : Form) (image list : List ℕ) (m : Memory) where
+  abbrev opens : Call
+  opens = OpenImage image (length list)
+
+  open-behind : let left : List ℕ = withBuffer list (perform f opens [] m) .filled in
+      (length left ≡ length list) × ((i : ℕ) → 4 * perform f opens [] m .answer .roots ≤ i → getD left i 0 ≡ getD list i 0)
+  unfolding step
+  open-behind =
+      let l = fits-in f opens m (λ (a : Answer). 4 * a .roots) (length list) (λ r. refl) (open-fits (heapIn f m) image (length list)) in
+      let b = behind list (perform f opens [] m) (l .1) in
+      (b .0, λ i past. b .1 i (omega (arith, past, l .0)))
+
+  open-front : AcceptedIn (perform f opens [] m) → let roots : List ℕ = rootsOf (fileOf image) in
+      withBuffer list (perform f opens [] m) .filled ≡ roots ++ drop (length roots) list
+  unfolding step
+  open-front z =
+      let a = accepted-bytes f opens [] m z in
+      let e = ap (λ (r : Result). r .filled) (a .1) ∙ roots-are (heapIn f m) image (length list) (a .0) in
+      ap (λ (bytes : List ℕ). bytes ++ drop (length bytes) list) e
+
+open-anywhere : (t : ℕ) (image : List ℕ) (room : ℕ) (m m′ : Memory) → length (m .pool) ≡ length (m′ .pool) → length (m .table) ≡ length (m′ .table)
+    → AcceptedIn (perform (planes t) (OpenImage image room) [] m) → perform (planes t) (OpenImage image room) [] m′ ≡ perform (planes t) (OpenImage image room) [] m
+unfolding step
+open-anywhere t image room m m′ pools tables z =
+    let a = accepted-bytes (planes t) (OpenImage image room) [] m z in
+    let h = heapIn (planes t) m in
+    let h′ = heapIn (planes t) m′ in
+    let fits : lengthsFit (planes t) m′ ≡ true = rw (← tables) (passes-in (planes t) (OpenImage image room) [] m z .fits) in
+    let o = open-passed h image room (no-refusal (open-checked h image room) (a .0)) in
+    let o′ = opens-elsewhere h h′ image room pools (length-entriesIn t (m .table) ∙ sym (length-entriesIn t (m′ .table))) o in
+    let accepted : Accepted (openImage h′ image room) = number-of (open-checked h′ image room) ∙ open-passes h′ image room o′ in
+    perform-accepted (planes t) (OpenImage image room) [] m′ fits refl accepted ∙ rw (acts (open-checked h′ image room) accepted, a .1, acts (open-checked h image room) (a .0))
 
 pub on-bytes : OnBytes
 on-bytes = record {
@@ -238,7 +303,11 @@ on-bytes = record {
   image-bytes = image-bytes;
   image-behind = image-behind;
   image-front = image-front;
-  image-refused = image-refused;
+  image-refused = λ f base roots buffer m. left-as-it-was f (WriteImage base roots (length buffer)) [] buffer m;
+  open-front = open-front;
+  open-behind = open-behind;
+  open-refused = λ f image list m. left-as-it-was f (OpenImage image (length list)) [] list m;
+  open-anywhere = open-anywhere;
   planes-faithful = planes-faithful;
   packed-faithful = packed-faithful;
   shape-in-bytes = shape-in-bytes;

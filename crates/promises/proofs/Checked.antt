@@ -10,11 +10,12 @@ use Rattle.rules.specs.Tests.{orElse}
 use Rattle.rules.specs.Words.{wordAt, withWord, wordsOf}
 use Rattle.rules.specs.Entries.{FREE}
 use Rattle.rules.specs.Tables.{blockCount, firstFit, used, objects, longest}
-use Rattle.rules.specs.Outcomes.{Heap, Outcome, onlyRefusal, surveyed, loaded, writtenTo, leaves, fills, unlessRefused}
+use Rattle.rules.specs.Outcomes.{Heap, Outcome, onlyRefusal, surveyed, loaded, writtenTo, openedAt, leaves, fills, unlessRefused}
 use Rattle.rules.specs.Refusals.{Test, firstOf, noBytes, outside, noHead, noRoom, initTests, heapTests, objectTests, wordTests, collectionTests}
 use Rattle.rules.specs.Marking.{markAll}
 use Rattle.rules.specs.Images.{imageOf}
-use Rattle.rules.specs.Calls.{Way, stay, shrink, grow, move, noWay, isNoWay, wayOf, allocateTests, reallocateTests, along, placing, taken, freed, blocksFor, init, allocate, free, reallocate, collecting, collect, survey, load, store, imageTests, writeImage}
+use Rattle.rules.specs.Files.{File, fileOf, baseOf, heapOfFile, rootsOf}
+use Rattle.rules.specs.Calls.{Way, stay, shrink, grow, move, noWay, isNoWay, wayOf, allocateTests, reallocateTests, along, placing, taken, freed, blocksFor, init, allocate, free, reallocate, collecting, collect, survey, load, store, imageTests, writeImage, openTests, openImage}
 use Rattle.rules.specs.Meaning.{Accepted}
 use Rattle.rules.proofs.Refusals.{true-not-false, first-none, first-rest, accepts, own-tests}
 use Rattle.promises.specs.Promises.{Refused}
@@ -114,3 +115,9 @@ module _ (base : ℕ) (h : Heap) where
       → Checked h [] (imageTests base h roots room) (fills (writtenTo (length (imageOf base h roots))) h (imageOf base h roots)) (writeImage base h roots room)
   unfolding writeImage
   image-checked roots room = record { is = refl; fine = λ _. refl }
+
+pub open-checked : (h : Heap) (image : List ℕ) (room : ℕ)
+    → let f : File = fileOf image in
+    Checked h [] (openTests h image room) (fills (openedAt (baseOf f) (length (rootsOf f) / 4)) (heapOfFile f) (rootsOf f)) (openImage h image room)
+unfolding openImage
+open-checked h image room = record { is = refl; fine = λ _. refl }

@@ -19,9 +19,9 @@ use Rattle.rules.proofs.Images.{used-nth}
 use Rattle.rules.proofs.Tables.{entry-inside, extent-of, lowest-one, longest-one}
 use Rattle.keeping.specs.Keeping.{Collected}
 use Rattle.keeping.proofs.Same.{keeps-one}
-use Rattle.promises.specs.Conditions.{Condition, First, RoomAfter}
-use Rattle.promises.specs.Promises.{blocksOf, byteAt, Object, Among, Within, Refused, Initialised, Allocated, Freed, Reallocated, Stored, Loaded, Surveyed, Count, Imaged, Reclaimed}
-use Rattle.promises.specs.Determined.{SameHeap, SameEffect, SamePlace, SameFindings, Determined}
+use Rattle.promises.specs.Conditions.{Condition, First, RoomAfter, fileEntries, rootCount}
+use Rattle.promises.specs.Promises.{blocksOf, byteAt, Object, Among, Within, Refused, Initialised, Allocated, Freed, Reallocated, Stored, Loaded, Surveyed, Count, Imaged, Opened, Reclaimed}
+use Rattle.promises.specs.Determined.{SameHeap, SameEffect, SamePlace, SameFindings, SameOpening, Determined}
 
 -- ---- numbers
 
@@ -268,6 +268,25 @@ imaged-one base h roots r r' a a' =
             let n = i - (12 + t + 16 * u) in
             from (12 + t + 16 * u) (omega arith) (a .root-bytes n (omega arith) ∙ sym (a' .root-bytes n (omega arith)))
 
+-- every place in the pool is of a used block or of a FREE one
+pub opened-one : (image : List ℕ) (h : Heap) (r r' : Outcome) → Opened image h r → Opened image h r' → SameOpening r r'
+opened-one image h r r' a a' = record {
+  base = a .base ∙ sym (a' .base);
+  roots = a .roots ∙ sym (a' .roots);
+  heap = record { entries = λ i. ap (λ (es : List ℕ). entryAt es i) (a .entries ∙ sym (a' .entries)); bytes = bytes };
+  filled = ext-getD 0 (r .filled) (r' .filled) (a .long ∙ sym (a' .long)) (λ i l. let m : i < 4 * rootCount image = omega (arith, l, a .long) in a .root-bytes i m ∙ sym (a' .root-bytes i m));
+}
+  where
+    bytes : (i : ℕ) → byteAt (r .heap) i ≡ byteAt (r' .heap) i
+    bytes i =
+        let e : i ≡ 16 * (i / 16) + i % 16 = omega arith in
+        let l : i % 16 < 16 = omega arith in
+        rw e (go (i / 16) (i % 16) l (ℕ-discrete (entryAt (fileEntries image) (i / 16)) FREE))
+      where
+        go : (k j : ℕ) → j < 16 → Dec (entryAt (fileEntries image) k ≡ FREE) → byteAt (r .heap) (16 * k + j) ≡ byteAt (r' .heap) (16 * k + j)
+        go k j l (yes free) = a .free-bytes k free j l ∙ sym (a' .free-bytes k free j l)
+        go k j l (no held) = a .used-bytes k held j l ∙ sym (a' .used-bytes k held j l)
+
 pub determined : Determined
 determined = record {
   number = first-one;
@@ -280,5 +299,6 @@ determined = record {
   loaded = loaded-one;
   surveyed = surveyed-one;
   imaged = imaged-one;
+  opened = opened-one;
   reclaimed = reclaimed-one;
 }

@@ -13,7 +13,7 @@ use Rattle.rules.specs.Meaning.{Run, Accepted}
 use Rattle.rules.specs.Outcomes.{Heap, changeFrom, unlessRefused, clearedBlocks}
 use Rattle.rules.specs.Refusals.{firstOf, goodShape, wholeWords, heapTests}
 use Rattle.rules.specs.Calls.{blocksFor, taken, placing, allocate, freed, free, reallocate, survey}
-use Rattle.rules.specs.Runs.{Init, Turn}
+use Rattle.rules.specs.Runs.{Init, Turn, EveryFile}
 use Rattle.rules.specs.Forms.{Form, Faithful}
 use Rattle.rules.specs.Memory.{Memory, heapIn, AcceptedIn, perform, afterIn}
 use Rattle.rules.specs.Examples.{small, medium}
@@ -21,6 +21,7 @@ use Rattle.rules.proofs.Refusals.{passed}
 use Rattle.promises.specs.Promises.{Object, blocksOf}
 use Rattle.promises.proofs.Promised.{promises}
 use Rattle.promises.proofs.Observed.{free-again, allocate-spare}
+use Rattle.promises.specs.Alignment.{FileAligned}
 use Rattle.promises.proofs.Alignment.{new-objects-aligned, aligned-from-init}
 
 -- ---- one call
@@ -57,21 +58,21 @@ reallocated-stays base h k bytes accepted few = promises .reallocated base h k b
 -- ---- lists of calls, in every form of the table
 
 -- from an accepted init on, an object of four blocks or more starts at a block divisible by four
-pub large-from-init : (f : Form) → Faithful f → (base : ℕ) (stack : List ℕ) (ts : List Turn) (m : Memory) → AcceptedIn (perform f (Init base) stack m)
+pub large-from-init : (f : Form) → Faithful f → (base : ℕ) (stack : List ℕ) (ts : List Turn) → EveryFile FileAligned ts → (m : Memory) → AcceptedIn (perform f (Init base) stack m)
     → let h = heapIn f (afterIn f ts (perform f (Init base) stack m .memory)) in
     (o : ℕ) → Object h o → 4 ≤ blocksOf h o → o % 4 ≡ 0
-large-from-init f faithful base stack ts m accepted o head large =
-    ⊎-elim (λ few. absurd (omega arith)) (λ e. e) (aligned-from-init f faithful base stack ts m accepted o head)
+large-from-init f faithful base stack ts files m accepted o head large =
+    ⊎-elim (λ few. absurd (omega arith)) (λ e. e) (aligned-from-init f faithful base stack ts files m accepted o head)
 
 -- one that starts elsewhere was there before the calls, with as many blocks or more
-pub large-elsewhere : (f : Form) → Faithful f → (ts : List Turn) (m : Memory)
+pub large-elsewhere : (f : Form) → Faithful f → (ts : List Turn) → EveryFile FileAligned ts → (m : Memory)
     → let h = heapIn f (afterIn f ts m) in
     (o : ℕ) → Object h o → 4 ≤ blocksOf h o → o % 4 ≢ 0 → Object (heapIn f m) o × (blocksOf h o ≤ blocksOf (heapIn f m) o)
-large-elsewhere f faithful ts m o head large other =
+large-elsewhere f faithful ts files m o head large other =
     ⊎-elim
     (λ placed. absurd (⊎-elim (λ few. omega arith) other placed))
     (λ older. (older .head, older .blocks))
-    (new-objects-aligned f faithful ts m o head)
+    (new-objects-aligned f faithful ts files m o head)
 
 -- ---- at the exact bounds, in heaps of 8 and 12 blocks at base 4,096
 

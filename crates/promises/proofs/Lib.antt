@@ -8,6 +8,7 @@ pub mod Reallocating
 pub mod Storing
 pub mod Collecting
 pub mod Imaging
+pub mod Opening
 pub mod Planes
 pub mod Bytes
 pub mod OtherT

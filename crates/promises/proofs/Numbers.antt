@@ -16,7 +16,7 @@ use Rattle.rules.specs.Meaning.{Well, Lowest, Shape, Passed, Accepted}
 use Rattle.rules.specs.Outcomes.{Heap}
 use Rattle.rules.specs.Refusals.{Test, firstOf, goodShape, badShape, goodRoots, goodLists, illFormed, manyRoots, longStack, shortBuffer, noBytes, outside, noHead, noWord, noRoom, wordTests}
 use Rattle.rules.specs.Calls.{Way, stay, shrink, grow, move, noWay, isNoWay, wayTo, blocksFor, init, allocate, free, reallocate, collect, survey, load, store, wayOf, writeImage}
-use Rattle.rules.specs.Runs.{Call, Init, Allocate, Free, Reallocate, Collect, Survey, Load, Store, WriteImage, step}
+use Rattle.rules.specs.Runs.{Call, Init, Allocate, Free, Reallocate, Collect, Survey, Load, Store, WriteImage, OpenImage, step}
 use Rattle.rules.proofs.Refusals.{true-not-false, not-true, not-false, first-yes, first-no, passes, asks, names, shape-true, shape-of, lists-of, lists-say, roots-of, roots-say}
 use Rattle.rules.specs.Images.{imageOf}
 use Rattle.rules.proofs.Images.{length-image}
@@ -24,7 +24,7 @@ use Rattle.rules.proofs.Tables.{entry-inside, extent-of, well-says, well-of, fi
 use Rattle.rules.proofs.Calls.{Ways, stays, shrinks, grows, moves, stuck, way-says, way-is, blocks-some, blocks-enough, blocks-least, blocks-more}
 use Rattle.promises.specs.Conditions.{Condition, when, First, NoFit, NoWay, ofInit, ofAllocate, ofFree, ofReallocate, ofCollect, ofSurvey, ofWord, imageLength, ofWriteImage}
 use Rattle.promises.specs.Promises.{Object, Refused}
-use Rattle.promises.proofs.Checked.{number, refuses, init-checked, allocate-checked, free-checked, reallocate-checked, collect-checked, survey-checked, load-checked, store-checked, image-checked}
+use Rattle.promises.proofs.Checked.{number, refuses, init-checked, allocate-checked, free-checked, reallocate-checked, collect-checked, survey-checked, load-checked, store-checked, image-checked, open-checked}
 
 -- ---- the first test that holds
 
@@ -75,7 +75,7 @@ module _ (base : ℕ) (h : Heap) where
       (λ e f. f (shape-true base h (not-false (goodShape base h) e)))
       (λ e. rest (shape-true base h (not-false (goodShape base h) e)))
 
-  well-step : (ts : List Test) (cs : List Condition) → First cs (firstOf ts) → First (when 2 (¬ Well (h .entries)) ∷ cs) (firstOf (illFormed h ∷ ts))
+  pub well-step : (ts : List Test) (cs : List Condition) → First cs (firstOf ts) → First (when 2 (¬ Well (h .entries)) ∷ cs) (firstOf (illFormed h ∷ ts))
   well-step ts cs rest =
       first-step (illFormed h) ts (when 2 (¬ Well (h .entries))) cs refl
       (λ e s. true-not-false (well-of (h .entries) s) (not-true (wellFormed (h .entries)) e))
@@ -315,6 +315,7 @@ refused (Survey base) stack h no-number = refuses (survey-checked base h) no-num
 refused (Load base k i) stack h no-number = refuses (load-checked base h k i) no-number .0
 refused (Store base k i w) stack h no-number = refuses (store-checked base h k i w) no-number .0
 refused (WriteImage base roots room) stack h no-number = refuses (image-checked base h roots room) no-number .0
+refused (OpenImage image room) stack h no-number = refuses (open-checked h image room) no-number .0
 
 pub refused-stack : (base : ℕ) (h : Heap) (roots stack : List ℕ) → ¬ Accepted (collect base h roots stack) → collect base h roots stack .stack ≡ stack
 refused-stack base h roots stack no-number = refuses (collect-checked base h roots stack) no-number .1

@@ -23,7 +23,7 @@ use Rattle.rules.specs.Calls.{blocksFor, init, allocate, free, reallocate, coll
 use Rattle.rules.specs.Runs.{Call, Init, Allocate, Free, Reallocate, Collect, Survey, Load, Store, WriteImage, step}
 use Rattle.rules.specs.Forms.{Form, Faithful}
 use Rattle.rules.specs.Planes.{entriesIn, spareFree, planes, heapAt}
-use Rattle.rules.specs.Memory.{Memory, memory, heapIn, lengthsFit, Result, AcceptedIn, readsTable, perform}
+use Rattle.rules.specs.Memory.{Memory, memory, heapIn, lengthsFit, Result, AcceptedIn, readsTable, faultIn, perform}
 use Rattle.rules.proofs.Words.{wordAt-same}
 use Rattle.rules.proofs.Refusals.{true-not-false}
 use Rattle.rules.proofs.Tables.{entry-inside, well-says, run-shorter}
@@ -35,7 +35,7 @@ use Rattle.promises.specs.Promises.{Object, blocksOf, Same, Counts, Surv
 use Rattle.promises.specs.Determined.{partsOf}
 use Rattle.promises.proofs.Promised.{promises}
 use Rattle.promises.proofs.Images.{pools-match, image-says-all}
-use Rattle.promises.proofs.Bytes.{on-bytes}
+use Rattle.promises.proofs.Bytes.{on-bytes, first-at, first-past}
 use Rattle.promises.proofs.Determined.{first-one, refused-one}
 use Rattle.promises.proofs.Whole.{whole}
 
@@ -88,7 +88,7 @@ module _ (base t : ℕ) (pool table : List ℕ) where
       (when 1 ((r ≡ 1) ⊎ (lengthsFit (planes t) lent ≡ false)) ∷ when 2 ((r ≡ 2) ⊎ ((false ≡ true) × (spareFree t table ≡ false))) ∷ when r (r ≢ 0) ∷ []) n
       → perform (planes t) (Init base) [] lent .answer .refusal ≡ n
   unfolding step
-  init-in n = first-one _ _ n (on-bytes .number (planes t) (Init base) [] lent)
+  init-in n = first-one _ _ n (first-past _ _ _ (on-bytes .number (planes t) (Init base) [] lent) (λ fault. fault refl))
 
   pub init-shape : ShapeInBytes base t pool table → AcceptedIn (perform (planes t) (Init base) [] lent)
   unfolding First ofInit
@@ -115,14 +115,11 @@ pub table-written : (f : Form) (c : Call) (stack : List ℕ) (m : Memory) → Ac
 table-written f c stack m accepted = ap (λ (r : Result). r .memory .table) (on-bytes .accepted-bytes f c stack m accepted .1)
 
 -- bytes that are not clean are 2 to a call that reads them, whatever else it would be refused for but 1
-pub unclean-number : (f : Form) (c : Call) (stack : List ℕ) (m : Memory) → f .fits (m .table) ≡ true → f .clean (m .table) ≡ false → readsTable c ≡ true
+pub unclean-number : (f : Form) (c : Call) (stack : List ℕ) (m : Memory) → faultIn c ≡ 0 → f .fits (m .table) ≡ true → f .clean (m .table) ≡ false → readsTable c ≡ true
     → step c stack (heapIn f m) .answer .refusal ≢ 1 → perform f c stack m .answer .refusal ≡ 2
-unfolding First
-unclean-number f c stack m fits clean reads other =
-    ⊎-elim
-    (λ one. absurd (⊎-elim other (true-not-false fits) (one .0)))
-    (λ rest. ⊎-elim (λ two. two .1) (λ later. absurd (later .0 (inr (reads, clean)))) (rest .1))
-    (on-bytes .number f c stack m)
+unclean-number f c stack m faultless fits clean reads other =
+    let x = first-past _ _ _ (on-bytes .number f c stack m) (λ fault. fault faultless) in
+    first-at _ _ _ (first-past _ _ _ x (⊎-elim other (true-not-false fits))) (inr (reads, clean))
 
 -- a word has one target
 pub target-one : (base n w : ℕ) (x : Option ℕ) → Points base n w x → targetOf base n w ≡ x

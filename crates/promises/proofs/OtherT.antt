@@ -1,33 +1,46 @@
--- A call that is given another t than the pool has room for is refused by 1; so in a list of calls it changes nothing for the others.
+-- A call that is given another t than the pool has room for is refused; so in a list of calls it changes nothing for the others.
 -- Assumes nothing.
 use mathlib.Core.Path.{_≡_, refl, ap, sym, _∙_}
 use mathlib.Core.Logic.{_≢_}
+use mathlib.Core.Bool.{Bool, true, false}
 use mathlib.Core.List.{List, [], _∷_}
 use Prim.Native.Nat.{ℕ, _*_}
 use native.Mathlib.Decide.{ℕ-discrete}
 use native.Mathlib.Omega.{arith}
+use lib.Dec.{eqb}
 use lib.ListN.{length}
-use borrow.Author.Tests.{eq-eqb, ne-eqb}
+use borrow.Author.Tests.{eqb-false, eq-eqb, ne-eqb}
+use Rattle.rules.specs.Tests.{pick}
 use Rattle.rules.specs.Outcomes.{onlyRefusal}
 use Rattle.rules.specs.Runs.{Call, Turn}
 use Rattle.rules.specs.Forms.{Form}
 use Rattle.rules.specs.Planes.{planes}
-use Rattle.rules.specs.Memory.{Memory, heapIn, Result, result, stackFor, perform, turnIn, afterIn, answersIn, filledIn}
+use Rattle.rules.specs.Memory.{Memory, heapIn, Result, result, stackFor, faultIn, perform, turnIn, afterIn, answersIn, filledIn}
 use Rattle.rules.proofs.Memory.{kept-by}
 use Rattle.rules.proofs.Sizes.{step-keeps}
-use Rattle.promises.specs.OtherT.{TurnAt, performAt, afterAt, answersAt, filledAt, ofT, othersAs, OtherTIsRefused}
-use Rattle.promises.proofs.Bytes.{on-bytes, pool-of}
+use Rattle.promises.specs.OtherT.{TurnAt, performAt, afterAt, answersAt, filledAt, ofT, atOtherT, othersAs, OtherTIsRefused}
+use Rattle.promises.proofs.Bytes.{on-bytes, pool-of, first-at}
 
 -- ---- one call
 
-one-call : (t t′ : ℕ) (c : Call) (stack : List ℕ) (m : Memory) → length (m .pool) ≡ 64 * t → t′ ≢ t
-    → perform (planes t′) c stack m ≡ result (onlyRefusal 1) m (stackFor c stack)
-one-call t t′ c stack m size other = go (ℕ-discrete (perform (planes t′) c stack m .answer .refusal) 1)
+-- the number: the fault of the call's file, or 1
+other-number : (t t′ : ℕ) (c : Call) (stack : List ℕ) (m : Memory) → length (m .pool) ≡ 64 * t → t′ ≢ t → perform (planes t′) c stack m .answer .refusal ≡ atOtherT c
+other-number t t′ c stack m size other = go (ℕ-discrete (faultIn c) 0) (ℕ-discrete (perform (planes t′) c stack m .answer .refusal) 1)
   where
-    go : Dec (perform (planes t′) c stack m .answer .refusal ≡ 1) → perform (planes t′) c stack m ≡ result (onlyRefusal 1) m (stackFor c stack)
-    go (yes e) =
-        on-bytes .refused-bytes (planes t′) c stack m (λ z. omega (arith, e, z)) ∙ ap (λ (r : ℕ). result (onlyRefusal r) m (stackFor c stack)) e
-    go (no passed) = absurd (other (omega (arith, size, pool-of t′ c stack m passed)))
+    go : Dec (faultIn c ≡ 0) → Dec (perform (planes t′) c stack m .answer .refusal ≡ 1) → perform (planes t′) c stack m .answer .refusal ≡ atOtherT c
+    go (yes whole) (yes e) = rw (eq-eqb (faultIn c) 0 whole) e
+    go (yes whole) (no passed) = absurd (other (omega (arith, size, pool-of t′ c stack m whole passed)))
+    go (no fault) _ = rw (ne-eqb (faultIn c) 0 fault) (first-at _ _ _ (on-bytes .number (planes t′) c stack m) fault)
+
+one-call : (t t′ : ℕ) (c : Call) (stack : List ℕ) (m : Memory) → length (m .pool) ≡ 64 * t → t′ ≢ t
+    → perform (planes t′) c stack m ≡ result (onlyRefusal (atOtherT c)) m (stackFor c stack)
+one-call t t′ c stack m size other =
+    let e = other-number t t′ c stack m size other in
+    on-bytes .refused-bytes (planes t′) c stack m (λ z. some-number (eqb (faultIn c) 0) refl (sym e ∙ z)) ∙ ap (λ (r : ℕ). result (onlyRefusal r) m (stackFor c stack)) e
+  where
+    some-number : (b : Bool) → eqb (faultIn c) 0 ≡ b → pick b 1 (faultIn c) ≡ 0 → ⊥
+    some-number true q z = omega (arith, z)
+    some-number false q z = eqb-false (faultIn c) 0 q z
 
 -- no call changes the length of the pool
 pool-kept : (f : Form) (c : Call) (stack : List ℕ) (m : Memory) (n : ℕ) → length (m .pool) ≡ n → length (perform f c stack m .memory .pool) ≡ n
@@ -38,18 +51,18 @@ pool-kept f c stack m n size =
 -- ---- lists of calls
 
 -- the place of a call that is given this t
-own-here : {A : Type 0} (other : A) (t : ℕ) (x : TurnAt) (xs : List TurnAt) (a : A) (given : List A) → x .t ≡ t → othersAs other t (x ∷ xs) (a ∷ given) ≡ a ∷ othersAs other t xs given
+own-here : {A : Type 0} (other : Call → A) (t : ℕ) (x : TurnAt) (xs : List TurnAt) (a : A) (given : List A) → x .t ≡ t → othersAs other t (x ∷ xs) (a ∷ given) ≡ a ∷ othersAs other t xs given
 unfolding othersAs
 own-here other t x xs a given e = rw (eq-eqb (x .t) t e)
 
 -- and of one that is given another
-other-here : {A : Type 0} (other : A) (t : ℕ) (x : TurnAt) (xs : List TurnAt) (given : List A) → x .t ≢ t → othersAs other t (x ∷ xs) given ≡ other ∷ othersAs other t xs given
+other-here : {A : Type 0} (other : Call → A) (t : ℕ) (x : TurnAt) (xs : List TurnAt) (given : List A) → x .t ≢ t → othersAs other t (x ∷ xs) given ≡ other (x .turn .call) ∷ othersAs other t xs given
 unfolding othersAs
 other-here other t x xs [] n = refl
 other-here other t x xs (a ∷ given) n = rw (ne-eqb (x .t) t n)
 
 -- a call that is given another t, in a list
-other-at : (t : ℕ) (m : Memory) (x : TurnAt) → length (m .pool) ≡ 64 * t → x .t ≢ t → performAt x m ≡ result (onlyRefusal 1) m (stackFor (x .turn .call) (x .turn .stack))
+other-at : (t : ℕ) (m : Memory) (x : TurnAt) → length (m .pool) ≡ 64 * t → x .t ≢ t → performAt x m ≡ result (onlyRefusal (atOtherT (x .turn .call))) m (stackFor (x .turn .call) (x .turn .stack))
 other-at t m x size other = one-call t (x .t) (x .turn .call) (x .turn .stack) m size other
 
 -- the pool after a call that is given this t
@@ -65,9 +78,9 @@ other-turn : (t : ℕ) (x : TurnAt) (xs : List TurnAt) → x .t ≢ t → ofT t 
 unfolding ofT
 other-turn t x xs n = rw (ne-eqb (x .t) t n)
 
--- a part of each result, where a refusal by 1 has `other`: in a list whose calls have each its own t, and in one at a single t
-module _ {A : Type 0} (part : Result → A) (other : A) (each : List TurnAt → Memory → List A) (single : Form → List Turn → Memory → List A)
-    (refused-part : (m : Memory) (stack : List ℕ) → part (result (onlyRefusal 1) m stack) ≡ other)
+-- a part of each result, where a refusal has `other`: in a list whose calls have each its own t, and in one at a single t
+module _ {A : Type 0} (part : Result → A) (other : Call → A) (each : List TurnAt → Memory → List A) (single : Form → List Turn → Memory → List A)
+    (refused-part : (c : Call) (m : Memory) (stack : List ℕ) → part (result (onlyRefusal (atOtherT c)) m stack) ≡ other c)
     (each-none : (m : Memory) → each [] m ≡ []) (each-next : (x : TurnAt) (xs : List TurnAt) (m : Memory) → each (x ∷ xs) m ≡ part (performAt x m) ∷ each xs (performAt x m .memory))
     (single-next : (f : Form) (y : Turn) (ys : List Turn) (m : Memory) → single f (y ∷ ys) m ≡ part (turnIn f y m) ∷ single f ys (turnIn f y m .memory)) where
   parts-at : (t : ℕ) (m : Memory) (xs : List TurnAt) → length (m .pool) ≡ 64 * t → each xs m ≡ othersAs other t xs (single (planes t) (ofT t xs) m)
@@ -84,17 +97,17 @@ module _ {A : Type 0} (part : Result → A) (other : A) (each : List TurnAt → 
           ∙ sym (own-here other t x xs (part own) (single (planes t) (ofT t xs) (own .memory)) e) ∙ ap (othersAs other t (x ∷ xs)) (sym (single-next (planes t) (x .turn) (ofT t xs) m))
           ∙ ap (λ (ys : List Turn). othersAs other t (x ∷ xs) (single (planes t) ys m)) (own-turn t x xs e)
       go rest (no n) =
-          each-next x xs m ∙ ap (λ (r : Result). part r ∷ each xs (r .memory)) (other-at t m x size n) ∙ ap (λ (a : A). a ∷ each xs m) (refused-part m (stackFor (x .turn .call) (x .turn .stack)))
-          ∙ ap (λ (z : List A). other ∷ z) (rest m size) ∙ sym (other-here other t x xs (single (planes t) (ofT t xs) m) n)
+          each-next x xs m ∙ ap (λ (r : Result). part r ∷ each xs (r .memory)) (other-at t m x size n) ∙ ap (λ (a : A). a ∷ each xs m) (refused-part (x .turn .call) m (stackFor (x .turn .call) (x .turn .stack)))
+          ∙ ap (λ (z : List A). other (x .turn .call) ∷ z) (rest m size) ∙ sym (other-here other t x xs (single (planes t) (ofT t xs) m) n)
           ∙ ap (λ (ys : List Turn). othersAs other t (x ∷ xs) (single (planes t) ys m)) (other-turn t x xs n)
 
-answers-at : (t : ℕ) (m : Memory) (xs : List TurnAt) → length (m .pool) ≡ 64 * t → answersAt xs m ≡ othersAs (onlyRefusal 1) t xs (answersIn (planes t) (ofT t xs) m)
+answers-at : (t : ℕ) (m : Memory) (xs : List TurnAt) → length (m .pool) ≡ 64 * t → answersAt xs m ≡ othersAs (λ (c : Call). onlyRefusal (atOtherT c)) t xs (answersIn (planes t) (ofT t xs) m)
 unfolding answersAt answersIn
-answers-at = parts-at (λ (r : Result). r .answer) (onlyRefusal 1) answersAt answersIn (λ m stack. refl) (λ m. refl) (λ x xs m. refl) (λ f y ys m. refl)
+answers-at = parts-at (λ (r : Result). r .answer) (λ (c : Call). onlyRefusal (atOtherT c)) answersAt answersIn (λ c m stack. refl) (λ m. refl) (λ x xs m. refl) (λ f y ys m. refl)
 
-filled-at : (t : ℕ) (m : Memory) (xs : List TurnAt) → length (m .pool) ≡ 64 * t → filledAt xs m ≡ othersAs [] t xs (filledIn (planes t) (ofT t xs) m)
+filled-at : (t : ℕ) (m : Memory) (xs : List TurnAt) → length (m .pool) ≡ 64 * t → filledAt xs m ≡ othersAs (λ (c : Call). []) t xs (filledIn (planes t) (ofT t xs) m)
 unfolding filledAt filledIn
-filled-at = parts-at (λ (r : Result). r .filled) [] filledAt filledIn (λ m stack. refl) (λ m. refl) (λ x xs m. refl) (λ f y ys m. refl)
+filled-at = parts-at (λ (r : Result). r .filled) (λ (c : Call). []) filledAt filledIn (λ c m stack. refl) (λ m. refl) (λ x xs m. refl) (λ f y ys m. refl)
 
 after-at : (t : ℕ) (m : Memory) (xs : List TurnAt) → length (m .pool) ≡ 64 * t → afterAt xs m ≡ afterIn (planes t) (ofT t xs) m
 unfolding afterAt afterIn ofT

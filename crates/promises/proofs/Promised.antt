@@ -9,6 +9,7 @@ use Rattle.promises.proofs.Freeing.{freed}
 use Rattle.promises.proofs.Reallocating.{reallocated}
 use Rattle.promises.proofs.Storing.{read, stored, surveyed, survey-leaves, load-leaves}
 use Rattle.promises.proofs.Collecting.{reclaimed}
+use Rattle.promises.proofs.Opening.{open-refusal, opened}
 use Rattle.promises.proofs.Imaging.{imaged, image-leaves}
 
 pub promises : Promises
@@ -24,6 +25,7 @@ promises = record {
   load-refusal = load-refusal;
   store-refusal = store-refusal;
   image-refusal = image-refusal;
+  open-refusal = open-refusal;
   rounded-up = rounded-up;
   allocate-no-room = allocate-no-room;
   reallocate-no-room = reallocate-no-room;
@@ -40,6 +42,7 @@ promises = record {
   surveyed = surveyed;
   reclaimed = reclaimed;
   imaged = imaged;
+  opened = opened;
   survey-leaves = survey-leaves;
   load-leaves = load-leaves;
   image-leaves = image-leaves;

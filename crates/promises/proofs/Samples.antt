@@ -13,7 +13,7 @@ use lib.IntN.{ℤ, pos, negℤ, _+ℤ_, natAbs}
 use lib.ListN.{replicate}
 use Rattle.rules.specs.Tests.{count, leading, tabulate}
 use Rattle.rules.specs.Bits.{bitOf, bitAt}
-use Rattle.rules.specs.Words.{number, bytesOf, wordAt, withWord, wordsOf}
+use Rattle.rules.specs.Words.{number, bytesOf, firstTwo, wordAt, withWord, wordsOf}
 use Rattle.rules.specs.Entries.{HEAD}
 use Rattle.rules.specs.Tables.{entryAt, mayFollow, wellAfter, wellFormed, blockCount, startOf, freeFrom, aligned, fits, firstFrom, firstFit, placed, released, extended, used, objects, longest, growsInPlace}
 use Rattle.rules.specs.Pointers.{addressOf, goodBase, targetOf, headsObject, headAt, leadsTo}
@@ -21,9 +21,10 @@ use Rattle.rules.specs.Meaning.{AllBytes, Lowest, Longest, Points, PointsInto, 
 use Rattle.rules.specs.Outcomes.{Heap, Answer, Outcome, onlyRefusal, loaded, surveyed, leaves, changeFrom, unlessRefused, clearedBlocks}
 use Rattle.rules.specs.Refusals.{firstOf, goodShape, wholeWords}
 use Rattle.rules.specs.Reach.{Reachable, root, edge}
+use Rattle.rules.specs.Files.{sectionTests, fileTests, faultOf}
 use Rattle.rules.specs.Marking.{pushed, visitTo, visit, walkWords, walk, drainFor, drain, trace, rootTo, markRoot, markRoots, passBlock, passFrom, pass, rescanFor, rescan, markAll, sweptEntry, freeingAfter, sweepFrom, sweep}
 use Rattle.rules.specs.Calls.{blocksFor, taken, placing, init, allocate, freed, free, shrunk, grown, moved, movesTo, wayToGrow, wayTo, along, reallocate, collecting, collect, survey, load, store}
-use Rattle.rules.specs.Runs.{Call, Init, Allocate, Free, Reallocate, Collect, Survey, Load, Store, WriteImage, step, answers}
+use Rattle.rules.specs.Runs.{Call, Init, Allocate, Free, Reallocate, Collect, Survey, Load, Store, WriteImage, OpenImage, step, answers}
 use Rattle.rules.specs.Planes.{planeBytes, entryIn, entriesIn, spare, spareFree, planes}
 use Rattle.rules.specs.Memory.{memory, Sound, result, AcceptedIn, perform, afterIn, filledIn}
 use Rattle.rules.proofs.Planes.{length-entriesIn}
@@ -33,7 +34,7 @@ use Rattle.rules.proofs.Pointers.{into-used}
 use Rattle.rules.proofs.Marking.{head-inside}
 use Rattle.promises.specs.Conditions.{First, RoomAfter, ofAllocate, ofFree, ofReallocate, ofCollect, ofWord}
 use Rattle.promises.specs.Promises.{Object, blocksOf, Surveyed}
-use Rattle.promises.specs.OtherT.{TurnAt, turnAt, afterAt, answersAt, filledAt, ofT, othersAs}
+use Rattle.promises.specs.OtherT.{TurnAt, turnAt, afterAt, answersAt, filledAt, ofT, atOtherT, othersAs}
 use Rattle.promises.specs.Samples.{sampleBase, sampleTable, samplePool, sampleHeap, sampleMemory, sampleRoots, sampleStack}
 use Rattle.promises.proofs.Promised.{promises}
 use Rattle.promises.proofs.Bytes.{on-bytes}
@@ -151,7 +152,7 @@ other-t = go (ℕ-discrete (perform (planes 4) (Survey base) [] sampleMemory .an
   where
     go : Dec (perform (planes 4) (Survey base) [] sampleMemory .answer .refusal ≡ 1) → perform (planes 4) (Survey base) [] sampleMemory .answer .refusal ≡ 1
     go (yes e) = e
-    go (no other) = absurd (omega (arith, on-bytes .one-t 3 4 (Init base) (Survey base) [] [] sampleMemory (λ e. omega (arith, e, init-accepted-in)) other))
+    go (no other) = absurd (omega (arith, on-bytes .one-t 3 4 (Init base) (Survey base) [] [] sampleMemory refl refl (λ e. omega (arith, e, init-accepted-in)) other))
 
 -- the last byte of a plane may be 15, and not 16
 last-bytes : (b : ℕ) → b < 256 → AllBytes (133 ∷ 8 ∷ 26 ∷ b ∷ [])
@@ -286,15 +287,15 @@ stored-beside = store-loads base h good 2 11 4294967295 (computed .stores) 7 (co
 
 -- ---- calls that are given another t
 
--- after the store a free with a t of 4, which has as many table bytes, and an init with the largest t: the word is still there
+-- after the store a free with a t of 4, which has as many table bytes, an init with the largest t, and with it a file that has a fault: the word is still there
 abbrev turns : List TurnAt
-turns = turnAt 3 (Store base 2 11 4294967295) [] ∷ turnAt 4 (Free base 2) [] ∷ turnAt 18446744073709551615 (Init base) [] ∷ turnAt 3 (Load base 2 11) [] ∷ []
+turns = turnAt 3 (Store base 2 11 4294967295) [] ∷ turnAt 4 (Free base 2) [] ∷ turnAt 18446744073709551615 (Init base) [] ∷ turnAt 18446744073709551615 (OpenImage (2 ∷ 0 ∷ []) 0) [] ∷ turnAt 3 (Load base 2 11) [] ∷ []
 
-pub turns-answers : answersAt turns sampleMemory ≡ onlyRefusal 0 ∷ onlyRefusal 1 ∷ onlyRefusal 1 ∷ loaded 4294967295 ∷ []
-unfolding ofT othersAs answers step
+pub turns-answers : answersAt turns sampleMemory ≡ onlyRefusal 0 ∷ onlyRefusal 1 ∷ onlyRefusal 1 ∷ onlyRefusal 15 ∷ loaded 4294967295 ∷ []
+unfolding ofT othersAs answers step faultOf fileTests sectionTests firstOf firstTwo
 turns-answers =
     other-t-is-refused .answers 3 sampleMemory turns (computed .shape .size)
-    ∙ ap (othersAs (onlyRefusal 1) 3 turns)
+    ∙ ap (othersAs (λ (c : Call). onlyRefusal (atOtherT c)) 3 turns)
     (answers-in (planes 3) (on-bytes .planes-faithful 3) (ofT 3 turns) sampleMemory (computed .sound)
     ∙ ap (λ (a : Answer). a ∷ load base (store base h 2 11 4294967295 .heap) 2 11 .answer ∷ []) (store-answer base h 2 11 4294967295 (computed .stores))
     ∙ ap (λ (a : Answer). onlyRefusal 0 ∷ a ∷ []) stored-back)

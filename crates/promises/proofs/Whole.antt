@@ -10,10 +10,10 @@ use Rattle.rules.specs.Tables.{blockCount}
 use Rattle.rules.specs.Outcomes.{Heap, Outcome, onlyRefusal, unlessRefused}
 use Rattle.rules.specs.Refusals.{Test, firstOf}
 use Rattle.rules.specs.Calls.{Way, stay, shrink, grow, move, noWay, along, placing, blocksFor, wayOf, collecting}
-use Rattle.rules.specs.Runs.{Call, Init, Allocate, Free, Reallocate, Collect, Survey, Load, Store, WriteImage, step}
+use Rattle.rules.specs.Runs.{Call, Init, Allocate, Free, Reallocate, Collect, Survey, Load, Store, WriteImage, OpenImage, step}
 use Rattle.rules.proofs.Sizes.{step-keeps}
 use Rattle.promises.specs.Determined.{SameHeap, Sized, partsOf, Whole}
-use Rattle.promises.proofs.Checked.{Checked, init-checked, allocate-checked, free-checked, reallocate-checked, collect-checked, survey-checked, load-checked, store-checked, image-checked}
+use Rattle.promises.proofs.Checked.{Checked, init-checked, allocate-checked, free-checked, reallocate-checked, collect-checked, survey-checked, load-checked, store-checked, image-checked, open-checked}
 
 -- ---- sizes
 
@@ -40,6 +40,7 @@ refusal-parts (Survey base) n = refl
 refusal-parts (Load base k i) n = refl
 refusal-parts (Store base k i w) n = refl
 refusal-parts (WriteImage base roots room) n = refl
+refusal-parts (OpenImage image room) n = refl
 
 parts-unless : (c : Call) (n : ℕ) (h : Heap) (stack : List ℕ) (act : Outcome) → act .answer ≡ partsOf c (act .answer)
     → unlessRefused n h stack act .answer ≡ partsOf c (unlessRefused n h stack act .answer)
@@ -72,6 +73,7 @@ only-parts (Survey base) stack h = parts-of (Survey base) (survey-checked base h
 only-parts (Load base k i) stack h = parts-of (Load base k i) (load-checked base h k i) refl
 only-parts (Store base k i w) stack h = parts-of (Store base k i w) (store-checked base h k i w) refl
 only-parts (WriteImage base roots room) stack h = parts-of (WriteImage base roots room) (image-checked base h roots room) refl
+only-parts (OpenImage image room) stack h = parts-of (OpenImage image room) (open-checked h image room) refl
 
 -- ---- buffers
 
@@ -91,18 +93,20 @@ unfilled-along grow h k b c = refl
 unfilled-along (move s) h k b c = refl
 unfilled-along noWay h k b c = refl
 
-pub only-filled : (c : Call) (stack : List ℕ) (h : Heap) → ((base : ℕ) (roots : List ℕ) (room : ℕ) → c ≢ WriteImage base roots room) → step c stack h .filled ≡ []
+pub only-filled : (c : Call) (stack : List ℕ) (h : Heap) → ((base : ℕ) (roots : List ℕ) (room : ℕ) → c ≢ WriteImage base roots room)
+    → ((image : List ℕ) (room : ℕ) → c ≢ OpenImage image room) → step c stack h .filled ≡ []
 unfolding step placing collecting
-only-filled (Init base) stack h other = unfilled (init-checked base h) refl
-only-filled (Allocate base bytes) stack h other = unfilled (allocate-checked base h bytes) refl
-only-filled (Free base k) stack h other = unfilled (free-checked base h k) refl
-only-filled (Reallocate base k bytes) stack h other =
+only-filled (Init base) stack h other file = unfilled (init-checked base h) refl
+only-filled (Allocate base bytes) stack h other file = unfilled (allocate-checked base h bytes) refl
+only-filled (Free base k) stack h other file = unfilled (free-checked base h k) refl
+only-filled (Reallocate base k bytes) stack h other file =
     unfilled (reallocate-checked base h k bytes) (unfilled-along (wayOf h k bytes) h k (blockCount (h .entries) k) (blocksFor bytes))
-only-filled (Collect base roots) stack h other = unfilled (collect-checked base h roots stack) refl
-only-filled (Survey base) stack h other = unfilled (survey-checked base h) refl
-only-filled (Load base k i) stack h other = unfilled (load-checked base h k i) refl
-only-filled (Store base k i w) stack h other = unfilled (store-checked base h k i w) refl
-only-filled (WriteImage base roots room) stack h other = absurd (other base roots room refl)
+only-filled (Collect base roots) stack h other file = unfilled (collect-checked base h roots stack) refl
+only-filled (Survey base) stack h other file = unfilled (survey-checked base h) refl
+only-filled (Load base k i) stack h other file = unfilled (load-checked base h k i) refl
+only-filled (Store base k i w) stack h other file = unfilled (store-checked base h k i w) refl
+only-filled (WriteImage base roots room) stack h other file = absurd (other base roots room refl)
+only-filled (OpenImage image room) stack h other file = absurd (file image room refl)
 
 pub whole : Whole
 whole = record { sized = sized; one-heap = one-heap; only-parts = only-parts; only-filled = only-filled }

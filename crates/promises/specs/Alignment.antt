@@ -1,13 +1,17 @@
 -- Where large objects start. No call makes an object of four blocks or more at a block that is not divisible by four, and none lets an object there grow to so many; so
--- from init on there is none. Tables of old heaps may have some: they are left where they are until they grow.
+-- from init on there is none. Tables of old heaps and files may have some: they are left where they are until they grow.
 -- Assumes nothing.
+use mathlib.Core.Path.{_≡_}
 use mathlib.Core.Logic.{_⊎_}
+use mathlib.Core.Bool.{true}
 use mathlib.Core.List.{List}
 use Prim.Native.Nat.{ℕ, _≤_}
 use Rattle.rules.specs.Meaning.{Aligned}
 use Rattle.rules.specs.Outcomes.{Heap}
 use Rattle.rules.specs.Forms.{Form, Faithful}
-use Rattle.rules.specs.Runs.{Init, Turn}
+use Rattle.rules.specs.Tables.{wellFormed}
+use Rattle.rules.specs.Files.{faultOf, fileOf, heapOfFile}
+use Rattle.rules.specs.Runs.{Init, Turn, EveryFile}
 use Rattle.rules.specs.Memory.{Memory, heapIn, AcceptedIn, perform, afterIn}
 use Rattle.promises.specs.Promises.{Object, blocksOf}
 
@@ -24,12 +28,16 @@ pub record Older (before after : Heap) (o : ℕ) : Type 0 where
 abbrev pub NewAligned : Heap → Heap → Type 0
 NewAligned before after = (o : ℕ) → Object after o → Aligned (blocksOf after o) o ⊎ Older before after o
 
--- Every list of calls, refused ones included, leaves such a heap of whatever heap the memory held, for every form of the table.
+-- a file that can be opened has only such objects
+abbrev pub FileAligned : List ℕ → Type 0
+FileAligned image = faultOf image ≡ 0 → wellFormed (heapOfFile (fileOf image) .entries) ≡ true → AllAligned (heapOfFile (fileOf image))
+
+-- Every list of calls, refused ones included, leaves such a heap of whatever heap the memory held, for every form of the table, if the files that it opens have only such objects.
 abbrev pub NewObjectsAligned : Type 0
-NewObjectsAligned = (f : Form) → Faithful f → (ts : List Turn) (m : Memory) → NewAligned (heapIn f m) (heapIn f (afterIn f ts m))
+NewObjectsAligned = (f : Form) → Faithful f → (ts : List Turn) → EveryFile FileAligned ts → (m : Memory) → NewAligned (heapIn f m) (heapIn f (afterIn f ts m))
 
 -- From an accepted init on, every object is aligned after every list of calls.
 abbrev pub AlignedFromInit : Type 0
 AlignedFromInit =
-    (f : Form) → Faithful f → (base : ℕ) (stack : List ℕ) (ts : List Turn) (m : Memory) → AcceptedIn (perform f (Init base) stack m)
+    (f : Form) → Faithful f → (base : ℕ) (stack : List ℕ) (ts : List Turn) → EveryFile FileAligned ts → (m : Memory) → AcceptedIn (perform f (Init base) stack m)
     → AllAligned (heapIn f (afterIn f ts (perform f (Init base) stack m .memory)))

@@ -11,11 +11,12 @@ use Rattle.rules.specs.Entries.{tableOf}
 use Rattle.rules.specs.Tables.{entryAt}
 use Rattle.rules.specs.Outcomes.{Outcome, onlyRefusal}
 use Rattle.rules.specs.Images.{imageOf}
-use Rattle.rules.specs.Runs.{Call, Init, Survey, Load, Store, WriteImage, step}
+use Rattle.rules.specs.Files.{fileOf, rootsOf}
+use Rattle.rules.specs.Runs.{Call, Init, Survey, Load, Store, WriteImage, OpenImage, step}
 use Rattle.rules.specs.Forms.{Form, packed, Faithful}
 use Rattle.rules.specs.Planes.{planeBytes, entriesIn, spareFree, planes, heapAt}
 use Rattle.rules.specs.Agreement.{HoldSame, FormsAgree, inPlanes, CallInPlanes, RunInPlanes}
-use Rattle.rules.specs.Memory.{Memory, memory, heapIn, lengthsFit, Sound, doneIn, Result, result, withBuffer, AcceptedIn, stackFor, readsTable, perform}
+use Rattle.rules.specs.Memory.{Memory, memory, heapIn, lengthsFit, Sound, doneIn, Result, result, withBuffer, AcceptedIn, stackFor, readsTable, faultIn, perform}
 use Rattle.rules.specs.Meaning.{AllBytes, Shape, ShapeInBytes, Accepted}
 use Rattle.promises.specs.Conditions.{First, when}
 
@@ -33,11 +34,12 @@ pub record OnBytes : Type 0 where
   -- an accepted call is accepted on the heap in the memory, answers as it does there, and leaves the bytes that its entries are written as
   pub accepted-bytes : (f : Form) (c : Call) (stack : List ℕ) (m : Memory) → AcceptedIn (perform f c stack m)
       → Accepted (step c stack (heapIn f m)) × (perform f c stack m ≡ doneIn f c stack m)
-  -- the number: 1 also where the table's length does not fit, 2 also where its bytes are not clean and the call reads it; else that of the call on the heap
+  -- the number: the fault of a file first; 1 also where the table's length does not fit, 2 also where its bytes are not clean and the call reads it; else that of the call on the heap
   pub number : (f : Form) (c : Call) (stack : List ℕ) (m : Memory)
       → let r : ℕ = step c stack (heapIn f m) .answer .refusal in
       First
-      (when 1 ((r ≡ 1) ⊎ (lengthsFit f m ≡ false))
+      (when (faultIn c) (faultIn c ≢ 0)
+      ∷ when 1 ((r ≡ 1) ⊎ (lengthsFit f m ≡ false))
       ∷ when 2 ((r ≡ 2) ⊎ ((readsTable c ≡ true) × (f .clean (m .table) ≡ false)))
       ∷ when r (r ≢ 0)
       ∷ [])
@@ -62,13 +64,25 @@ pub record OnBytes : Type 0 where
   -- on a refusal it leaves all of it
   pub image-refused : (f : Form) (base : ℕ) (roots buffer : List ℕ) (m : Memory) → ¬ AcceptedIn (perform f (WriteImage base roots (length buffer)) [] m)
       → withBuffer buffer (perform f (WriteImage base roots (length buffer)) [] m) .filled ≡ buffer
+  -- An opening fills the memory, whatever it held, and of the root list that is lent for it the front: the entries behind the file's roots stay, and the list is as long as it was.
+  pub open-front : (f : Form) (image list : List ℕ) (m : Memory) → AcceptedIn (perform f (OpenImage image (length list)) [] m)
+      → let roots : List ℕ = rootsOf (fileOf image) in
+      withBuffer list (perform f (OpenImage image (length list)) [] m) .filled ≡ roots ++ drop (length roots) list
+  pub open-behind : (f : Form) (image list : List ℕ) (m : Memory)
+      → let r : Result = perform f (OpenImage image (length list)) [] m in
+      let left : List ℕ = withBuffer list r .filled in
+      (length left ≡ length list) × ((i : ℕ) → 4 * r .answer .roots ≤ i → getD left i 0 ≡ getD list i 0)
+  pub open-refused : (f : Form) (image list : List ℕ) (m : Memory) → ¬ AcceptedIn (perform f (OpenImage image (length list)) [] m)
+      → withBuffer list (perform f (OpenImage image (length list)) [] m) .filled ≡ list
+  pub open-anywhere : (t : ℕ) (image : List ℕ) (room : ℕ) (m m′ : Memory) → length (m .pool) ≡ length (m′ .pool) → length (m .table) ≡ length (m′ .table)
+      → AcceptedIn (perform (planes t) (OpenImage image room) [] m) → perform (planes t) (OpenImage image room) [] m′ ≡ perform (planes t) (OpenImage image room) [] m
   -- two planes, which every lent table has, hold entries faithfully, and so does the packed form, which heap images have
   pub planes-faithful : (t : ℕ) → Faithful (planes t)
   pub packed-faithful : Faithful packed
   -- the shape of a heap in a pool and two planes, and the length of those, in bytes
   pub shape-in-bytes : (base t : ℕ) (pool table : List ℕ) → (Shape base (heapAt t pool table) × (planes t .fits table ≡ true)) ↔ ShapeInBytes base t pool table
-  -- so memory has one t: two calls on it that are both not refused by 1 were given the same, and any other t is refused by 1
-  pub one-t : (t t′ : ℕ) (c c′ : Call) (stack stack′ : List ℕ) (m : Memory) → perform (planes t) c stack m .answer .refusal ≢ 1
+  -- so memory has one t: two calls on it that are both not refused by 1, nor by a fault of a file, were given the same, and any other t is refused by 1
+  pub one-t : (t t′ : ℕ) (c c′ : Call) (stack stack′ : List ℕ) (m : Memory) → faultIn c ≡ 0 → faultIn c′ ≡ 0 → perform (planes t) c stack m .answer .refusal ≢ 1
       → perform (planes t′) c′ stack′ m .answer .refusal ≢ 1 → t ≡ t′
   -- the entry of block 8i + j has bit j of byte i of each plane
   pub entry-in-bytes : (t : ℕ) (table : List ℕ) (i j : ℕ) → j < 8 → 8 * i + j < 4 * t

@@ -1,11 +1,12 @@
--- The refusals as conditions in sentences, those of each call in rising order. The first that holds gives the number.
+-- The refusals as conditions in sentences, those of each call in rising order, of a file from its front. The first that holds gives the number.
 -- Assumes nothing.
 use mathlib.Core.Path.{_≡_}
 use mathlib.Core.Logic.{_≢_, _⊎_}
 use mathlib.Core.List.{List, [], _∷_}
-use Prim.Native.Nat.{ℕ, _+_, _*_, _/_, _%_, _≤_, _<_}
-use lib.ListN.{length}
-use Rattle.rules.specs.Entries.{HEAD}
+use Prim.Native.Nat.{ℕ, suc, _+_, _*_, _/_, _%_, _≤_, _<_}
+use lib.ListN.{length, getD, take, drop}
+use Rattle.rules.specs.Words.{number}
+use Rattle.rules.specs.Entries.{HEAD, entriesOf}
 use Rattle.rules.specs.Tables.{entryAt, blockCount, used}
 use Rattle.rules.specs.Meaning.{Well, Fits, GrowsInPlace, Shape}
 use Rattle.rules.specs.Outcomes.{Heap}
@@ -75,3 +76,54 @@ unfoldable pub ofWriteImage : ℕ → Heap → List ℕ → ℕ → List Conditi
 ofWriteImage base h roots room =
     when 1 (¬ (Shape base h × (length roots % 4 ≡ 0))) ∷ when 2 (¬ Well (h .entries)) ∷ when 3 (4096 < length roots / 4)
     ∷ when 10 (room < imageLength h roots) ∷ []
+
+-- ---- a file, by the places of its bytes
+
+-- the count in the two bytes at place i, the first the lowest
+abbrev pub countAt : List ℕ → ℕ → ℕ
+countAt image i = getD image i 0 + 256 * getD image (suc i) 0
+
+-- the base, in the four bytes from place 2 on
+abbrev pub baseIn : List ℕ → ℕ
+baseIn image = number (getD image 2 0) (getD image 3 0) (getD image 4 0) (getD image 5 0)
+
+-- how many bytes its table has, counted at place 6, and the entries in these, four to a byte
+abbrev pub tableCount : List ℕ → ℕ
+tableCount image = countAt image 6
+
+abbrev pub fileEntries : List ℕ → List ℕ
+fileEntries image = entriesOf (take (tableCount image) (drop 8 image))
+
+-- how many of them are not FREE
+abbrev pub usedCount : List ℕ → ℕ
+usedCount image = used (fileEntries image)
+
+-- the places of the count of blocks, and of that of the roots
+abbrev pub blockPlace : List ℕ → ℕ
+blockPlace image = 8 + tableCount image
+
+abbrev pub rootPlace : List ℕ → ℕ
+rootPlace image = 10 + tableCount image + 16 * usedCount image
+
+abbrev pub rootCount : List ℕ → ℕ
+rootCount image = countAt image (rootPlace image)
+
+-- where the roots end, and the file should
+abbrev pub fileEnd : List ℕ → ℕ
+fileEnd image = rootPlace image + 2 + 4 * rootCount image
+
+-- pool and table are as large as the file's, its base suits them, and the root list, of so many bytes, is whole words
+abbrev pub Suits : Heap → List ℕ → ℕ → Type 0
+Suits h image room = Shape (baseIn image) h × (length (h .entries) ≡ 4 * tableCount image) × (room % 4 ≡ 0)
+
+-- Of the opening of a file: the first fault from the front. A count is wrong before its body is too short. Then 1, also if what is lent does not suit the file, 2 of its table,
+-- and 17 if the root list is shorter than its roots
+unfoldable pub ofOpenImage : Heap → List ℕ → ℕ → List Condition
+ofOpenImage h image room =
+    when 14 (length image < 2) ∷ when 15 (countAt image 0 ≢ 1) ∷ when 14 (length image < 6)
+    ∷ when 14 (length image < 8) ∷ when 15 (¬ ((1 ≤ tableCount image) × (tableCount image ≤ 1024))) ∷ when 14 (length image < blockPlace image)
+    ∷ when 14 (length image < blockPlace image + 2) ∷ when 15 (countAt image (blockPlace image) ≢ usedCount image) ∷ when 14 (length image < rootPlace image)
+    ∷ when 14 (length image < rootPlace image + 2) ∷ when 3 (4096 < rootCount image) ∷ when 14 (length image < fileEnd image)
+    ∷ when 16 (fileEnd image < length image)
+    ∷ when 1 (¬ Suits h image room) ∷ when 2 (¬ Well (fileEntries image)) ∷ when 17 (room < 4 * rootCount image)
+    ∷ []

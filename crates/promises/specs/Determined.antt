@@ -7,11 +7,11 @@ use mathlib.Core.List.{List, []}
 use Prim.Native.Nat.{ℕ, _/_}
 use lib.ListN.{length}
 use Rattle.rules.specs.Tables.{entryAt, used}
-use Rattle.rules.specs.Outcomes.{Heap, Answer, Outcome, placement, collection, findings, reading, writing, onlyRefusal}
-use Rattle.rules.specs.Runs.{Call, Init, Allocate, Free, Reallocate, Collect, Survey, Load, Store, WriteImage, step}
+use Rattle.rules.specs.Outcomes.{Heap, Answer, Outcome, placement, collection, findings, reading, writing, opening, onlyRefusal}
+use Rattle.rules.specs.Runs.{Call, Init, Allocate, Free, Reallocate, Collect, Survey, Load, Store, WriteImage, OpenImage, step}
 use Rattle.keeping.specs.Keeping.{Collected}
 use Rattle.promises.specs.Conditions.{Condition, First}
-use Rattle.promises.specs.Promises.{byteAt, Refused, Initialised, Allocated, Freed, Reallocated, Stored, Loaded, Surveyed, Imaged, Reclaimed}
+use Rattle.promises.specs.Promises.{byteAt, Refused, Initialised, Allocated, Freed, Reallocated, Stored, Loaded, Surveyed, Imaged, Opened, Reclaimed}
 
 -- two heaps have the same entry at every block and the same byte at every place
 pub record SameHeap (h h' : Heap) : Type 0 where
@@ -34,6 +34,13 @@ pub record SameFindings (r r' : Outcome) : Type 0 where
   pub objects : r .answer .objects ≡ r' .answer .objects
   pub longest : r .answer .longest ≡ r' .answer .longest
 
+-- two openings answer the same, leave such heaps and write the same roots
+pub record SameOpening (r r' : Outcome) : Type 0 where
+  pub base : r .answer .base ≡ r' .answer .base
+  pub roots : r .answer .roots ≡ r' .answer .roots
+  pub heap : SameHeap (r .heap) (r' .heap)
+  pub filled : r .filled ≡ r' .filled
+
 pub record Determined : Type 1 where
   -- one number is that of the first condition that holds
   pub number : (cs : List Condition) (n n' : ℕ) → First cs n → First cs n' → n ≡ n'
@@ -50,6 +57,7 @@ pub record Determined : Type 1 where
   pub surveyed : (h : Heap) (r r' : Outcome) → Surveyed h r → Surveyed h r' → SameFindings r r'
   pub imaged : (base : ℕ) (h : Heap) (roots : List ℕ) (r r' : Outcome) → let t = length (h .entries) / 4 in let u = used (h .entries) in
       Imaged base h roots t u r → Imaged base h roots t u r' → (r .answer .length ≡ r' .answer .length) × (r .filled ≡ r' .filled)
+  pub opened : (image : List ℕ) (h : Heap) (r r' : Outcome) → Opened image h r → Opened image h r' → SameOpening r r'
   -- of a collection the table is left as Collected of the crate keeping says, whose other parts its own law determines (collected-one)
   pub reclaimed : (base : ℕ) (h : Heap) (roots stack : List ℕ) (r r' : Outcome) → Reclaimed base h roots r → Reclaimed base h roots r'
       → Collected base h roots stack r → Collected base h roots stack r' → SameEffect r r'
@@ -72,6 +80,7 @@ partsOf (Survey base) a = findings (a .refusal) (a .used) (a .objects) (a .longe
 partsOf (Load base k i) a = reading (a .refusal) (a .value)
 partsOf (Store base k i w) a = onlyRefusal (a .refusal)
 partsOf (WriteImage base roots room) a = writing (a .refusal) (a .length)
+partsOf (OpenImage image room) a = opening (a .refusal) (a .base) (a .roots)
 
 pub record Whole : Type 0 where
   -- no call changes the number of blocks or of bytes
@@ -80,5 +89,6 @@ pub record Whole : Type 0 where
   pub one-heap : (h : Heap) (r r' : Outcome) → Sized h r → Sized h r' → SameHeap (r .heap) (r' .heap) → r .heap ≡ r' .heap
   -- a part that a call does not answer is zero
   pub only-parts : (c : Call) (stack : List ℕ) (h : Heap) → step c stack h .answer ≡ partsOf c (step c stack h .answer)
-  -- and no other call than an image writes into a buffer
-  pub only-filled : (c : Call) (stack : List ℕ) (h : Heap) → ((base : ℕ) (roots : List ℕ) (room : ℕ) → c ≢ WriteImage base roots room) → step c stack h .filled ≡ []
+  -- and no other calls than those with an image write into a buffer
+  pub only-filled : (c : Call) (stack : List ℕ) (h : Heap) → ((base : ℕ) (roots : List ℕ) (room : ℕ) → c ≢ WriteImage base roots room)
+      → ((image : List ℕ) (room : ℕ) → c ≢ OpenImage image room) → step c stack h .filled ≡ []

@@ -16,9 +16,9 @@ use Rattle.rules.specs.Outcomes.{Heap, Outcome, onlyRefusal, loaded}
 use Rattle.rules.specs.Forms.{Form, Faithful}
 use Rattle.rules.specs.Memory.{Memory, heapIn}
 use Rattle.rules.specs.Reach.{Reachable}
-use Rattle.rules.specs.Calls.{blocksFor, init, allocate, free, reallocate, collect, survey, load, store, writeImage}
+use Rattle.rules.specs.Calls.{blocksFor, init, allocate, free, reallocate, collect, survey, load, store, writeImage, openImage}
 use Rattle.rules.specs.Runs.{Call, step}
-use Rattle.promises.specs.Conditions.{First, RoomAfter, NoFit, NoWay, ofInit, ofAllocate, ofFree, ofReallocate, ofCollect, ofSurvey, ofWord, imageLength, ofWriteImage}
+use Rattle.promises.specs.Conditions.{First, RoomAfter, NoFit, NoWay, ofInit, ofAllocate, ofFree, ofReallocate, ofCollect, ofSurvey, ofWord, imageLength, ofWriteImage, baseIn, tableCount, fileEntries, rootPlace, rootCount, ofOpenImage}
 
 -- ---- parts of a heap and of an outcome
 
@@ -216,6 +216,25 @@ pub record Imaged (base : ℕ) (before : Heap) (roots : List ℕ) (t u : ℕ) (r
   pub root-count : Count (r .filled) (10 + t + 16 * u) (length roots / 4)
   pub root-bytes : (i : ℕ) → i < length roots → getD (r .filled) (12 + t + 16 * u + i) 0 ≡ getD roots i 0
 
+-- a file that was opened: what each of its bytes became
+pub record Opened (image : List ℕ) (before : Heap) (r : Outcome) : Type 0 where
+  -- it answers the base, and how many roots there are
+  pub base : r .answer .base ≡ baseIn image
+  pub roots : r .answer .roots ≡ rootCount image
+  -- the entries are those of the file's table
+  pub entries : r .heap .entries ≡ fileEntries image
+  -- each used block has its 16 bytes, which are behind those of the used blocks before it
+  pub used-bytes : (k : ℕ) → entryAt (fileEntries image) k ≢ FREE → (j : ℕ) → j < 16
+      → byteAt (r .heap) (16 * k + j) ≡ getD image (10 + tableCount image + 16 * used (take k (fileEntries image)) + j) 0
+  -- every other byte is zero
+  pub free-bytes : (k : ℕ) → entryAt (fileEntries image) k ≡ FREE → (j : ℕ) → j < 16 → byteAt (r .heap) (16 * k + j) ≡ 0
+  -- the roots are written as they are
+  pub long : length (r .filled) ≡ 4 * rootCount image
+  pub root-bytes : (i : ℕ) → i < 4 * rootCount image → getD (r .filled) i 0 ≡ getD image (rootPlace image + 2 + i) 0
+  -- there are as many blocks as before, the shape is good and the table well-formed
+  pub blocks : length (r .heap .entries) ≡ length (before .entries)
+  pub good : Passed (r .answer .base) (r .heap)
+
 -- ---- the promises, for every heap and every argument
 
 pub record Promises : Type 0 where
@@ -233,6 +252,7 @@ pub record Promises : Type 0 where
   pub load-refusal : (base : ℕ) (h : Heap) (k i : ℕ) → First (ofWord base h k i) (load base h k i .answer .refusal)
   pub store-refusal : (base : ℕ) (h : Heap) (k i w : ℕ) → First (ofWord base h k i) (store base h k i w .answer .refusal)
   pub image-refusal : (base : ℕ) (h : Heap) (roots : List ℕ) (room : ℕ) → First (ofWriteImage base h roots room) (writeImage base h roots room .answer .refusal)
+  pub open-refusal : (h : Heap) (image : List ℕ) (room : ℕ) → First (ofOpenImage h image room) (openImage h image room .answer .refusal)
   -- the blocks of a request are the fewest that hold its bytes
   pub rounded-up : (bytes n : ℕ) → (blocksFor bytes ≤ n) ↔ (bytes ≤ 16 * n)
   -- allocate answers 9 exactly if nothing else is refused and its blocks may start nowhere: no run of FREE blocks is long enough from an aligned block on
@@ -261,6 +281,7 @@ pub record Promises : Type 0 where
       → Reclaimed base (heapIn f m) roots (collect base (heapIn f m) roots stack)
   pub imaged : (base : ℕ) (h : Heap) (roots : List ℕ) (room : ℕ) → Accepted (writeImage base h roots room)
       → Imaged base h roots (length (h .entries) / 4) (used (h .entries)) (writeImage base h roots room)
+  pub opened : (h : Heap) (image : List ℕ) (room : ℕ) → Accepted (openImage h image room) → Opened image h (openImage h image room)
   -- survey, load and an image leave the heap as it is
   pub survey-leaves : (base : ℕ) (h : Heap) → survey base h .heap ≡ h
   pub load-leaves : (base : ℕ) (h : Heap) (k i : ℕ) → load base h k i .heap ≡ h

@@ -1,21 +1,18 @@
 -- Laws of files: what a file without a fault has in its sections.
 -- Assumes nothing.
-use mathlib.Core.Path.{_≡_, refl, sym, ap, _∙_}
-use mathlib.Core.Bool.{Bool, true, false, not}
+use mathlib.Core.Path.{_≡_, refl, _∙_}
 use mathlib.Core.List.{List, [], _∷_, _++_}
 use Prim.Native.Nat.{ℕ, _+_, _*_, _≤_, _<_}
 use native.Mathlib.Omega.{arith}
-use lib.Dec.{leb, ltb}
-use lib.ListN.{length, take, drop, length-drop}
+use lib.Dec.{leb}
+use lib.ListN.{length, drop, length-drop}
 use lib.Seq.{length-take-le}
 use borrow.Author.Tests.{leb-true, ltb-false, le-leb, le-ltb}
-use Rattle.rules.specs.Tests.{both}
 use Rattle.rules.specs.Words.{firstTwo}
-use Rattle.rules.specs.Entries.{entriesOf}
 use Rattle.rules.specs.Tables.{used}
 use Rattle.rules.specs.Meaning.{AllBytes}
 use Rattle.rules.specs.Refusals.{Test, firstOf}
-use Rattle.rules.specs.Files.{Kind, oneBase, tableBytes, rootWords, Section, sectionIn, cutShort, wrongCount, leftOver, sectionTests, File, entriesFor, usedIn, fileOf, fileTests, faultOf}
+use Rattle.rules.specs.Files.{Kind, oneBase, tableBytes, rootWords, sectionIn, cutShort, wrongCount, leftOver, sectionTests, File, entriesFor, usedIn, fileOf, fileTests, faultOf}
 use Rattle.rules.proofs.Lists.{bounded-take, bounded-drop}
 use Rattle.rules.proofs.Refusals.{both-left, both-right, not-false, first-none, first-no, first-more, first-last, first-neither}
 

@@ -36,7 +36,7 @@ block-same p q k long same =
     go j l = rw (getD-take 16 (drop (16 * k) p), getD-drop, getD-take 16 (drop (16 * k) q), getD-drop) (same j l)
 
 -- byte j of block k
-block-at : (pool : List ℕ) (k j : ℕ) → j < 16 → getD (blockBytes pool k) j 0 ≡ getD pool (16 * k + j) 0
+pub block-at : (pool : List ℕ) (k j : ℕ) → j < 16 → getD (blockBytes pool k) j 0 ≡ getD pool (16 * k + j) 0
 unfolding blockBytes
 block-at pool k j l = rw (getD-take 16 (drop (16 * k) pool), getD-drop)
 

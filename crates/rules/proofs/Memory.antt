@@ -19,7 +19,7 @@ use Rattle.rules.specs.Runs.{Call, Init, Allocate, Free, Reallocate, Col
 use Rattle.rules.specs.Memory.{Memory, lengthsFit, SameBeside, Sound, heapIn, holding, doneIn, Result, result, AcceptedIn, stackFor, readsTable, faultIn, testsIn, orRefused, perform, turnIn, afterIn, answersIn, filledIn}
 use Rattle.rules.specs.Meaning.{AllBytes}
 use Rattle.rules.proofs.Entries.{length-entriesOf, length-tableOf, entriesOf-lt, tableOf-entriesOf, entriesOf-tableOf}
-use Rattle.rules.proofs.Refusals.{both-false, both-left, both-right, not-false, numbered, first-none, first-more, first-less, refusal-is}
+use Rattle.rules.proofs.Refusals.{both-false, both-left, both-right, not-false, numbered, first-more, first-less, refusal-is}
 use Rattle.rules.proofs.Sizes.{Kept, step-keeps}
 
 -- ---- a call of the rules is accepted, or leaves all as it was

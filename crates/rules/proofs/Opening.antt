@@ -1,11 +1,10 @@
 -- What the opening of an image knows once it is not refused.
 -- Assumes nothing.
-use mathlib.Core.Path.{_≡_, refl, sym, ap, _∙_}
+use mathlib.Core.Path.{_≡_, refl, ap, _∙_}
 use mathlib.Core.Bool.{true, not}
 use mathlib.Core.List.{List, [], _∷_, _++_}
-use Prim.Native.Nat.{ℕ, _*_, _%_, _≤_}
+use Prim.Native.Nat.{ℕ, _%_, _≤_}
 use native.Mathlib.Omega.{arith}
-use lib.Dec.{eqb}
 use lib.ListN.{length}
 use borrow.Author.Tests.{eqb-true, eq-eqb, ltb-false, le-ltb}
 use Rattle.rules.specs.Tests.{both}
@@ -14,9 +13,10 @@ use Rattle.rules.specs.Outcomes.{Heap}
 use Rattle.rules.specs.Refusals.{Test, firstOf, goodShape, firstTests, badShape, illFormed, shortRoots}
 use Rattle.rules.specs.Files.{File, sectionTests, fileOf, fileTests, faultOf, entriesFor, baseOf, heapOfFile, rootsOf}
 use Rattle.rules.specs.Calls.{goodTarget, openTests}
-use Rattle.rules.specs.Meaning.{Shape}
+use Rattle.rules.specs.Meaning.{Shape, Passed}
 use Rattle.rules.proofs.Refusals.{both-left, both-right, shape-true, shape-of, first-none, first-no, first-last, first-more, first-neither, first-passed}
-use Rattle.rules.proofs.Faults.{Faultless, faultless, no-fault}
+use Rattle.rules.proofs.Files.{length-pool}
+use Rattle.rules.proofs.Faults.{Faultless, faultless, no-fault, length-blocks}
 
 -- the file has no fault, what is lent suits it, and the heap in it is well-formed
 pub record Opens (h : Heap) (image : List ℕ) (room : ℕ) : Type 0 where
@@ -61,3 +61,20 @@ module _ (h : Heap) (image : List ℕ) (room : ℕ) where
       let a = first-more (fileTests image) next refl (no-fault image (o .faultless))
           ∙ first-no (badShape (goodTarget f h room)) (illFormed (heapOfFile f) ∷ []) (ap not good) ∙ first-last (illFormed (heapOfFile f)) (ap not (o .well)) in
       first-more (fileTests image ++ next) (last ∷ []) refl a ∙ first-last last (le-ltb room (length (rootsOf f)) (o .enough))
+
+-- the heap that is opened has a good shape and is well-formed
+pub opened-passed : (h : Heap) (image : List ℕ) (room : ℕ) → Opens h image room → Passed (baseOf (fileOf image)) (heapOfFile (fileOf image))
+opened-passed h image room o =
+    let s = o .shape in
+    let f : File = fileOf image in
+    record {
+      shape = record {
+        some = omega (arith, s .some, o .long);
+        few = omega (arith, s .few, o .long);
+        pool = length-pool (entriesFor (f .table)) (f .blocks .body) (omega (arith, length-blocks image (o .faultless)));
+        aligned = s .aligned;
+        above = s .above;
+        below = omega (arith, s .below, o .long);
+      };
+      well = o .well;
+    }

@@ -1,25 +1,25 @@
 -- Sections that are written and read again: an image is a file without a fault that says what was written, and a file without a fault is the image of what it says.
 -- Assumes nothing.
-use mathlib.Core.Path.{_≡_, refl, sym, ap, subst, _∙_}
+use mathlib.Core.Path.{_≡_, refl, sym, ap, _∙_}
 use mathlib.Core.List.{List, [], _∷_, _++_, append-assoc, append-nil}
-use Prim.Native.Nat.{ℕ, suc, _+_, _*_, _/_, _%_, _^_, _≤_, _<_}
+use Prim.Native.Nat.{ℕ, _+_, _*_, _/_, _%_, _≤_, _<_}
 use native.Mathlib.Omega.{arith}
-use lib.ListN.{length, getD, take, drop, length-append, take-append-drop}
+use lib.ListN.{length, length-append, take-append-drop}
 use lib.Seq.{take-at, drop-at, take-all}
-use Rattle.rules.specs.Words.{bytesOf, twoBytesOf, firstTwo, wordAt}
-use Rattle.rules.specs.Entries.{tableOf, entriesOf}
+use Rattle.rules.specs.Words.{bytesOf, twoBytesOf, firstTwo}
+use Rattle.rules.specs.Entries.{tableOf}
 use Rattle.rules.specs.Tables.{used}
 use Rattle.rules.specs.Forms.{Small}
 use Rattle.rules.specs.Outcomes.{Heap}
 use Rattle.rules.specs.Meaning.{AllBytes, Shape}
 use Rattle.rules.specs.Images.{section, sections, usedFrom, imageOf}
-use Rattle.rules.specs.Files.{Kind, oneBase, tableBytes, blocksOf, rootWords, Section, sectionIn, File, entriesFor, usedIn, fileOf, baseOf, heapOfFile, rootsOf}
+use Rattle.rules.specs.Files.{Kind, oneBase, tableBytes, rootWords, Section, sectionIn, File, entriesFor, usedIn, fileOf, baseOf, heapOfFile, rootsOf}
 use Rattle.rules.proofs.Words.{length-twoBytesOf, firstTwo-back, twoBytesOf-back, drop-two, wordAt-bytesOf, length-bytesOf, bytesOf-wordAt}
 use Rattle.rules.proofs.Entries.{length-tableOf, entriesOf-tableOf, tableOf-entriesOf, length-entriesOf}
 use Rattle.rules.proofs.Tables.{used-le}
 use Rattle.rules.proofs.Images.{length-used}
 use Rattle.rules.proofs.Files.{used-pool}
-use Rattle.rules.proofs.Faults.{Whole, length-body, bytes-body, bytes-rest, Faultless, length-blocks, bytes-blocks}
+use Rattle.rules.proofs.Faults.{Whole, length-body, bytes-body, bytes-rest, Faultless, length-blocks}
 
 -- ---- one section
 

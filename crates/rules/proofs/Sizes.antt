@@ -16,7 +16,7 @@ use Rattle.rules.specs.Forms.{Small}
 use Rattle.rules.specs.Outcomes.{Heap, Answer, Outcome, onlyRefusal, leavesWith, fills, unlessRefused, clearedBlocks}
 use Rattle.rules.specs.Meaning.{AllBytes}
 use Rattle.rules.specs.Marking.{Context, State, state, walk, trace, markRoot, markRoots, passBlock, pass, markAll, sweptEntry, freeingAfter, sweepFrom, sweep}
-use Rattle.rules.specs.Calls.{init, taken, placing, allocate, freed, free, Way, stay, shrink, grow, move, noWay, shrunk, grown, moved, along, reallocate, collecting, collect, survey, load, store, writeImage, openTests, openImage}
+use Rattle.rules.specs.Calls.{init, taken, placing, allocate, freed, free, Way, stay, shrink, grow, move, noWay, shrunk, grown, moved, along, reallocate, collecting, collect, survey, load, store, writeImage, openImage}
 use Rattle.rules.specs.Files.{File, fileOf, entriesFor, heapOfFile, rootsOf}
 use Rattle.rules.specs.Runs.{Call, Init, Allocate, Free, Reallocate, Collect, Survey, Load, Store, WriteImage, OpenImage, step, FileIs}
 use Rattle.rules.proofs.Lists.{bounded-sets, bounded-replicate, bounded-append, bounded-take, bounded-drop}

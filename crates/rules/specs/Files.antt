@@ -1,6 +1,6 @@
 -- A file that is to be opened as a heap image (Images): any bytes at all, read from the front, section by section. The first fault counts.
 -- Assumes nothing.
-use mathlib.Core.Bool.{Bool, not}
+use mathlib.Core.Bool.{not}
 use mathlib.Core.List.{List, [], _∷_, _++_}
 use Prim.Native.Nat.{ℕ, _*_}
 use lib.Dec.{leb, ltb}
