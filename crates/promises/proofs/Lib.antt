@@ -14,6 +14,7 @@ pub mod Bytes
 pub mod OtherT
 pub mod Promised
 pub mod Images
+pub mod RoundTrips
 pub mod Determined
 pub mod Whole
 pub mod Observed

@@ -4,18 +4,17 @@ use mathlib.Core.Path.{_≡_, refl, sym, ap, subst, _∙_}
 use mathlib.Core.Logic.{_≢_, _⊎_, inl, inr, ⊎-elim}
 use mathlib.Core.Bool.{Bool, true, false, not}
 use mathlib.Core.List.{List, [], _∷_}
-use Prim.Native.Nat.{ℕ, suc, _+_, _-_, _*_, _/_, _%_, _≤_, _<_}
-use native.Mathlib.Decide.{decLt}
+use Prim.Native.Nat.{ℕ, suc, _+_, _-_, _*_, _%_, _≤_, _<_}
 use native.Mathlib.Omega.{arith}
-use lib.Dec.{eqb, leb, ltb}
-use lib.ListN.{length, getD, take, drop, replicate, length-drop, getD-replicate, List·getD-eq-default}
+use lib.Dec.{leb}
+use lib.ListN.{length, getD, take, drop, length-drop}
 use lib.Seq.{getD-take, getD-drop, drop-drop, length-take-le}
 use borrow.Author.Tests.{eqb-true, eq-eqb, ne-eqb, leb-true, leb-false, ltb-true, ltb-false}
 use Rattle.rules.specs.Tests.{both}
 use Rattle.rules.specs.Words.{firstTwo, wordAt}
 use Rattle.rules.specs.Entries.{FREE, entriesOf}
-use Rattle.rules.specs.Tables.{entryAt, used, wellFormed}
-use Rattle.rules.specs.Meaning.{Well, Shape, Passed, Accepted}
+use Rattle.rules.specs.Tables.{entryAt, used}
+use Rattle.rules.specs.Meaning.{Well, Shape, Accepted}
 use Rattle.rules.specs.Outcomes.{Heap, Outcome}
 use Rattle.rules.specs.Refusals.{Test, firstOf, goodShape, badShape, illFormed, shortRoots}
 use Rattle.rules.specs.Images.{blockBytes}
@@ -26,7 +25,7 @@ use Rattle.rules.proofs.Words.{wordAt-same}
 use Rattle.rules.proofs.Entries.{length-entriesOf}
 use Rattle.rules.proofs.Tables.{entry-inside}
 use Rattle.rules.proofs.Images.{block-at, used-before}
-use Rattle.rules.proofs.Files.{length-pool, pool-block, pool-free}
+use Rattle.rules.proofs.Files.{pool-block, pool-zero}
 use Rattle.rules.proofs.Faults.{Faultless}
 use Rattle.rules.proofs.Opening.{Opens, open-passed, opened-passed}
 use Rattle.promises.specs.Conditions.{Condition, when, First, countAt, baseIn, tableCount, fileEntries, usedCount, blockPlace, rootPlace, rootCount, fileEnd, Suits, ofOpenImage}
@@ -292,13 +291,7 @@ module _ (h : Heap) (image : List ℕ) (room : ℕ) (accepted : Accepted (openIm
       ∙ getD-drop (blockPlace image + 2) image (16 * n + j) 0 ∙ ap (λ (i : ℕ). getD image i 0) place
 
   free-bytes : (k : ℕ) → entryAt (fileEntries image) k ≡ FREE → (j : ℕ) → j < 16 → byteAt (heapOfFile f′) (16 * k + j) ≡ 0
-  free-bytes k e j l = ap (λ (p : List ℕ). getD p (16 * k + j) 0) pool-is ∙ go (decLt k (length (fileEntries image)))
-    where
-      go : Dec (k < length (fileEntries image)) → getD (poolOf (fileEntries image) bytes) (16 * k + j) 0 ≡ 0
-      go (yes here) =
-          sym (block-at (poolOf (fileEntries image) bytes) k j l) ∙ ap (λ (b : List ℕ). getD b j 0) (pool-free (fileEntries image) bytes k (omega (arith, bytes-long)) here e) ∙ getD-replicate 16 j 0 0 l
-      go (no past) =
-          List·getD-eq-default (poolOf (fileEntries image) bytes) 0 (omega (arith, length-pool (fileEntries image) bytes (omega (arith, bytes-long)), past))
+  free-bytes k e j l = ap (λ (p : List ℕ). getD p (16 * k + j) 0) pool-is ∙ pool-zero (fileEntries image) bytes k j (omega (arith, bytes-long)) e l
 
   pub opened : Opened image h (openImage h image room)
   opened =

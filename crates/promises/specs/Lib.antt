@@ -2,6 +2,7 @@ pub mod Conditions
 pub mod Promises
 pub mod Bytes
 pub mod Images
+pub mod Files
 pub mod Determined
 pub mod Alignment
 pub mod OtherT

@@ -1,12 +1,13 @@
 -- Laws of files that are opened: the pool of their entries and bytes.
 -- Assumes nothing.
-use mathlib.Core.Path.{_≡_, refl, sym, _∙_}
+use mathlib.Core.Path.{_≡_, refl, sym, ap, _∙_}
 use mathlib.Core.Logic.{_≢_}
 use mathlib.Core.Bool.{Bool, true, false}
 use mathlib.Core.List.{List, [], _∷_, _++_, append-assoc}
 use Prim.Native.Nat.{ℕ, zero, suc, _+_, _*_, _≤_, _<_}
+use native.Mathlib.Decide.{decLt}
 use native.Mathlib.Omega.{arith}
-use lib.ListN.{length, take, drop, replicate, length-append, length-drop, take-append-drop}
+use lib.ListN.{length, getD, take, drop, replicate, length-append, length-drop, take-append-drop, getD-replicate, List·getD-eq-default}
 use lib.Seq.{take-all, length-take-le, drop-drop, take-at, drop-append-add, take-append-seam, drop-append-seam}
 use borrow.Author.Tests.{eq-eqb, ne-eqb}
 use Rattle.rules.specs.Tests.{pick, count}
@@ -17,7 +18,7 @@ use Rattle.rules.specs.Images.{blockBytes, usedFrom}
 use Rattle.rules.specs.Files.{poolOf}
 use Rattle.rules.proofs.Lists.{bounded-append, bounded-replicate, bounded-take, bounded-drop}
 use Rattle.rules.proofs.Tables.{entry-inside}
-use Rattle.rules.proofs.Images.{length-used, used-block}
+use Rattle.rules.proofs.Images.{block-at, length-used, used-block}
 
 -- ---- blocks
 
@@ -86,6 +87,14 @@ pool-block (e ∷ es) bs k room l = go (pool-block es) (isFree e) refl k l
 
 pub pool-free : (es bs : List ℕ) (k : ℕ) → 16 * used es ≤ length bs → k < length es → entryAt es k ≡ FREE → blockBytes (poolOf es bs) k ≡ replicate 16 0
 pool-free es bs k room l free = rw (eq-eqb (entryAt es k) FREE free) at (pool-block es bs k room l)
+
+-- so every byte of a FREE block is zero, and there is none past the last
+pub pool-zero : (es bs : List ℕ) (k j : ℕ) → 16 * used es ≤ length bs → entryAt es k ≡ FREE → j < 16 → getD (poolOf es bs) (16 * k + j) 0 ≡ 0
+pool-zero es bs k j room free l = go (decLt k (length es))
+  where
+    go : Dec (k < length es) → getD (poolOf es bs) (16 * k + j) 0 ≡ 0
+    go (yes here) = sym (block-at (poolOf es bs) k j l) ∙ ap (λ (b : List ℕ). getD b j 0) (pool-free es bs k room here free) ∙ getD-replicate 16 j 0 0 l
+    go (no past) = List·getD-eq-default (poolOf es bs) 0 (omega (arith, length-pool es bs room, past))
 
 -- of the bytes of a pool's used blocks, it has in each the bytes of that pool
 pub pool-used : (es pool : List ℕ) (k : ℕ) → 16 * length es ≤ length pool → entryAt es k ≢ FREE → blockBytes (poolOf es (usedFrom pool 0 es)) k ≡ blockBytes pool k

@@ -7,7 +7,7 @@ use Prim.Native.Nat.{ℕ, zero, suc, _*_, _/_, _%_, _≤_, _<_}
 use native.Mathlib.Omega.{arith}
 use lib.Dec.{eqb, leb, ltb}
 use lib.ListN.{length}
-use borrow.Author.Tests.{eqb-true, eqb-false, leb-true, leb-false, ltb-true, ltb-false, eq-eqb, ne-eqb, le-leb, lt-leb}
+use borrow.Author.Tests.{eqb-true, eqb-false, leb-true, leb-false, ltb-true, ltb-false, eq-eqb, ne-eqb, le-leb, lt-leb, le-ltb}
 use Rattle.rules.specs.Tests.{pick, both}
 use Rattle.rules.specs.Pointers.{addressOf, goodBase}
 use Rattle.rules.specs.Entries.{HEAD}
@@ -239,6 +239,11 @@ pub passes : (base : ℕ) (h : Heap) (ts : List Test) → Passed base h → firs
 passes base h ts p =
     first-no (badShape (goodShape base h)) (illFormed h ∷ ts) (ap not (shape-of base h (p .shape)))
     ∙ first-no (illFormed h) ts (ap not (p .well))
+
+pub roots-pass : (base : ℕ) (h : Heap) (roots : List ℕ) (ts : List Test) → Passed base h → length roots % 4 ≡ 0 → length roots / 4 ≤ 4096 → firstOf (rootTests base h roots ++ ts) ≡ firstOf ts
+roots-pass base h roots ts p words few =
+    first-no (badShape (goodRoots base h roots)) (illFormed h ∷ manyRoots roots ∷ ts) (ap not (roots-of base h roots (p .shape, words)))
+    ∙ first-no (illFormed h) (manyRoots roots ∷ ts) (ap not (p .well)) ∙ first-no (manyRoots roots) ts (le-ltb 4096 (length roots / 4) few)
 
 pub asks : (bytes : ℕ) (ts : List Test) → 0 < bytes → firstOf (noBytes bytes ∷ ts) ≡ firstOf ts
 asks bytes ts more = first-no (noBytes bytes) ts (ne-eqb bytes 0 (λ e. omega arith))
