@@ -2,35 +2,34 @@
 -- Assumes nothing.
 use mathlib.Core.Path.{_≡_, refl, sym, ap, subst, _∙_}
 use mathlib.Core.Logic.{_≢_}
-use mathlib.Core.Bool.{true, false}
-use mathlib.Core.List.{List, [], _∷_, _++_}
+use mathlib.Core.Bool.{true, not}
+use mathlib.Core.List.{List, []}
 use Prim.Native.Nat.{ℕ, _+_, _*_, _/_, _%_, _≤_, _<_}
-use native.Mathlib.Decide.{decLt}
 use native.Mathlib.Omega.{arith}
-use lib.ListN.{length, getD, take, drop, replicate, getD-replicate, List·getD-eq-default}
+use lib.ListN.{length, getD, take, drop}
 use lib.Seq.{take-at}
-use borrow.Author.Tests.{eq-eqb, le-ltb}
+use borrow.Author.Tests.{eqb-true, le-ltb}
 use Rattle.rules.specs.Entries.{FREE}
 use Rattle.rules.specs.Tables.{entryAt, used, wellFormed}
 use Rattle.rules.specs.Forms.{Small}
 use Rattle.rules.specs.Meaning.{AllBytes, Passed, Accepted}
 use Rattle.rules.specs.Outcomes.{Heap, Outcome, openedAt, writtenTo, fills}
-use Rattle.rules.specs.Refusals.{firstOf, shortBuffer}
-use Rattle.rules.specs.Images.{blockBytes, usedFrom, imageOf}
-use Rattle.rules.specs.Files.{File, rootWords, fileOf, entriesFor, poolOf, baseOf, heapOfFile, rootsOf}
+use Rattle.rules.specs.Refusals.{shortBuffer}
+use Rattle.rules.specs.Images.{usedFrom, imageOf}
+use Rattle.rules.specs.Files.{File, rootWords, sectionIn, fileOf, entriesFor, poolOf, baseOf, heapOfFile, rootsOf}
 use Rattle.rules.specs.Calls.{writeImage, openImage}
-use Rattle.rules.specs.Planes.{planeBytes, entriesIn, planes}
-use Rattle.rules.specs.Runs.{Call, WriteImage, OpenImage, step}
-use Rattle.rules.specs.Memory.{Memory, memory, heapIn, lengthsFit, Result, result, filling, withBuffer, AcceptedIn, perform, doneIn}
+use Rattle.rules.specs.Planes.{planes}
+use Rattle.rules.specs.Runs.{WriteImage, OpenImage, step}
+use Rattle.rules.specs.Memory.{Memory, memory, heapIn, lengthsFit, Result, filling, withBuffer, AcceptedIn, perform}
 use Rattle.rules.proofs.Refusals.{first-last, roots-pass}
 use Rattle.rules.proofs.Memory.{perform-accepted, passes-in, accepted-sound, follows-accepted}
 use Rattle.rules.proofs.Planes.{length-entriesIn, planes-faithful}
 use Rattle.rules.proofs.Images.{block-at, length-used}
 use Rattle.rules.proofs.Files.{length-pool, pool-used, pool-zero}
-use Rattle.rules.proofs.Faults.{Faultless, length-body}
+use Rattle.rules.proofs.Faults.{length-body}
 use Rattle.rules.proofs.Opening.{Opens, open-passed, open-passes, opened-passed}
 use Rattle.rules.proofs.RoundTrips.{file-image, written, image-file, image-entries, image-base, image-faultless}
-use Rattle.promises.specs.Files.{BroughtOver, WriteThenOpen, OpenThenWrite, IsImage, OpensExactly, OneFile}
+use Rattle.promises.specs.Files.{WriteThenOpen, OpenThenWrite, IsImage, OpensExactly, OneFile}
 use Rattle.promises.proofs.Checked.{number, acts, no-refusal, image-checked, open-checked}
 use Rattle.promises.proofs.Imaging.{passed, filled-is}
 use Rattle.promises.proofs.Opening.{}
@@ -152,3 +151,118 @@ write-then-open t base room roots list m m′ bytes pools tables words enough ac
       free-bytes = free-bytes t base room roots m accepted;
       root-list = refl;
     })
+
+-- ---- a file that was opened
+
+module _ (t lent : ℕ) (image : List ℕ) (m : Memory) (file-bytes : AllBytes image) (accepted : AcceptedIn (perform (planes t) (OpenImage image lent) [] m)) where
+  abbrev f : File
+  f = fileOf image
+
+  abbrev r : Result
+  r = perform (planes t) (OpenImage image lent) [] m
+
+  on-file : Accepted (openImage (heapIn (planes t) m) image lent)
+  unfolding step
+  on-file = on-bytes .accepted-bytes (planes t) (OpenImage image lent) [] m accepted .0
+
+  opening : Opens (heapIn (planes t) m) image lent
+  opening = open-passed (heapIn (planes t) m) image lent (no-refusal (open-checked (heapIn (planes t) m) image lent) on-file)
+
+  -- its answer and its roots, and the heap that the memory then holds
+  result-is : r ≡ filling (openedAt (baseOf f) (length (rootsOf f) / 4)) (memory (heapOfFile f .pool) (planes t .write (heapOfFile f .entries))) (rootsOf f)
+  unfolding step
+  result-is = on-bytes .accepted-bytes (planes t) (OpenImage image lent) [] m accepted .1 ∙ rw (acts (open-checked (heapIn (planes t) m) image lent) on-file)
+
+  heap-is : heapIn (planes t) (r .memory) ≡ heapOfFile f
+  unfolding step
+  heap-is = follows-accepted (planes t) (planes-faithful t) (OpenImage image lent) [] m accepted .heap ∙ ap (λ (o : Outcome). o .heap) (acts (open-checked (heapIn (planes t) m) image lent) on-file)
+
+  root-words : length (rootsOf f) ≡ 4 * f .roots .count
+  unfolding fileOf sectionIn
+  root-words = length-body rootWords (f .blocks .rest) (opening .faultless .roots)
+
+  few-words : f .roots .count ≤ 4096
+  unfolding fileOf sectionIn
+  few-words = opening .faultless .roots .most
+
+  abbrev after : Heap
+  after = heapIn (planes t) (r .memory)
+
+  image-is : imageOf (baseOf f) after (rootsOf f) ≡ image
+  image-is = ap (λ (h : Heap). imageOf (baseOf f) h (rootsOf f)) heap-is ∙ file-image image file-bytes (opening .faultless)
+
+  -- a buffer that is long enough is not refused
+  writes-fine : (room : ℕ) → length image ≤ room → Accepted (writeImage (baseOf f) after (rootsOf f) room)
+  writes-fine room long =
+      let good = subst (Passed (baseOf f)) (sym heap-is) (opened-passed (heapIn (planes t) m) image lent opening) in
+      number (image-checked (baseOf f) after (rootsOf f) room) ∙ roots-pass (baseOf f) after (rootsOf f) _ good (omega (arith, root-words)) (omega (arith, root-words, few-words))
+      ∙ first-last (shortBuffer room (imageOf (baseOf f) after (rootsOf f))) (le-ltb room _ (omega (arith, ap length image-is, long)))
+
+  -- it is written again
+  writes : (room : ℕ) → length image ≤ room → perform (planes t) (WriteImage (baseOf f) (rootsOf f) room) [] (r .memory) ≡ filling (writtenTo (length image)) (r .memory) image
+  unfolding step
+  writes room long =
+      let x = follows-accepted (planes t) (planes-faithful t) (OpenImage image lent) [] m accepted in
+      let s = x .sound accepted in
+      let fine = writes-fine room long in
+      perform-accepted (planes t) (WriteImage (baseOf f) (rootsOf f) room) [] (r .memory) (s .fits) (ap not (s .clean)) fine
+      ∙ rw (acts (image-checked (baseOf f) after (rootsOf f) room) fine, image-is, ← x .written accepted)
+
+  base-answered : r .answer .base ≡ baseOf f
+  base-answered = ap (λ (x : Result). x .answer .base) result-is
+
+  -- as many roots from the front of the list as were answered are the file's
+  roots-front : (list : List ℕ) → take (4 * r .answer .roots) (withBuffer list r .filled) ≡ rootsOf f
+  roots-front list = rw result-is (take-at (rootsOf f) (drop (length (rootsOf f)) list) (4 * (length (rootsOf f) / 4)) (omega (arith, root-words)))
+
+  is-image : IsImage t lent image
+  is-image =
+      let w = writes (length image) (omega arith) in
+      record {
+        base = baseOf f;
+        roots = rootsOf f;
+        memory = r .memory;
+        accepted = ap (λ (x : Result). x .answer .refusal) w;
+        bytes = ap (λ (x : Result). x .filled) w;
+        enough = opening .enough;
+      }
+
+pub open-then-write : OpenThenWrite
+open-then-write t room image list m bytes accepted long =
+    rw (roots-front t (length list) image m bytes accepted list, base-answered t (length list) image m bytes accepted) (writes t (length list) image m bytes accepted room long)
+
+pub opens-exactly : OpensExactly
+opens-exactly t room image m bytes pools tables words = (is-image t room image m bytes, opens-again)
+  where
+    opens-again : IsImage t room image → AcceptedIn (perform (planes t) (OpenImage image room) [] m)
+    opens-again x =
+        let size = pool-of t (WriteImage (x .base) (x .roots) (length image)) [] (x .memory) refl (λ e. omega (arith, e, x .accepted)) in
+        let fits = eqb-true _ _ (passes-in (planes t) (WriteImage (x .base) (x .roots) (length image)) [] (x .memory) (x .accepted) .fits) in
+        let e = sym (filled-image t (x .base) (length image) (x .roots) (x .memory) (x .accepted)) ∙ x .bytes in
+        subst (λ (file : List ℕ). AcceptedIn (perform (planes t) (OpenImage file room) [] m)) e
+        (ap (λ (r : Result). r .answer .refusal) (opened-there t (x .base) (length image) (x .roots) (x .memory) (x .accepted) m (pools ∙ sym size) (tables ∙ sym fits) room words (x .enough)))
+
+-- the memory, base and roots of a result, written
+abbrev written-from : ℕ → ℕ → Result → Result
+written-from t room r = perform (planes t) (WriteImage (r .answer .base) (r .filled) room) [] (r .memory)
+
+module _ (t lent room : ℕ) (image : List ℕ) (m : Memory) (bytes : AllBytes image) (accepted : AcceptedIn (perform (planes t) (OpenImage image lent) [] m)) (long : length image ≤ room) where
+  abbrev opened-file : Result
+  opened-file = perform (planes t) (OpenImage image lent) [] m
+
+  same-file : written-from t room opened-file ≡ filling (writtenTo (length image)) (opened-file .memory) image
+  same-file = rw (base-answered t lent image m bytes accepted, ap (λ (x : Result). x .filled) (result-is t lent image m bytes accepted)) (writes t lent image m bytes accepted room long)
+
+  size-is : length (opened-file .memory .pool) ≡ 64 * t
+  size-is =
+      pool-of t (WriteImage (opened-file .answer .base) (opened-file .filled) room) [] (opened-file .memory) refl (λ e. omega (arith, e, ap (λ (x : Result). x .answer .refusal) same-file))
+
+pub one-file : OneFile
+one-file t t′ room room′ image image′ m m′ bytes bytes′ accepted same =
+    let accepted′ = subst AcceptedIn same accepted in
+    let r′ : Result = perform (planes t′) (OpenImage image′ room′) [] m′ in
+    let both = length image + length image′ in
+    let sizes = ap (λ (x : Result). length (x .memory .pool)) same in
+    let one-t : t ≡ t′ = omega (arith, sizes, size-is t room both image m bytes accepted (omega arith), size-is t′ room′ both image′ m′ bytes′ accepted′ (omega arith)) in
+    ap (λ (x : Result). x .filled) (sym (same-file t room both image m bytes accepted (omega arith))) ∙ ap (λ (x : Result). written-from t both x .filled) same
+    ∙ ap (λ (n : ℕ). written-from n both r′ .filled) one-t ∙ ap (λ (x : Result). x .filled) (same-file t′ room′ both image′ m′ bytes′ accepted′ (omega arith))
