@@ -32,7 +32,6 @@ use Rattle.rules.proofs.RoundTrips.{file-image, written, image-file, image-entr
 use Rattle.promises.specs.Files.{WriteThenOpen, OpenThenWrite, IsImage, OpensExactly, OneFile}
 use Rattle.promises.proofs.Checked.{number, acts, no-refusal, image-checked, open-checked}
 use Rattle.promises.proofs.Imaging.{passed, filled-is}
-use Rattle.promises.proofs.Opening.{}
 use Rattle.promises.proofs.Bytes.{on-bytes, pool-of}
 
 -- ---- a heap that was written

@@ -14,13 +14,14 @@ use Rattle.rules.specs.Entries.{FREE}
 use Rattle.rules.specs.Tables.{entryAt, blockCount, placed, released}
 use Rattle.rules.specs.Outcomes.{Heap, Outcome, onlyRefusal, loaded, leavesWith, unlessRefused, clearedBlocks}
 use Rattle.rules.specs.Refusals.{firstOf, goodShape, noWord, wordTests}
-use Rattle.rules.specs.Calls.{blocksFor, init, taken, placing, allocate, freed, free, Way, stay, shrink, grow, move, noWay, shrunk, grown, moved, wayTo, along, reallocate, survey, load, store, writeImage}
+use Rattle.rules.specs.Calls.{blocksFor, init, taken, placing, allocate, freed, free, Way, stay, shrink, grow, move, noWay, shrunk, grown, moved, wayTo, along, reallocate, survey, load, store, writeImage, goodTarget, openImage}
 use Rattle.rules.proofs.Tables.{extent-of, extent-used}
 use Rattle.rules.proofs.Changes.{placed-out, extended-out}
 use Rattle.rules.specs.Meaning.{Passed, Named}
 use Rattle.rules.proofs.Refusals.{first-none, passed, asked, named-object, named-resize, after-names}
 use Rattle.rules.proofs.Calls.{blocks-some}
 use Rattle.rules.specs.Images.{imageOf}
+use Rattle.rules.specs.Files.{fileOf, baseOf}
 use Rattle.rules.proofs.Images.{block-same, used-same}
 use Rattle.rules.proofs.Matching.{SameByte, Matching, match-run, match-cleared, match-fewer, match-same}
 
@@ -206,3 +207,11 @@ module _ (base : ℕ) (es p q : List ℕ) (a : Matching es p q) where
   twin-image roots room =
       rw (shape, image-same roots)
       (unless-both Twin _ refused (λ z. record { answer = refl; table = refl; filled = refl; match = a }))
+
+-- what a file says does not depend on the pools, and it is then in both
+pub twin-open : (es p q : List ℕ) → Matching es p q → (image : List ℕ) (room : ℕ) → Twin (openImage (heap p es) image room) (openImage (heap q es) image room)
+unfolding openImage goodTarget
+twin-open es p q a image room =
+    rw (shape-same (baseOf (fileOf image)) es p q (a .long))
+    (unless-both Twin _ (λ r. record { answer = refl; table = refl; filled = refl; match = a })
+    (λ z. record { answer = refl; table = refl; filled = refl; match = record { long = refl; bytes = λ i u. refl } }))

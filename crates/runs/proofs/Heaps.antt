@@ -12,10 +12,10 @@ use Rattle.rules.specs.Entries.{FREE}
 use Rattle.rules.specs.Tables.{entryAt}
 use Rattle.rules.specs.Forms.{Small}
 use Rattle.rules.specs.Outcomes.{Heap}
-use Rattle.rules.specs.Runs.{Call, Init, Allocate, Free, Reallocate, Collect, Survey, Load, Store, WriteImage, step, Turn, after, answers, fillings}
+use Rattle.rules.specs.Runs.{Call, Init, Allocate, Free, Reallocate, Collect, Survey, Load, Store, WriteImage, OpenImage, step, Turn, after, answers, fillings}
 use Rattle.rules.specs.Meaning.{Accepted}
 use Rattle.rules.proofs.Matching.{Matching}
-use Rattle.rules.proofs.Twice.{heap, twin-init, twin-allocate, twin-free, twin-reallocate, twin-survey, twin-load, twin-store, twin-image}
+use Rattle.rules.proofs.Twice.{heap, twin-init, twin-allocate, twin-free, twin-reallocate, twin-survey, twin-load, twin-store, twin-image, twin-open}
 use Rattle.keeping.specs.Keeping.{Agree}
 use Rattle.runs.specs.Noninterference.{SameStacks, turn, Alike, done, next, SameAnswers}
 use Rattle.runs.proofs.Same.{Same, same-twin}
@@ -45,6 +45,7 @@ same-step (Survey base) es p q stack stack′ m s = same-twin (Survey base) stac
 same-step (Load base k i) es p q stack stack′ m s = same-twin (Load base k i) stack stack′ (twin-load base es p q m k i)
 same-step (Store base k i w) es p q stack stack′ m s = same-twin (Store base k i w) stack stack′ (twin-store base es p q m k i w)
 same-step (WriteImage base roots room) es p q stack stack′ m s = same-twin (WriteImage base roots room) stack stack′ (twin-image base es p q m roots room)
+same-step (OpenImage image room) es p q stack stack′ m s = same-twin (OpenImage image room) stack stack′ (twin-open es p q m image room)
 
 -- the same, where the tables are equal
 same-call : (call : Call) (h h′ : Heap) (stack stack′ : List ℕ) → h .entries ≡ h′ .entries → Matching (h .entries) (h .pool) (h′ .pool) → SameStacks stack stack′

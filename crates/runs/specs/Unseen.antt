@@ -11,7 +11,7 @@ use Rattle.rules.specs.Words.{wordAt, wordsOf}
 use Rattle.rules.specs.Entries.{FREE}
 use Rattle.rules.specs.Tables.{entryAt}
 use Rattle.rules.specs.Forms.{Form, Faithful}
-use Rattle.rules.specs.Runs.{Call, Init, Allocate, Free, Reallocate, Collect, Survey, Load, Store, WriteImage, Turn}
+use Rattle.rules.specs.Runs.{Call, Init, Allocate, Free, Reallocate, Collect, Survey, Load, Store, WriteImage, OpenImage, Turn}
 use Rattle.rules.specs.Memory.{Memory, heapIn, SameBeside, AcceptedIn, perform, afterIn, answersIn, filledIn}
 use Rattle.keeping.specs.Keeping.{Agree}
 use Rattle.runs.specs.Noninterference.{turn}
@@ -37,6 +37,7 @@ collects (Survey base) = false
 collects (Load base k i) = false
 collects (Store base k i w) = false
 collects (WriteImage base roots room) = false
+collects (OpenImage image room) = false
 
 -- a caller sees the same of two memories, after the calls ts on the one and the calls us on the other
 pub record SeenAlike (f : Form) (ts us : List Turn) (m m′ : Memory) : Type 0 where
