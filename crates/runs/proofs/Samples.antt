@@ -12,16 +12,17 @@ use lib.IntN.{pos, negℤ}
 use lib.ListN.{length, getD, replicate}
 use Rattle.rules.specs.Tests.{either, count, leading, tabulate}
 use Rattle.rules.specs.Bits.{bitOf, bitAt, byteOf}
-use Rattle.rules.specs.Words.{number, bytesOf, twoBytesOf, wordAt, withWord, wordsOf}
-use Rattle.rules.specs.Entries.{TAIL, tableOf}
+use Rattle.rules.specs.Words.{number, bytesOf, twoBytesOf, firstTwo, wordAt, withWord, wordsOf}
+use Rattle.rules.specs.Entries.{TAIL, entryOf, entriesOf, tableOf}
 use Rattle.rules.specs.Tables.{entryAt, isHead, mayFollow, wellAfter, wellFormed, blockCount, startOf, freeFrom, aligned, fits, firstFrom, firstFit, placed, used, objects, longest}
 use Rattle.rules.specs.Planes.{planeBytes, entryIn, entriesIn, spare, spareFree, plane, planesOf, planes}
 use Rattle.rules.specs.Pointers.{addressOf, goodBase, targetOf, headsObject, headAt, leadsTo}
-use Rattle.rules.specs.Outcomes.{Heap, Answer, onlyRefusal, changeFrom, placedAt, collectedTo, surveyed, loaded, writtenTo, unlessRefused, clearedBlocks}
+use Rattle.rules.specs.Outcomes.{Heap, Answer, onlyRefusal, changeFrom, placedAt, collectedTo, surveyed, loaded, writtenTo, openedAt, unlessRefused, clearedBlocks}
 use Rattle.rules.specs.Refusals.{firstOf, goodShape, wholeWords}
 use Rattle.rules.specs.Marking.{pushed, visitTo, visit, walkWords, walk, drainFor, drain, trace, rootTo, markRoot, markRoots, passBlock, passFrom, pass, rescanFor, rescan, markAll, sweptEntry, freeingAfter, sweepFrom, sweep}
-use Rattle.rules.specs.Calls.{blocksFor, taken, placing, allocate, free, collecting, collect, survey, load, writeImage}
+use Rattle.rules.specs.Calls.{blocksFor, taken, placing, allocate, free, collecting, collect, survey, load, writeImage, goodTarget, openImage}
 use Rattle.rules.specs.Images.{section, sections, blockBytes, usedFrom, imageOf}
+use Rattle.rules.specs.Files.{sectionIn, sectionTests, fileOf, fileTests, faultOf, poolOf}
 use Rattle.rules.specs.Runs.{Turn, step}
 use Rattle.rules.specs.Memory.{Memory, heapIn, AcceptedIn, orRefused, perform, turnIn, afterIn, answersIn, filledIn}
 use Rattle.rules.proofs.Below.{allBelow, below}
@@ -76,7 +77,7 @@ abbrev pub earlierAnswers : ℕ → List Answer
 earlierAnswers r = collectedTo 5 r (negℤ (pos 3)) ∷ onlyRefusal 7 ∷ onlyRefusal 1 ∷ loaded 0xDEAD_BEEF ∷ placedAt 1 (pos 2) ∷ loaded 0 ∷ []
 
 abbrev pub lastAnswers : ℕ → List Answer
-lastAnswers r = collectedTo 5 r (negℤ (pos 2)) ∷ surveyed 8 5 2 ∷ writtenTo 151 ∷ []
+lastAnswers r = collectedTo 5 r (negℤ (pos 2)) ∷ surveyed 8 5 2 ∷ writtenTo 151 ∷ openedAt sampleBase 2 ∷ []
 
 -- the rescans of answers
 abbrev pub rescansOf : List Answer → List ℕ
@@ -99,16 +100,16 @@ pub record Computed : Type 0 where
   pub first-table : afterIn (planes 3) firstCalls firstMemory .table ≡ 41 ∷ 3 ∷ 64 ∷ 12 ∷ []
   pub first-used : entryAt (entriesIn 3 (afterIn (planes 3) firstCalls firstMemory .table)) 11 ≡ TAIL
   pub first-word : wordAt (afterIn (planes 3) firstCalls firstMemory .pool) 47 ≡ 0xDEAD_BEEF
-  -- the image that it writes; no other call fills a buffer
-  pub first-images : filledIn (planes 3) firstCalls firstMemory ≡ replicate 8 [] ++ sampleImage ∷ []
+  -- the image that it writes, and its roots; no other call fills a buffer
+  pub first-images : filledIn (planes 3) firstCalls firstMemory ≡ replicate 8 [] ++ sampleImage ∷ sampleRoots ∷ []
   -- three entries are enough for the second, and two at last
-  pub second-rescans : rescansOf (answersIn (planes 3) secondCalls secondMemory) ≡ replicate 9 0
+  pub second-rescans : rescansOf (answersIn (planes 3) secondCalls secondMemory) ≡ replicate 10 0
   -- the first and the third answer a load differently
   pub first-loads : answersIn (planes 3) loadingCalls firstMemory ≡ collectedTo 5 2 (negℤ (pos 3)) ∷ loaded 0xDEAD_BEEF ∷ []
   pub third-loads : answersIn (planes 3) loadingCalls thirdMemory ≡ collectedTo 5 2 (negℤ (pos 3)) ∷ loaded 0x00AD_BEEF ∷ []
 
 pub computed : Computed
-unfolding agreeIn agreeTest marking collected count leading tabulate number bytesOf wordAt withWord wordsOf bitOf bitAt byteOf planeBytes entryIn entriesIn spare spareFree plane planesOf mayFollow wellAfter wellFormed blockCount startOf freeFrom aligned fits firstFrom firstFit placed used objects longest addressOf goodBase targetOf headsObject headAt leadsTo changeFrom unlessRefused clearedBlocks firstOf goodShape wholeWords pushed visitTo visit walkWords walk drainFor drain trace rootTo markRoot markRoots passBlock passFrom pass rescanFor rescan markAll sweptEntry freeingAfter sweepFrom sweep blocksFor taken placing allocate collecting collect free survey load writeImage step orRefused perform afterIn answersIn filledIn twoBytesOf tableOf section sections blockBytes usedFrom imageOf
+unfolding agreeIn agreeTest marking collected count leading tabulate number bytesOf wordAt withWord wordsOf bitOf bitAt byteOf planeBytes entryIn entriesIn spare spareFree plane planesOf mayFollow wellAfter wellFormed blockCount startOf freeFrom aligned fits firstFrom firstFit placed used objects longest addressOf goodBase targetOf headsObject headAt leadsTo changeFrom unlessRefused clearedBlocks firstOf goodShape wholeWords pushed visitTo visit walkWords walk drainFor drain trace rootTo markRoot markRoots passBlock passFrom pass rescanFor rescan markAll sweptEntry freeingAfter sweepFrom sweep blocksFor taken placing allocate collecting collect free survey load writeImage step orRefused perform afterIn answersIn filledIn twoBytesOf tableOf section sections blockBytes usedFrom imageOf firstTwo entryOf entriesOf sectionIn sectionTests fileOf fileTests faultOf poolOf goodTarget openImage
 computed =
     record {
       well = refl;
@@ -151,7 +152,7 @@ last-stacks = stacks-good (bytesOf 7) (replicate 8 8) 1 2 refl (omega arith) ref
 pub samples-alike : Alike firstCalls secondCalls
 samples-alike =
     alike-next _ samples-stacks (alike-next _ none (alike-next _ (stacks-long _ _ refl) (alike-next _ none (alike-next _ none (alike-next _ none
-    (alike-next _ last-stacks (alike-next _ none (alike-next _ none done))))))))
+    (alike-next _ last-stacks (alike-next _ none (alike-next _ none (alike-next _ none done)))))))))
   where
     none : SameStacks [] []
     none = stacks-long [] [] refl
@@ -189,8 +190,8 @@ second-table = sym (same-tables first-second-indistinct) ∙ computed .first-tab
 pub second-word : wordAt (afterIn (planes 3) secondCalls secondMemory .pool) 47 ≡ 0xDEAD_BEEF
 second-word = sym (same-words first-second-indistinct 11 (λ f. let e = computed .first-used in omega arith) 3 (omega arith)) ∙ computed .first-word
 
--- and the image: its dead bytes are none of the second's
-pub second-images : filledIn (planes 3) secondCalls secondMemory ≡ replicate 8 [] ++ sampleImage ∷ []
+-- and the image, with its roots when it is opened: its dead bytes are none of the second's
+pub second-images : filledIn (planes 3) secondCalls secondMemory ≡ replicate 8 [] ++ sampleImage ∷ sampleRoots ∷ []
 second-images = sym (same-buffers first-second-indistinct) ∙ computed .first-images
 
 -- the rescans do differ: 2 and 0, and at last 1 and 0

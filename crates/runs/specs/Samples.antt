@@ -13,7 +13,7 @@ use lib.ListN.{set, replicate}
 use lib.Seq.{sets}
 use Rattle.rules.specs.Words.{bytesOf, withWord}
 use Rattle.rules.specs.Pointers.{addressOf}
-use Rattle.rules.specs.Runs.{Allocate, Free, Collect, Survey, Load, WriteImage, Turn}
+use Rattle.rules.specs.Runs.{Allocate, Free, Collect, Survey, Load, WriteImage, OpenImage, Turn}
 use Rattle.rules.specs.Memory.{Memory, memory}
 use Rattle.runs.specs.Noninterference.{turn}
 
@@ -63,10 +63,6 @@ earlierCalls stack torn =
     ∷ turn (Load sampleBase 1 7) []
     ∷ []
 
--- then a last collection, to which the new object is unreachable, and an image of what is left
-abbrev pub lastCalls : List ℕ → List Turn
-lastCalls stack = turn (Collect sampleBase sampleRoots) stack ∷ turn (Survey sampleBase) [] ∷ turn (WriteImage sampleBase sampleRoots 151) [] ∷ []
-
 -- the image: the base; 12 entries in three packed bytes; the eight blocks of a, c, d, f and g; two roots
 abbrev pub sampleImage : List ℕ
 sampleImage =
@@ -76,6 +72,11 @@ sampleImage =
     ++ replicate 16 0
     ++ bytesOf (addressOf sampleBase 8) ++ replicate 40 0 ++ bytesOf 0xDEAD_BEEF
     ++ 2 ∷ 0 ∷ sampleRoots
+
+-- then a last collection, to which the new object is unreachable, and an image of what is left, which is opened
+abbrev pub lastCalls : List ℕ → List Turn
+lastCalls stack =
+    turn (Collect sampleBase sampleRoots) stack ∷ turn (Survey sampleBase) [] ∷ turn (WriteImage sampleBase sampleRoots 151) [] ∷ turn (OpenImage sampleImage 8) [] ∷ []
 
 -- on the first heap no mark stack at first, and one entry at last: neither is enough for d and g. On the second three entries, and two at last.
 -- Whatever the mark stacks hold, they hold different bytes
