@@ -4,7 +4,7 @@ ghost use mathlib.Core.Logic.{_⊎_};
 ghost use Prim.Native.Nat.{_+_, _-_, _*_, _≤_};
 ghost use lib.ListN.{length, take, drop, replicate};
 ghost use lib.Seq.{sets};
-ghost use Rattle.rules.specs.Words.{number, bytesOf, twoBytesOf, wordAt, withWord};
+ghost use Rattle.rules.specs.Words.{number, bytesOf, twoBytesOf, firstTwo, wordAt, withWord};
 ghost use Rattle.memory.specs.Bits.{BitsFrom, WithBits};
 use numbers::Bytes;
 
@@ -28,6 +28,14 @@ pub fn word(bytes: &[u8], i: usize) -> u32
 {
     let at = 4 * i;
     from_le_bytes(bytes[at], bytes[at + 1], bytes[at + 2], bytes[at + 3])
+}
+
+// The number in the two bytes from `at` on, the first the lowest.
+pub fn two_bytes(bytes: &[u8], at: usize) -> usize
+    requires { ⌜ at + 2 ≤ length (now bytes) ⌝ }
+    ensures { λ r. ⌜ r ≡ firstTwo (drop at (now (bytes .entry))) ⌝ }
+{
+    from_le_bytes(bytes[at], bytes[at + 1], 0, 0) as usize
 }
 
 // The two bytes from `at` on become the two lowest of n, the lowest first.
