@@ -3,7 +3,8 @@ ghost use mathlib.Core.Path.{_≡_};
 ghost use Prim.Native.Nat.{_+_, _≤_};
 ghost use lib.ListN.{length};
 ghost use lib.Seq.{sets};
-ghost use Rattle.rules.specs.Entries.{tableOf};
+ghost use Rattle.rules.specs.Entries.{entriesOf, tableOf};
+ghost use Rattle.rules.specs.Tables.{used as usedOf};
 ghost use Rattle.rules.specs.Planes.{entriesIn, IsTable};
 ghost use Rattle.packing.specs.Packing.{Spread, Interleaved};
 
@@ -40,4 +41,19 @@ pub fn pack(t: usize, table: &[u8], buffer: &mut [u8], at: usize)
         let four = interleave(table[i], table[half + i]);
         buffer[at + 2 * i] = (four % 256) as u8;
     }
+}
+
+// How many entries of a packed table are not FREE: each has one of its two bits, or both.
+pub fn used(packed: &[u8]) -> usize
+    requires { ⌜ length (now packed) ≤ 1024 ⌝ }
+    ensures { λ r. ⌜ r ≡ usedOf (entriesOf (now (packed .entry))) ⌝ }
+{
+    let mut n: u16 = 0;
+    let mut i = 0;
+    while i < packed.len() {
+        let b = packed[i];
+        n += u8::count_ones((b | (b >> 1)) & 0x55) as u16;
+        i += 1;
+    }
+    n as usize
 }
