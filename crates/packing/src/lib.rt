@@ -4,7 +4,7 @@ ghost use Prim.Native.Nat.{_+_, _≤_};
 ghost use lib.ListN.{length};
 ghost use lib.Seq.{sets};
 ghost use Rattle.rules.specs.Entries.{entriesOf, tableOf};
-ghost use Rattle.rules.specs.Tables.{used as usedOf};
+ghost use Rattle.rules.specs.Tables.{used as usedOf, wellFormed};
 ghost use Rattle.rules.specs.Planes.{entriesIn, IsTable};
 ghost use Rattle.packing.specs.Packing.{Spread, Interleaved};
 
@@ -56,4 +56,23 @@ pub fn used(packed: &[u8]) -> usize
         i += 1;
     }
     n as usize
+}
+
+// Whether there is no MARK, block 0 is no TAIL, and no TAIL follows a FREE.
+pub fn well_formed(packed: &[u8]) -> bool
+    ensures { λ r. ⌜ r ≡ wellFormed (entriesOf (now (packed .entry))) ⌝ }
+{
+    let mut bad: u8 = 0;
+    let mut before: u8 = 0;
+    let mut i = 0;
+    while i < packed.len() {
+        let b = packed[i];
+        let low = b & 0x55;
+        let high = (b >> 1) & 0x55;
+        let used = low | high;
+        bad = bad | (low & high) | (high & !((used << 2) | before));
+        before = used >> 6;
+        i += 1;
+    }
+    bad == 0
 }

@@ -125,6 +125,10 @@ abbrev pub one : Bool → ℕ
 one true = 1
 one false = 0
 
+pub one-lt : (b : Bool) → one b < 2
+one-lt true = omega arith
+one-lt false = omega arith
+
 pub count-le : (f : ℕ → Bool) (xs : List ℕ) → count f xs ≤ length xs
 unfolding count
 count-le f [] = omega arith

@@ -17,7 +17,7 @@ use Rattle.rules.specs.Entries.{FREE, TAIL, MARK}
 use Rattle.rules.specs.Tables.{entryAt, isFree, isUsed, mayFollow, wellFormed}
 use Rattle.rules.specs.Planes.{entriesIn}
 use Rattle.rules.proofs.Refusals.{true-not-false}
-use Rattle.rules.proofs.Lists.{one}
+use Rattle.rules.proofs.Lists.{one, one-lt}
 use Rattle.rules.proofs.Tables.{entry-outside, may-at, may-all}
 use Rattle.rules.proofs.Bits.{two-bits, or-none, bitOf-lt, bitOf-first, bitOf-suc, bitOf-zero, bitOf-and, bitOf-or, bitOf-not, bitOf-mod, bitOf-shl, bitOf-below, bits-same}
 use Rattle.rules.proofs.Planes.{length-entriesIn, room-entries, entry-clean}
@@ -81,10 +81,6 @@ none-or a b p q = rw (p, q) (or-zero-l 0)
 -- a byte without a one
 no-bits : (x : ℕ) → x < 256 → ((j : ℕ) → j < 8 → bitOf x j ≡ 0) → x ≡ 0
 no-bits x h b = bits-same 8 x 0 h (omega arith) (λ j l. b j l ∙ sym (bitOf-zero j))
-
-one-lt : (b : Bool) → one b < 2
-one-lt true = omega arith
-one-lt false = omega arith
 
 module _ (es : List ℕ) (bad before i low high : ℕ) (hl : low < 256) (hh : high < 256) (lanes : (j : ℕ) → j < 8 → entryAt es (8 * i + j) ≡ bitOf low j + 2 * bitOf high j)
     (f : Found es bad before i) where
