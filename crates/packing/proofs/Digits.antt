@@ -1,15 +1,22 @@
 -- Numbers in base 4: those of low and of high bits joined to one of entries, and the two bytes of eight digits.
 -- Assumes nothing.
-use mathlib.Core.Path.{_≡_, refl}
+use mathlib.Core.Path.{_≡_, refl, ap, _∙_}
 use mathlib.Core.List.{[], _∷_}
-use Prim.Native.Nat.{ℕ, zero, suc, _+_, _*_, _<_}
+use Prim.Native.Nat.{ℕ, zero, suc, _+_, _*_, _/_, _%_, _<_}
 use native.Mathlib.Nat.{mod-eq-of-lt}
 use native.Mathlib.Omega.{arith}
-use lib.Bits.{bitOr, or-block}
+use lib.Bits.{bitAnd, bitOr, and-zero-r, and-mask, and-block, or-block}
 use lib.Pow.{high, low}
 use Rattle.rules.specs.Words.{twoBytesOf}
-use Rattle.rules.proofs.Bits.{two-bits}
+use Rattle.rules.specs.Bits.{bitOf}
+use Rattle.rules.proofs.Bits.{two-bits, bitOf-first, bitOf-shr}
 use Rattle.packing.specs.Packing.{base4}
+
+-- numbers with the same digits
+pub base4-same : (n : ℕ) (d e : ℕ → ℕ) → ((j : ℕ) → j < n → d j ≡ e j) → base4 n d ≡ base4 n e
+unfolding base4
+base4-same zero d e same = refl
+base4-same (suc n) d e same = rw (base4-same n (λ (j : ℕ). d (suc j)) (λ (j : ℕ). e (suc j)) (λ j l. same (suc j) (omega arith)), same 0 (omega arith))
 
 -- the two bits of an entry
 or-bits : (l h : ℕ) → l < 2 → h < 2 → bitOr l (h * 2) ≡ l + 2 * h
@@ -29,6 +36,17 @@ or-digits (suc n) l h hl hh =
       or-digits n l′ h′ (λ j. hl (suc j)) (λ j. hh (suc j)),
       or-bits (l 0) (h 0) (hl 0) (hh 0),
     )
+
+-- of a number the bits at even places are digits
+pub even-bits : (n x : ℕ) → bitAnd x (base4 n (λ (_ : ℕ). 1)) ≡ base4 n (λ (j : ℕ). bitOf x (2 * j))
+unfolding base4
+even-bits zero x = and-zero-r x
+even-bits (suc n) x =
+    let ones : ℕ = base4 n (λ (_ : ℕ). 1) in
+    let e : x / 4 * 4 + x % 4 ≡ x = omega arith in
+    let low : x % 4 % 2 ≡ x % 2 = omega arith in
+    let up = even-bits n (x / 4) ∙ base4-same n (λ (j : ℕ). bitOf (x / 4) (2 * j)) (λ (j : ℕ). bitOf x (2 * suc j)) (λ j l. let s : 2 + 2 * j ≡ 2 * suc j = omega arith in bitOf-shr x 2 (2 * j) ∙ ap (bitOf x) s) in
+    rw e at (and-block 2 (x / 4) ones (x % 4) 1 (omega arith) (omega arith)) ∙ rw (up, and-mask (x % 4) 1, low, bitOf-first x)
 
 -- eight bits leave room for a shift by one
 pub bits-lt : (bit : ℕ → ℕ) → ((j : ℕ) → bit j < 2) → base4 8 bit < 32768

@@ -1,12 +1,12 @@
 // The packed order of heap images, four blocks to a byte. Beside `entries` and `whole` only this crate knows how entries lie in bytes.
 ghost use mathlib.Core.Path.{_≡_};
-ghost use Prim.Native.Nat.{_+_, _≤_};
+ghost use Prim.Native.Nat.{_+_, _*_, _≤_, _<_};
 ghost use lib.ListN.{length};
 ghost use lib.Seq.{sets};
 ghost use Rattle.rules.specs.Entries.{entriesOf, tableOf};
 ghost use Rattle.rules.specs.Tables.{used as usedOf, wellFormed};
-ghost use Rattle.rules.specs.Planes.{entriesIn, IsTable};
-ghost use Rattle.packing.specs.Packing.{Spread, Interleaved};
+ghost use Rattle.rules.specs.Planes.{entriesIn, Sized, IsTable, Holds};
+ghost use Rattle.packing.specs.Packing.{Spread, Interleaved, Gathered, UnpacksOn};
 
 // The bits of a byte, spread: bit j becomes bit 2 * j.
 fn spread(b: u8) -> u16
@@ -75,4 +75,40 @@ pub fn well_formed(packed: &[u8]) -> bool
         i += 1;
     }
     bad == 0
+}
+
+// The bits at even places, gathered: bit 2 * j becomes bit j. It undoes `spread`.
+fn gather(x: u16) -> u8
+    ensures { λ r. ⌜ Gathered x r ⌝ }
+{
+    let singles = x & 0x5555;
+    let twos = (singles | (singles >> 1)) & 0x3333;
+    let fours = (twos | (twos >> 2)) & 0x0F0F;
+    ((fours | (fours >> 4)) & 0x00FF) as u8
+}
+
+// The entries of two packed bytes become byte i of both planes.
+fn unpack_eight(table: &mut [u8], half: usize, i: usize, a: u8, b: u8)
+    requires { ⌜ (i < half) × (length (now table) ≡ 2 * half) ⌝ }
+    ensures { λ _. ⌜ UnpacksOn half i (b * 256 + a) (now (table .entry)) (now (table .exit)) ⌝ }
+{
+    let eight = b as u16 * 256 + a as u16;
+    table[i] = gather(eight);
+    table[half + i] = gather(eight >> 1);
+}
+
+// The planes of a packed table of t bytes: two of its bytes become one of each plane, the last one half of one if t is odd. Spare bits are zero then.
+pub fn unpack(t: usize, packed: &[u8], table: &mut [u8])
+    requires { ⌜ Sized t (now table) × (length (now packed) ≡ t) ⌝ }
+    ensures { λ _. ⌜ Holds t (entriesOf (now (packed .entry))) (now (table .exit)) ⌝ }
+{
+    let half = entries::plane_bytes(t);
+    let mut i = 0;
+    while i < t / 2 {
+        unpack_eight(&mut *table, half, i, packed[2 * i], packed[2 * i + 1]);
+        i += 1;
+    }
+    if i < half {
+        unpack_eight(&mut *table, half, i, packed[2 * i], 0);
+    }
 }
