@@ -2,12 +2,12 @@
 -- Assumes nothing.
 use mathlib.Core.Path.{_≡_, refl, sym, ap, _∙_}
 use mathlib.Core.Bool.{Bool, true, false}
-use mathlib.Core.List.{List, [], _∷_, _++_}
+use mathlib.Core.List.{List, [], _∷_, _++_, append-nil}
 use Prim.Native.Nat.{ℕ, zero, suc, _+_, _≤_, _<_}
 use native.Mathlib.Decide.{ℕ-discrete, decLt}
 use native.Mathlib.Omega.{arith}
 use lib.ListN.{length, getD, set, take, drop, replicate, length-set}
-use lib.Seq.{sets, getD-set-same, getD-set-other, set-out, drop-cons, getD-drop}
+use lib.Seq.{sets, sets-eq, set-set, set-comm, getD-set-same, getD-set-other, set-out, drop-cons, drop-length, getD-drop}
 use Rattle.rules.specs.Tests.{pick, count, leading, tabulate}
 
 -- ---- a run of stores
@@ -62,6 +62,24 @@ sets-next l at to vs ws e = rw e (sym (sets-append l at vs ws))
 -- one store more at the end of the run
 pub sets-snoc : (l : List ℕ) (at : ℕ) (vs : List ℕ) (v : ℕ) → sets l at (vs ++ (v ∷ [])) ≡ set (sets l at vs) (at + length vs) v
 sets-snoc l at vs v = sets-append l at vs (v ∷ [])
+
+-- all is stored
+pub sets-all : (l vs : List ℕ) → length vs ≡ length l → sets l 0 vs ≡ vs
+sets-all l vs e =
+    let end : 0 + length vs ≡ length vs = omega arith in
+    sets-eq vs l 0 (omega arith) ∙ rw (end, e, drop-length l) (append-nil vs)
+
+-- a store before a run of stores
+set-sets : (l : List ℕ) (i v at : ℕ) (vs : List ℕ) → i < at → set (sets l at vs) i v ≡ sets (set l i v) at vs
+set-sets l i v at [] h = refl
+set-sets l i v at (w ∷ ws) h = set-sets (set l at w) i v (suc at) ws (omega arith) ∙ rw (set-comm l at i w v (λ e. omega arith))
+
+-- a run of stores over the first part of another
+pub sets-over : (l : List ℕ) (at : ℕ) (us vs ws : List ℕ) → length us ≡ length vs → sets (sets l at (us ++ ws)) at vs ≡ sets l at (vs ++ ws)
+sets-over l at [] [] ws e = refl
+sets-over l at [] (v ∷ vs) ws e = absurd (omega arith)
+sets-over l at (u ∷ us) [] ws e = absurd (omega arith)
+sets-over l at (u ∷ us) (v ∷ vs) ws e = rw (set-sets (set l at u) at v (suc at) (us ++ ws) (omega arith), set-set l at u v) (sets-over (set l at v) (suc at) us vs ws (omega arith))
 
 pub replicate-snoc : (n v : ℕ) → replicate (suc n) v ≡ replicate n v ++ (v ∷ [])
 replicate-snoc zero v = refl

@@ -7,7 +7,7 @@ use Prim.Native.Nat.{ℕ, _+_, _-_, _*_, _^_, _≤_, _<_, max}
 use native.Mathlib.Decide.{ℕ-discrete, decLt}
 use native.Mathlib.Omega.{arith}
 use lib.ListN.{length, take, drop, set, length-append, length-take, length-set, drop-of-length-le, List·getD-eq-default}
-use lib.Seq.{sets, length-sets, take-add, drop-drop, getD-take, getD-drop, getD-set-same, getD-set-other}
+use lib.Seq.{sets, length-sets, ext-getD, take-add, drop-drop, getD-take, getD-drop, getD-set-same, getD-set-other}
 use lib.Bits.{bitAnd}
 use borrow.Author.Tests.{eq-eqb, ne-eqb}
 use Rattle.rules.specs.Words.{bytesOf, wordAt}
@@ -20,11 +20,11 @@ use Rattle.rules.specs.Images.{blockBytes, usedFrom}
 use Rattle.rules.proofs.Lists.{length-tabulate, getD-tabulate, sets-append, sets-next}
 use Rattle.rules.proofs.Words.{length-bytesOf, bytesOf-wordAt}
 use Rattle.rules.proofs.Bits.{LowestBit, lowest-gone, lowest-others, lowest-less}
-use Rattle.rules.proofs.Images.{length-block, used-split, used-first, used-alike}
+use Rattle.rules.proofs.Images.{used-split, used-first, used-alike}
 use Rattle.entries.specs.Groups.{InGroup}
 use Rattle.freeruns.specs.Rows.{Zeros}
 use Rattle.freeruns.proofs.Rows.{first-lt}
-use Rattle.transfer.specs.Copying.{blocksIn}
+use Rattle.transfer.specs.Copying.{lanes, Inside, blocksIn, groupIn}
 
 -- ---- what is still to be stored
 
@@ -106,72 +106,61 @@ pub blocks-none : (pool : List ℕ) (i : ℕ) → blocksIn pool i 0 ≡ []
 unfolding usedFrom tabulate bitOf
 blocks-none pool i = refl
 
--- those that have a bit lie in the pool
-abbrev pub Inside : List ℕ → ℕ → ℕ → Type 0
-Inside pool i bits = (j : ℕ) → j < 64 → bitOf bits j ≢ 0 → 16 * (64 * i + j) + 16 ≤ length pool
-
 -- past the 64 there is no block
 past-lanes : (es : List ℕ) (m : ℕ) → length es ≤ 64 → (m < 64 → ⊥) → entryAt es m ≡ FREE
 past-lanes es m few out = List·getD-eq-default es FREE (omega (arith, few, out))
 
 -- what a turn knows, where j is the first bit of `left`
-pub record First (pool : List ℕ) (i left j : ℕ) : Type 0 where
+pub record First (left j : ℕ) : Type 0 where
   pub few : j < 64
-  -- its block lies in the pool, and is 16 bytes
-  pub inside : 16 * (64 * i + j) + 16 ≤ length pool
-  pub long : length (blockBytes pool (64 * i + j)) ≡ 16
-  -- it comes first, and the blocks of the other bits follow
-  pub split : Splits (blocksIn pool i left) (blockBytes pool (64 * i + j)) (blocksIn pool i (bitAnd left (left - 1)))
-  pub others-inside : Inside pool i (bitAnd left (left - 1))
+  pub before : (m : ℕ) → m < j → entryAt (lanes left) m ≡ FREE
+  pub here : entryAt (lanes left) j ≢ FREE
+  -- without it, the others are left
+  pub others : set (lanes left) j FREE ≡ lanes (bitAnd left (left - 1))
   pub less : bitAnd left (left - 1) < left
 
-module _ (pool : List ℕ) (i left j : ℕ) (small : left < 2 ^ 64) (some-bit : left ≢ 0) (zeros : Zeros left j) (inside : Inside pool i left) where
+pub first-bit : (left j : ℕ) → left < 2 ^ 64 → left ≢ 0 → Zeros left j → First left j
+first-bit left j small some-bit zeros = record {
+  few = j-lt;
+  before = λ m l. lane left m (omega (arith, j-lt, l)) ∙ zeros .before m l;
+  here = λ z. omega (arith, z, lane left j j-lt, zeros .next j-lt);
+  others = ext-getD FREE (set (lanes left) j FREE) (lanes (bitAnd left (left - 1))) (simp (length-set, length-tabulate)) (λ m l. same m (rw (length-set, length-tabulate) at l) (ℕ-discrete m j));
+  less = lowest-less left j lowest (omega (arith, some-bit));
+}
+  where
+    j-lt : j < 64
+    j-lt = first-lt left j small some-bit zeros
+
+    lowest : LowestBit left j
+    lowest = record { below = zeros .before; set = zeros .next j-lt }
+
+    lane : (bits m : ℕ) → m < 64 → entryAt (lanes bits) m ≡ bitOf bits m
+    lane bits m l = getD-tabulate 64 (bitOf bits) m FREE l
+
+    same : (m : ℕ) → m < 64 → Dec (m ≡ j) → entryAt (set (lanes left) j FREE) m ≡ entryAt (lanes (bitAnd left (left - 1))) m
+    same m l (yes e) = rw (e, lane (bitAnd left (left - 1)) j j-lt, lowest-gone left j lowest) (getD-set-same (lanes left) j FREE FREE (rw length-tabulate j-lt))
+    same m l (no ne) = getD-set-other (lanes left) j m FREE FREE ne ∙ lane left m l ∙ sym (lane (bitAnd left (left - 1)) m l ∙ lowest-others left j lowest m ne)
+
+module _ (pool : List ℕ) (i left j : ℕ) (f : First left j) where
   abbrev others : ℕ
   others = bitAnd left (left - 1)
 
-  abbrev lanes : List ℕ
-  lanes = tabulate 64 (bitOf left)
+  -- its block comes first, and the blocks of the other bits follow
+  pub first-split : Splits (blocksIn pool i left) (blockBytes pool (64 * i + j)) (blocksIn pool i others)
+  first-split = record { is = rw (← f .others) (used-first pool (64 * i) (lanes left) j (f .before) (f .here)) }
 
-  j-lt : j < 64
-  j-lt = first-lt left j small some-bit zeros
+  module _ (inside : Inside pool i left) where
+    -- it lies in the pool
+    pub first-inside : 16 * (64 * i + j) + 16 ≤ length pool
+    first-inside = inside j (f .few) (λ z. f .here (getD-tabulate 64 (bitOf left) j FREE (f .few) ∙ z))
 
-  lowest : LowestBit left j
-  lowest = record { below = zeros .before; set = zeros .next j-lt }
-
-  -- the entries without that one
-  others-same : (m : ℕ) → entryAt (set lanes j FREE) m ≡ entryAt (tabulate 64 (bitOf others)) m
-  others-same m = go (decLt m 64) (ℕ-discrete m j)
-    where
-      go : Dec (m < 64) → Dec (m ≡ j) → entryAt (set lanes j FREE) m ≡ entryAt (tabulate 64 (bitOf others)) m
-      go (no out) _ = past-lanes (set lanes j FREE) m (simp (length-set, length-tabulate) (omega arith)) out ∙ sym (past-lanes (tabulate 64 (bitOf others)) m (simp length-tabulate (omega arith)) out)
-      go (yes l) (yes e) = rw (e, getD-tabulate 64 (bitOf others) j FREE j-lt, lowest-gone left j lowest) (getD-set-same lanes j FREE FREE (rw length-tabulate j-lt))
-      go (yes l) (no ne) = getD-set-other lanes j m FREE FREE ne ∙ getD-tabulate 64 (bitOf left) m FREE l ∙ sym (getD-tabulate 64 (bitOf others) m FREE l ∙ lowest-others left j lowest m ne)
-
-  next : blocksIn pool i left ≡ blockBytes pool (64 * i + j) ++ blocksIn pool i others
-  next =
-      used-first pool (64 * i) lanes j (λ m l. getD-tabulate 64 (bitOf left) m FREE (omega (arith, j-lt, l)) ∙ zeros .before m l)
-      (λ z. omega (arith, z, getD-tabulate 64 (bitOf left) j FREE j-lt, zeros .next j-lt))
-      ∙ ap (λ (xs : List ℕ). blockBytes pool (64 * i + j) ++ xs) (used-alike pool (64 * i) (set lanes j FREE) (tabulate 64 (bitOf others)) (λ m. ap isFree (others-same m)))
-
-  lies : 16 * (64 * i + j) + 16 ≤ length pool
-  lies = inside j j-lt (λ z. omega (arith, z, zeros .next j-lt))
-
-  others-lie : Inside pool i others
-  others-lie m l ne = go (ℕ-discrete m j)
-    where
-      go : Dec (m ≡ j) → 16 * (64 * i + m) + 16 ≤ length pool
-      go (yes e) = rw e lies
-      go (no e) = inside m l (λ z. ne (lowest-others left j lowest m e ∙ z))
-
-  pub first-block : First pool i left j
-  first-block = record {
-    few = j-lt;
-    inside = lies;
-    long = length-block pool (64 * i + j) lies;
-    split = record { is = next };
-    others-inside = others-lie;
-    less = lowest-less left j lowest (omega (arith, some-bit));
-  }
+    -- as do the others
+    pub others-inside : Inside pool i others
+    others-inside m l ne = go (ℕ-discrete m j)
+      where
+        go : Dec (m ≡ j) → 16 * (64 * i + m) + 16 ≤ length pool
+        go (yes e) = rw e first-inside
+        go (no o) = inside m l (λ z. ne (sym (getD-tabulate 64 (bitOf others) m FREE l) ∙ rw (← f .others) (getD-set-other (lanes left) j m FREE FREE o ∙ getD-tabulate 64 (bitOf left) m FREE l ∙ z)))
 
 -- ---- all used blocks, 64 at a time
 
@@ -191,12 +180,11 @@ groups-end pool es i h = rw (drop-of-length-le es h)
 -- `bits` has a bit where one of the entry's two is set
 module _ (pool es : List ℕ) (i low high bits : ℕ) (g : InGroup es i low high) (either-bit : (j : ℕ) → bitOf bits j ≡ max (bitOf low j) (bitOf high j)) where
   -- so it has none where the entry is FREE, as past the end of the table
-  group-alike : (j : ℕ) → isFree (entryAt (take 64 (drop (64 * i) es)) j) ≡ isFree (entryAt (tabulate 64 (bitOf bits)) j)
+  pub group-alike : (j : ℕ) → isFree (entryAt (groupIn es i) j) ≡ isFree (entryAt (lanes bits) j)
   group-alike j = go (decLt j 64)
     where
-      go : Dec (j < 64) → isFree (entryAt (take 64 (drop (64 * i) es)) j) ≡ isFree (entryAt (tabulate 64 (bitOf bits)) j)
-      go (no out) =
-          ap isFree (past-lanes (take 64 (drop (64 * i) es)) j (rw length-take (omega arith)) out ∙ sym (past-lanes (tabulate 64 (bitOf bits)) j (simp length-tabulate (omega arith)) out))
+      go : Dec (j < 64) → isFree (entryAt (groupIn es i) j) ≡ isFree (entryAt (lanes bits) j)
+      go (no out) = ap isFree (past-lanes (groupIn es i) j (rw length-take (omega arith)) out ∙ sym (past-lanes (lanes bits) j (simp length-tabulate (omega arith)) out))
       go (yes l) =
           rw (getD-take 64 (drop (64 * i) es) j FREE l, getD-drop (64 * i) es j FREE, g j l, getD-tabulate 64 (bitOf bits) j FREE l, either-bit j) (free-or (bitOf low j) (bitOf high j))
 
@@ -205,7 +193,7 @@ module _ (pool es : List ℕ) (i low high bits : ℕ) (g : InGroup es i low high
   group-next = record {
     is =
         let e : 64 * (i + 1) ≡ 64 * i + 64 = omega arith in
-        rw (e, ← drop-drop 64 (64 * i) es, ← used-alike pool (64 * i) (take 64 (drop (64 * i) es)) (tabulate 64 (bitOf bits)) group-alike) (used-split pool (64 * i) 64 (drop (64 * i) es));
+        rw (e, ← drop-drop 64 (64 * i) es, ← used-alike pool (64 * i) (groupIn es i) (lanes bits) group-alike) (used-split pool (64 * i) 64 (drop (64 * i) es));
   }
 
   -- they lie in the pool

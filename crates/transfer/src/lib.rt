@@ -1,36 +1,39 @@
 // The used blocks between a pool and the section of an image that holds them, one after the other.
 ghost use mathlib.Core.Path.{_≡_};
-ghost use mathlib.Core.Logic.{_≢_};
-ghost use Prim.Native.Nat.{ℕ, _+_, _*_, _≤_, _<_};
-ghost use lib.ListN.{length};
+ghost use Prim.Native.Nat.{_+_, _*_, _≤_, _<_, min};
+ghost use lib.ListN.{length, drop};
 ghost use lib.Seq.{sets};
-ghost use Rattle.rules.specs.Bits.{bitOf};
 ghost use Rattle.rules.specs.Tables.{used as usedOf};
 ghost use Rattle.rules.specs.Planes.{entriesIn, IsTable};
 ghost use Rattle.rules.specs.Images.{blockBytes, usedFrom};
-ghost use Rattle.transfer.specs.Copying.{blocksIn};
+ghost use Rattle.rules.specs.Files.{poolOf};
+ghost use Rattle.transfer.specs.Copying.{lanes, Inside, blocksIn, groupIn, withUsed};
 use numbers::Block;
+use numbers::Bytes;
 
-// The 16 bytes of block k are copied to `at`. All are read before the first is written: so the compiler moves them at once.
-fn copy_block(pool: &[u8], k: Block, image: &mut [u8], at: usize)
-    requires { ⌜ (k .0 < 4096) × ((16 * k .0 + 16 ≤ length (now pool)) × (at + 16 ≤ length (now image))) ⌝ }
-    ensures { λ _. ⌜ now (image .exit) ≡ sets (now (image .entry)) at (blockBytes (now (pool .entry)) (k .0)) ⌝ }
+// 64 blocks that are all used.
+const ALL: u64 = 18446744073709551615;
+
+// The 16 bytes of the source's block k are copied to `at` in the target. All are read before the first is written: so the compiler moves them at once.
+fn copy_block(source: &[u8], k: Block, target: &mut [u8], at: usize)
+    requires { ⌜ (k .0 < 4096) × ((16 * k .0 + 16 ≤ length (now source)) × (at + 16 ≤ length (now target))) ⌝ }
+    ensures { λ _. ⌜ now (target .exit) ≡ sets (now (target .entry)) at (blockBytes (now (source .entry)) (k .0)) ⌝ }
 {
     let i = k.first_word();
-    let a = memory::word(pool, i);
-    let b = memory::word(pool, i + 1);
-    let c = memory::word(pool, i + 2);
-    let d = memory::word(pool, i + 3);
-    memory::set_four_bytes(&mut *image, at, a);
-    memory::set_four_bytes(&mut *image, at + 4, b);
-    memory::set_four_bytes(&mut *image, at + 8, c);
-    memory::set_four_bytes(&mut *image, at + 12, d);
+    let a = memory::word(source, i);
+    let b = memory::word(source, i + 1);
+    let c = memory::word(source, i + 2);
+    let d = memory::word(source, i + 3);
+    memory::set_four_bytes(&mut *target, at, a);
+    memory::set_four_bytes(&mut *target, at + 4, b);
+    memory::set_four_bytes(&mut *target, at + 8, c);
+    memory::set_four_bytes(&mut *target, at + 12, d);
 }
 
 // Of the 64 blocks from block 64 * i on, those that have a bit in `used` are copied, from `at` on. Returns the place behind them. The lowest bit that is left goes with each
 // turn, by a difference: a shift by j would have the next turn wait for j.
 fn copy_group(pool: &[u8], i: usize, used: u64, image: &mut [u8], at: usize) -> usize
-    requires { ⌜ (i < 64) × ((at + length (blocksIn (now pool) i used) ≤ length (now image)) × ((j : ℕ) → j < 64 → bitOf used j ≢ 0 → 16 * (64 * i + j) + 16 ≤ length (now pool))) ⌝ }
+    requires { ⌜ (i < 64) × ((at + length (blocksIn (now pool) i used) ≤ length (now image)) × Inside (now pool) i used) ⌝ }
     ensures { λ r. ⌜ (now (image .exit) ≡ sets (now (image .entry)) at (blocksIn (now (pool .entry)) i used)) × (r ≡ at + length (blocksIn (now (pool .entry)) i used)) ⌝ }
 {
     let mut left = used;
@@ -55,6 +58,82 @@ pub fn gather(t: usize, pool: &[u8], table: &[u8], image: &mut [u8], at: usize)
     while 64 * i < n {
         let g = entries::group(t, table, i);
         to = copy_group(pool, i, g.low | g.high, &mut *image, to);
+        i += 1;
+    }
+}
+
+// Of the 64 blocks from block 64 * i on, those that have a bit in `used` get the next blocks of the bytes, block `first` and those behind it. Returns the block behind these.
+fn place_group(bytes: &[u8], first: usize, i: usize, used: u64, pool: &mut [u8]) -> usize
+    requires { ⌜ (i < 64) × ((first + usedOf (lanes used) ≤ 4096) × (16 * (first + usedOf (lanes used)) ≤ length (now bytes))) ⌝ }
+    requires { ⌜ Inside (now pool) i used ⌝ }
+    ensures { λ r. ⌜ (now (pool .exit) ≡ withUsed (now (pool .entry)) (64 * i) (lanes used) (drop (16 * first) (now (bytes .entry)))) × (r ≡ first + usedOf (lanes used)) ⌝ }
+{
+    let mut left = used;
+    let mut next = first;
+    while left != 0 {
+        let j = freeruns::first(left);
+        copy_block(
+            bytes,
+            Block::first().plus(next),
+            &mut *pool,
+            16 * (64 * i + j),
+        );
+        next += 1;
+        left = left & (left - 1);
+    }
+    next
+}
+
+// The block behind the 64 from block 64 * i on, or behind the last of n.
+fn group_end(n: usize, i: usize) -> usize
+    requires { ⌜ i < 64 ⌝ }
+    ensures { λ r. ⌜ r ≡ min (64 * i + 64) n ⌝ }
+{
+    let end = 64 * i + 64;
+    if end < n {
+        return end;
+    }
+    n
+}
+
+// The 64 blocks from block 64 * i on, or as many as there are: the used ones get the next blocks of the bytes, block `first` and those behind it, and the others become zero.
+// Returns the block behind these. Where all are used, they are one part of the bytes.
+fn fill_group(
+    t: usize,
+    bytes: &[u8],
+    first: usize,
+    table: &[u8],
+    i: usize,
+    pool: &mut [u8],
+) -> usize
+    requires { ⌜ IsTable t (now table) × ((64 * i < length (entriesIn t (now table))) × (length (now pool) ≡ 16 * length (entriesIn t (now table)))) ⌝ }
+    requires { ⌜ (first + usedOf (groupIn (entriesIn t (now table)) i) ≤ 4096) × (16 * (first + usedOf (groupIn (entriesIn t (now table)) i)) ≤ length (now bytes)) ⌝ }
+    ensures { λ r. ⌜ (now (pool .exit) ≡ sets (now (pool .entry)) (1024 * i) (poolOf (groupIn (entriesIn t (now (table .entry))) i) (drop (16 * first) (now (bytes .entry)))))
+        × (r ≡ first + usedOf (groupIn (entriesIn t (now (table .entry))) i)) ⌝ }
+{
+    let g = entries::group(t, table, i);
+    let used = g.low | g.high;
+    if used == ALL {
+        let from = 16 * first;
+        let to = from + 1024;
+        memory::set_part(&mut *pool, 1024 * i, &bytes[from..to]);
+        return first + 64;
+    }
+    let end = group_end(entries::blocks(t), i);
+    memory::clear_part(&mut *pool, Bytes::of_blocks(64 * i), Bytes::of_blocks(end));
+    place_group(bytes, first, i, used, &mut *pool)
+}
+
+// The pool of a table's entries: each used block gets the next 16 of the bytes, and every other byte becomes zero.
+pub fn scatter(t: usize, bytes: &[u8], table: &[u8], pool: &mut [u8])
+    requires { ⌜ IsTable t (now table) × ((length (now pool) ≡ 16 * length (entriesIn t (now table))) × (length (now bytes) ≡ 16 * usedOf (entriesIn t (now table)))) ⌝ }
+    ensures { λ _. ⌜ now (pool .exit) ≡ poolOf (entriesIn t (now (table .entry))) (now (bytes .entry)) ⌝ }
+{
+    let n = entries::blocks(t);
+    let mut i = 0;
+    let mut next = 0;
+    while 64 * i < n {
+        next = fill_group(t, bytes, next, table, i, &mut *pool);
         i += 1;
     }
 }

@@ -65,7 +65,7 @@ returns c =
     let start = index .before .before .before in
     last .set-four-bytes4 .ensures
     ∙ rw (third .set-four-bytes3 .ensures, second .set-four-bytes2 .ensures, first .set-four-bytes .ensures, read .word4 .ensures, read .before .word3 .ensures, read .before .before .word2 .ensures, read .before .before .before .word .ensures)
-    (four-words (start .args .pool .now) (start .args .k .0) (λ i. index .before .before .shared-slice-known .given i .fits) (start .pre .1 .0) (start .args .image .now) (start .args .at) (index .first-word .result) (index .first-word .ensures))
+    (four-words (start .args .source .now) (start .args .k .0) (λ i. index .before .before .shared-slice-known .given i .fits) (start .pre .1 .0) (start .args .target .now) (start .args .at) (index .first-word .result) (index .first-word .ensures))
 
 pub copy-block-spec : {M : Type 1} → statement M
 copy-block-spec =

@@ -1,12 +1,15 @@
 -- `copy_group`: the block of the first bit is copied and the bit cleared, as long as there is one. What remains is the blocks of the bits that are left.
 -- Assumes nothing.
 use mathlib.Core.Path.{_≡_}
-use Prim.Native.Nat.{_+_, _*_, _^_, _≤_, _<_}
+use mathlib.Core.List.{List}
+use Prim.Native.Nat.{ℕ, _+_, _*_, _^_, _≤_, _<_}
 use native.Mathlib.Omega.{arith}
 use lib.ListN.{length}
 use borrow.Author.Needs.{needs}
-use Rattle.transfer.specs.Copying.{blocksIn}
-use Rattle.transfer.proofs.Copying.{Remains, remains-all, remains-none, remains-room, remains-next, Inside, blocks-none, First, first-block}
+use Rattle.rules.specs.Images.{blockBytes}
+use Rattle.rules.proofs.Images.{length-block}
+use Rattle.transfer.specs.Copying.{Inside, blocksIn}
+use Rattle.transfer.proofs.Copying.{Remains, remains-all, remains-none, remains-room, remains-next, blocks-none, First, first-bit, first-split, first-inside, others-inside}
 use Rattle.transfer.proofs.copy_group.Statement.{statement}
 use Rattle.transfer.proofs.copy_group.Tie as tie
 
@@ -29,14 +32,21 @@ module _ (c : tie.After-first Inv-loop μ-loop) where
   abbrev start : tie.Start Inv-loop μ-loop
   start = c .before .before .before .before .before
 
-  turn : First (start .args .pool .now) (start .args .i) (c .before .before .loop .left) (c .first .result)
-  turn =
-      let inv = c .before .before .loop .inv in
-      first-block (start .args .pool .now) (start .args .i) (c .before .before .loop .left) (c .first .result) (inv .0) (c .before .loop-test .taken) (c .first .ensures) (inv .1 .0)
+  abbrev pool : List ℕ
+  pool = start .args .pool .now
+
+  turn : First (c .before .before .loop .left) (c .first .result)
+  turn = first-bit (c .before .before .loop .left) (c .first .result) (c .before .before .loop .inv .0) (c .before .loop-test .taken) (c .first .ensures)
+
+  inside : 16 * (64 * start .args .i + c .first .result) + 16 ≤ length pool
+  inside = first-inside pool (start .args .i) (c .before .before .loop .left) (c .first .result) turn (c .before .before .loop .inv .1 .0)
+
+  long : length (blockBytes pool (64 * start .args .i + c .first .result)) ≡ 16
+  long = length-block pool (64 * start .args .i + c .first .result) inside
 
   -- there is room for its block in the image
   room : c .before .before .loop .to + 16 ≤ length (c .before .before .loop .image)
-  room = rw (← turn .long) (remains-room (c .before .before .loop .inv .1 .1) (turn .split) (start .pre .1 .0))
+  room = rw (← long) (remains-room (c .before .before .loop .inv .1 .1) (first-split pool (start .args .i) (c .before .before .loop .left) (c .first .result) turn) (start .pre .1 .0))
 
 -- that block
 block-is : (c : tie.After-plus Inv-loop μ-loop) → c .plus .result .0 ≡ 64 * start (c .before .before) .args .i + c .before .before .first .result
@@ -57,7 +67,7 @@ plus-requires c κs = omega (arith, turn (c .before) .few, c .first2 .ensures)
 copy-block-requires : tie.Need-copy-block-requires Inv-loop μ-loop
 copy-block-requires c κs =
     let bit = c .before .before .before in
-    (omega (arith, block-is (c .before), turn bit .few), (rw (block-is (c .before)) (turn bit .inside), room bit))
+    (omega (arith, block-is (c .before), turn bit .few), (rw (block-is (c .before)) (inside bit), room bit))
 
 add-to : tie.Need-add-to Inv-loop μ-loop
 add-to c = record { fits = omega (arith, room (c .before .before .before .before .before .before)) }
@@ -71,11 +81,13 @@ loop-less c = turn (c .before .before .before .before .before .before) .less
 loop-again : tie.Need-loop-again Inv-loop μ-loop
 loop-again c =
     let bit = c .before .before .before .before .before .before in
-    let inv = bit .before .before .loop .inv in (
-      omega (arith, turn bit .less, inv .0),
+    let l = bit .before .before .loop in
+    let i = start bit .args .i in
+    let j = bit .first .result in (
+      omega (arith, turn bit .less, l .inv .0),
       (
-        turn bit .others-inside,
-        remains-next (inv .1 .1) (turn bit .split) (rw (← block-is (c .before .before .before .before)) (c .before .before .copy-block .ensures)) (rw (turn bit .long)),
+        others-inside (pool bit) i (l .left) j (turn bit) (l .inv .1 .0),
+        remains-next (l .inv .1 .1) (first-split (pool bit) i (l .left) j (turn bit)) (rw (← block-is (c .before .before .before .before)) (c .before .before .copy-block .ensures)) (rw (long bit)),
       ),
     )
 
