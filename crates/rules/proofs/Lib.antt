@@ -17,6 +17,7 @@ pub mod Pools
 pub mod Images
 pub mod Files
 pub mod Faults
+pub mod Sections
 pub mod Opening
 pub mod RoundTrips
 pub mod Twice
