@@ -6,9 +6,9 @@ use mathlib.Core.Path.{_≡_, refl, sym, ap, _∙_}
 use mathlib.Core.Bool.{Bool, true, false, not}
 use mathlib.Core.List.{List, [], _∷_, _++_}
 use mathlib.Core.Option.{Option, some, none}
-use Prim.Native.Nat.{ℕ, _*_, _≤_, _<_}
+use Prim.Native.Nat.{ℕ, zero, suc, _*_, _≤_, _<_}
 use native.Mathlib.Omega.{arith}
-use lib.Dec.{leb}
+use lib.Dec.{eqb, leb}
 use lib.ListN.{length}
 use borrow.Author.Tests.{eq-eqb, ne-eqb, le-leb}
 use Rattle.rules.specs.Pointers.{goodBase}
@@ -17,7 +17,7 @@ use Rattle.rules.specs.Meaning.{AllBytes, Extent}
 use Rattle.rules.specs.Outcomes.{Heap, Outcome, onlyRefusal, changeFrom, leavesWith, unlessRefused}
 use Rattle.rules.specs.Refusals.{Test, firstOf, goodShape, badShape, illFormed, heapTests, outside, noHead}
 use Rattle.rules.specs.Calls.{placing}
-use Rattle.rules.proofs.Refusals.{first-yes, first-no, refuses}
+use Rattle.rules.proofs.Refusals.{numbered, first-yes, first-no, first-more, first-less, refuses}
 use Rattle.plain.specs.Objects.{Object, Plain, find}
 use Rattle.plain.specs.Replies.{Reply, refuse, refuseIf, places, onObject, named, misplaced}
 use Rattle.plain.proofs.Laid.{Lies, Laid, laid-well, Found, missing, there, finds}
@@ -51,6 +51,16 @@ module _ {p : Plain} {h : Heap} (r : Represents p h) where
   agree-test t ts true stack acted x pos e f = rw (refuses (t .number) h stack acted (first-yes t ts e) pos) (agree-refused (t .number) stack)
   agree-test t ts false stack acted x pos e f = rw (first-no t ts e) (f refl)
 
+  -- several tests, which are one on the list: the number of the first that holds
+  pub agree-tests : (us ts : List Test) (stack : List ℕ) (acted : Outcome) (x : Reply) → numbered us ≡ true
+      → (firstOf us ≡ 0 → Agrees x (unlessRefused (firstOf ts) h stack acted)) → Agrees (refuseIf (not (eqb (firstOf us) 0)) (firstOf us) p x) (unlessRefused (firstOf (us ++ ts)) h stack acted)
+  agree-tests us ts stack acted x k f = go (firstOf us) refl
+    where
+      go : (n : ℕ) → firstOf us ≡ n → Agrees (refuseIf (not (eqb n 0)) n p x) (unlessRefused (firstOf (us ++ ts)) h stack acted)
+      go zero e = rw (first-more us ts k e) (f e)
+      go (suc n) e =
+          rw (ne-eqb (suc n) 0 (λ z. omega arith), refuses (suc n) h stack acted (first-less us ts (suc n) (omega arith) e) (omega arith)) (agree-refused (suc n) stack)
+
   -- a test on the table alone, that does not hold
   pub agree-skip : (t : Test) (ts : List Test) (stack : List ℕ) (acted : Outcome) (x : Reply) → t .holds ≡ false
       → Agrees x (unlessRefused (firstOf ts) h stack acted) → Agrees x (unlessRefused (firstOf (t ∷ ts)) h stack acted)
@@ -64,7 +74,7 @@ module _ {p : Plain} {h : Heap} (r : Represents p h) where
       → Agrees x (unlessRefused (firstOf (illFormed h ∷ ts)) h stack acted)
   agree-well ts stack acted x f = agree-skip (illFormed h) ts stack acted x (rw (laid-well (r .laid))) f
 
-  -- the tests of every call but init: the base suits, and the table is well-formed
+  -- the tests that come first in a call that reads the table: the base suits, and the table is well-formed
   pub agree-heap : (base : ℕ) (ts : List Test) (stack : List ℕ) (acted : Outcome) (x : Reply) → Agrees x (unlessRefused (firstOf ts) h stack acted)
       → Agrees (refuseIf (misplaced base p) 1 p x) (unlessRefused (firstOf (heapTests base h ++ ts)) h stack acted)
   agree-heap base ts stack acted x f =

@@ -1,16 +1,17 @@
 -- What the theorems come to. No answer and no image depends on the table's form; the sum of changes is one over the answers; the list's collection keeps
--- the reachable objects of all memory that an init accepts; these are fixed by that, and stand in rising order, each once.
+-- the reachable objects of all memory that an init or an opening accepts; these are fixed by that, and stand in rising order, each once.
 -- Assumes nothing.
-use mathlib.Core.Path.{_≡_, refl, sym, subst, _∙_}
+use mathlib.Core.Path.{_≡_, refl, sym, ap, subst, _∙_}
 use mathlib.Core.Bool.{Bool, true, false, not}
 use mathlib.Core.List.{List, [], _∷_, List·Memᴰ, List·Memᴰ·head, List·Memᴰ·tail}
 use mathlib.Core.Option.{Option, some, none}
 use Prim.Native.Nat.{ℕ, _≤_, _<_, _/_}
+use native.Mathlib.Decide.{decLt}
 use native.Mathlib.Omega.{arith}
-use lib.Dec.{T, ltb}
+use lib.Dec.{T, ltb, ltb→lt}
 use lib.IntN.{ℤ, pos}
-use lib.ListN.{length}
-use Rattle.rules.specs.Tests.{pick, both}
+use lib.ListN.{length, getD, List·getD-eq-default}
+use Rattle.rules.specs.Tests.{pick, both, isNone, orElse}
 use Rattle.rules.specs.Words.{wordsOf}
 use Rattle.rules.specs.Pointers.{goodBase}
 use Rattle.rules.specs.Tables.{used}
@@ -18,43 +19,46 @@ use Rattle.rules.specs.Forms.{Form, Faithful}
 use Rattle.rules.specs.Meaning.{AllBytes}
 use Rattle.rules.specs.Outcomes.{Answer}
 use Rattle.rules.specs.Refusals.{wholeWords}
-use Rattle.rules.specs.Runs.{Init, Collect, Turn}
+use Rattle.rules.specs.Runs.{Call, Collect, fileIn, Turn, EveryFile}
+use Rattle.rules.specs.Runs as runs
 use Rattle.rules.specs.Memory.{Memory, heapIn, AcceptedIn, perform, turnIn, afterIn, answersIn, filledIn}
-use Rattle.rules.proofs.Refusals.{shape-true}
+use Rattle.rules.proofs.Below.{allBelow, below}
+use Rattle.rules.proofs.Refusals.{true-not-false}
+use Rattle.rules.proofs.Memory.{passes-in}
 use Rattle.plain.specs.Objects.{Object, Plain, end, Rising, done, next}
 use Rattle.plain.specs.Tracing.{isIn, ledTo, trace, among}
 use Rattle.plain.specs.Reaching.{Reachable, root, edge, Keeps}
 use Rattle.plain.specs.Replies.{Reply, refuseIf, collectedBy, reply, left}
-use Rattle.plain.specs.Refines.{fromInit, AnswersAsList, ImagesAsList, ListKeepsReachable, counted, changes, UsedIsSum}
+use Rattle.plain.specs.Refines.{startsAnew, from, AnswersAsList, ImagesAsList, ListKeepsReachable, counted, changes, UsedIsSum}
 use Rattle.plain.proofs.Laid as lie
-use Rattle.plain.proofs.Inits.{shape-in}
+use Rattle.plain.proofs.Inits.{anew, anew-few}
 use Rattle.plain.proofs.Sums.{used-is-sum}
 use Rattle.plain.proofs.Refinement.{answers-as-list, images-as-list}
 use Rattle.plain.proofs.Reached.{led-member, left-represents, blank-represents, list-keeps-reachable}
 
 -- ---- any form
 
--- no answer depends on the table's form, nor on what memory held before the init: two memories with as many entries answer alike, each in a form of its own
-pub forms-alike : (f g : Form) → Faithful f → Faithful g → (base : ℕ) (m n : Memory) (ts : List Turn)
-    → AcceptedIn (perform f (Init base) [] m) → AcceptedIn (perform g (Init base) [] n) → length (f .read (m .table)) ≡ length (g .read (n .table))
-    → answersIn f (fromInit base ts) m ≡ answersIn g (fromInit base ts) n
+-- no answer depends on the table's form, nor on what memory held before the init or the opening: two memories with as many entries answer alike, each in a form of its own
+pub forms-alike : (f g : Form) → Faithful f → Faithful g → (c : Call) (m n : Memory) (ts : List Turn) → startsAnew c ≡ true
+    → AcceptedIn (perform f c [] m) → AcceptedIn (perform g c [] n) → length (f .read (m .table)) ≡ length (g .read (n .table))
+    → answersIn f (from c ts) m ≡ answersIn g (from c ts) n
 unfolding AnswersAsList
-forms-alike f g faithful faithful′ base m n ts z z′ same =
+forms-alike f g faithful faithful′ c m n ts starts z z′ same =
     let p : Plain = record { size = length (f .read (m .table)); objects = [] } in
-    answers-as-list f faithful base m p ts z refl ∙ sym (answers-as-list g faithful′ base n p ts z′ same)
+    answers-as-list f faithful c m p ts starts z refl ∙ sym (answers-as-list g faithful′ c n p ts starts z′ same)
 
--- nor does what the calls write into buffers: no image depends on the form, nor shows what the pool held before the init
-pub images-alike : (f g : Form) → Faithful f → Faithful g → (base : ℕ) (m n : Memory) (ts : List Turn) → AllBytes (m .pool) → AllBytes (n .pool)
-    → AcceptedIn (perform f (Init base) [] m) → AcceptedIn (perform g (Init base) [] n) → length (f .read (m .table)) ≡ length (g .read (n .table))
-    → filledIn f (fromInit base ts) m ≡ filledIn g (fromInit base ts) n
+-- nor does what the calls write into buffers: no image depends on the form, nor shows what the pool held before the init or the opening
+pub images-alike : (f g : Form) → Faithful f → Faithful g → (c : Call) (m n : Memory) (ts : List Turn) → AllBytes (m .pool) → AllBytes (n .pool) → EveryFile AllBytes (from c ts)
+    → startsAnew c ≡ true → AcceptedIn (perform f c [] m) → AcceptedIn (perform g c [] n) → length (f .read (m .table)) ≡ length (g .read (n .table))
+    → filledIn f (from c ts) m ≡ filledIn g (from c ts) n
 unfolding ImagesAsList
-images-alike f g faithful faithful′ base m n ts bytes bytes′ z z′ same =
+images-alike f g faithful faithful′ c m n ts bytes bytes′ files starts z z′ same =
     let p : Plain = record { size = length (f .read (m .table)); objects = [] } in
-    images-as-list f faithful base m bytes z p ts refl ∙ sym (images-as-list g faithful′ base n bytes′ z′ p ts same)
+    images-as-list f faithful c m p ts bytes files starts z refl ∙ sym (images-as-list g faithful′ c n p ts bytes′ files starts z′ same)
 
 -- ---- the sum of changes
 
--- the sum d and the changes in the answers to the calls; an accepted init starts it anew
+-- the sum d and the changes in the answers to the calls; an accepted init or opening starts it anew
 unfoldable pub summed : List Turn → List Answer → ℤ → ℤ
 summed [] xs d = d
 summed (t ∷ ts) [] d = d
@@ -67,21 +71,21 @@ changes-answered f [] m d = refl
 changes-answered f (t ∷ ts) m d = let r = turnIn f t m in changes-answered f ts (r .memory) (counted (t .call) (r .answer) d)
 
 -- and then knows how many blocks are used
-pub used-answered : (f : Form) → Faithful f → (base : ℕ) (m : Memory) (ts : List Turn) (d : ℤ) → AcceptedIn (perform f (Init base) [] m)
-    → pos (used (f .read (afterIn f (fromInit base ts) m .table))) ≡ summed (fromInit base ts) (answersIn f (fromInit base ts) m) d
+pub used-answered : (f : Form) → Faithful f → (c : Call) (m : Memory) (ts : List Turn) (d : ℤ) → startsAnew c ≡ true → AcceptedIn (perform f c [] m)
+    → pos (used (f .read (afterIn f (from c ts) m .table))) ≡ summed (from c ts) (answersIn f (from c ts) m) d
 unfolding UsedIsSum
-used-answered f faithful base m ts d z = sym (used-is-sum f faithful base m ts d z) ∙ changes-answered f (fromInit base ts) m d
+used-answered f faithful c m ts d starts z = sym (used-is-sum f faithful c m ts d starts z) ∙ changes-answered f (from c ts) m d
 
 -- ---- what is kept
 
--- any memory that an init accepts, with the calls after it on any base
-pub heap-keeps : (f : Form) (base : ℕ) (m : Memory) (ts : List Turn) (at room : ℕ) (roots : List ℕ) → AcceptedIn (perform f (Init base) [] m)
-    → let os : List Object = left ts (record { size = length (f .read (m .table)); objects = [] }) .objects in
+-- any memory that an init or an opening accepts, with the calls after it on any base
+pub heap-keeps : (f : Form) (c : Call) (m : Memory) (ts : List Turn) (at room : ℕ) (roots : List ℕ) → startsAnew c ≡ true → AcceptedIn (perform f c [] m)
+    → let os : List Object = left (from c ts) (record { size = length (f .read (m .table)); objects = [] }) .objects in
     Keeps at os roots (among (trace (record { base = at; objects = os; room = room }) roots .reached) os)
 unfolding ListKeepsReachable
-heap-keeps f base m ts at room roots z =
-    let s = shape-true base (heapIn f m) (shape-in f base m z) in
-    list-keeps-reachable (length (f .read (m .table))) ts at room roots (s .some) (s .few)
+heap-keeps f c m ts at room roots starts z =
+    let few = anew-few (anew c [] (heapIn f m) starts (passes-in f c [] m z .own)) in
+    list-keeps-reachable (length (f .read (m .table))) (from c ts) at room roots (few .0) (few .1)
 
 -- an accepted call passes each test, and its reply is what comes after
 passes : (b : Bool) (r : ℕ) (p : Plain) (x : Reply) → 0 < r → refuseIf b r p x .answer .refusal ≡ 0 → refuseIf b r p x ≡ x
@@ -184,3 +188,24 @@ module _ (base : ℕ) (os : List Object) (roots : List ℕ) (s : Object → Bool
       go : (b : Bool) → T b → T (pick b (allOf (leadsInto base os s) (x .words)) true) → T (allOf (leadsInto base os s) (x .words))
       go true t u = u
       go false t u = absurd t
+
+-- ---- files of bytes
+
+-- computed: every element of the file that a call reads is a byte
+abbrev pub bytesIn : Option (List ℕ) → Bool
+bytesIn none = true
+bytesIn (some image) = allBelow (length image) (λ (i : ℕ). ltb (getD image i 0) 256)
+
+bytes-in : (x : Option (List ℕ)) → T (bytesIn x) → (image : List ℕ) → x ≡ some image → AllBytes image
+bytes-in none t image e = absurd (true-not-false (sym (ap isNone e)) refl)
+bytes-in (some bs) t image e = subst AllBytes (ap (λ (x : Option (List ℕ)). orElse x []) e) (λ i. go i (decLt i (length bs)))
+  where
+    go : (i : ℕ) → Dec (i < length bs) → getD bs i 0 < 256
+    go i (yes l) = ltb→lt (getD bs i 0) 256 (below (length bs) (λ (k : ℕ). ltb (getD bs k 0) 256) t i l)
+    go i (no l) = let z : getD bs i 0 ≡ 0 = List·getD-eq-default bs 0 (omega arith) in omega arith
+
+-- so are all files that the calls read
+pub files-of : (ts : List Turn) → T (allOf (λ (t : Turn). bytesIn (fileIn (t .call))) ts) → EveryFile AllBytes ts
+unfolding allOf
+files-of [] h = runs.done
+files-of (t ∷ ts) h = let p = both-parts (bytesIn (fileIn (t .call))) _ h in runs.next (bytes-in (fileIn (t .call)) (p .0)) (files-of ts (p .1))

@@ -11,6 +11,7 @@ pub mod Resizes
 pub mod Traces
 pub mod Sweeps
 pub mod Images
+pub mod Opens
 pub mod Refinement
 pub mod Reached
 pub mod Consequences

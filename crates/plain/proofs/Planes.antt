@@ -1,5 +1,5 @@
 -- The theorems used from a table with every spare bit set, and in another form than two planes, the packed one.
--- The init is accepted all the same, and what the calls after it answer and write is what they do on the planes of the samples.
+-- The init or the opening is accepted all the same, and what the calls after it answer and write is what they do on the planes of the samples.
 -- Assumes nothing.
 use mathlib.Core.Path.{_≡_, refl, _∙_}
 use mathlib.Core.Bool.{false}
@@ -8,22 +8,24 @@ use lib.IntN.{pos}
 use lib.ListN.{replicate}
 use Rattle.rules.specs.Tests.{count, tabulate}
 use Rattle.rules.specs.Bits.{bitOf, bitAt}
+use Rattle.rules.specs.Words.{number, firstTwo, wordAt}
 use Rattle.rules.specs.Entries.{entryOf, entriesOf}
-use Rattle.rules.specs.Tables.{used}
+use Rattle.rules.specs.Tables.{mayFollow, wellAfter, wellFormed, used}
 use Rattle.rules.specs.Pointers.{addressOf, goodBase}
 use Rattle.rules.specs.Forms.{packed}
 use Rattle.rules.specs.Planes.{planeBytes, entryIn, entriesIn, spare, spareFree, planes}
 use Rattle.rules.specs.Outcomes.{unlessRefused}
 use Rattle.rules.specs.Refusals.{firstOf, goodShape}
-use Rattle.rules.specs.Calls.{init}
-use Rattle.rules.specs.Runs.{Init, step}
+use Rattle.rules.specs.Files.{sectionIn, sectionTests, fileOf, fileTests, faultOf}
+use Rattle.rules.specs.Calls.{init, goodTarget, openImage}
+use Rattle.rules.specs.Runs.{Init, OpenImage, step}
 use Rattle.rules.specs.Memory.{Memory, memory, AcceptedIn, orRefused, perform, afterIn, answersIn, filledIn}
 use Rattle.rules.proofs.Memory.{packed-faithful}
 use Rattle.rules.proofs.Planes.{same-length, planes-faithful}
 use Rattle.plain.specs.Refines.{counted}
-use Rattle.plain.specs.Examples.{runBase, filling, ending, run, garbage, run-accepted, runAnswers, imaging, imageRun, imageFillings}
+use Rattle.plain.specs.Examples.{runBase, filling, ending, run, garbage, run-accepted, runAnswers, imaging, imageRun, imageFillings, strewn, reopened, openRun, openAnswers, openFillings, spent, spent-accepted}
 use Rattle.plain.proofs.Consequences.{forms-alike, images-alike, summed, used-answered}
-use Rattle.plain.proofs.Samples.{garbage-answers, ones-bytes, garbage-images}
+use Rattle.plain.proofs.Samples.{garbage-answers, ones-bytes, no-files, garbage-images, spent-bytes, open-files, opened-run}
 
 -- ---- spare bits
 
@@ -39,7 +41,7 @@ unclean-accepted = (refl, refl)
 -- the run is answered as on the clean table
 pub unclean-answers : answersIn (planes 3) run unclean ≡ runAnswers
 unclean-answers =
-    forms-alike (planes 3) (planes 3) (planes-faithful 3) (planes-faithful 3) runBase unclean garbage (filling ++ ending) (unclean-accepted .0) (run-accepted .0)
+    forms-alike (planes 3) (planes 3) (planes-faithful 3) (planes-faithful 3) (Init runBase) unclean garbage (filling ++ ending) refl (unclean-accepted .0) (run-accepted .0)
     (same-length 3 (unclean .table) (garbage .table))
     ∙ garbage-answers
 
@@ -47,13 +49,13 @@ unclean-answers =
 pub unclean-used : used (entriesIn 3 (afterIn (planes 3) run unclean .table)) ≡ 10
 unfolding summed counted filling ending runAnswers
 unclean-used =
-    let s = rw unclean-answers at (used-answered (planes 3) (planes-faithful 3) runBase unclean (filling ++ ending) (pos 99) (unclean-accepted .0)) in
+    let s = rw unclean-answers at (used-answered (planes 3) (planes-faithful 3) (Init runBase) unclean (filling ++ ending) (pos 99) refl (unclean-accepted .0)) in
     cc
 
 -- and the images are the same
 pub unclean-images : filledIn (planes 3) imageRun unclean ≡ imageFillings
 unclean-images =
-    images-alike (planes 3) (planes 3) (planes-faithful 3) (planes-faithful 3) runBase unclean garbage imaging ones-bytes ones-bytes
+    images-alike (planes 3) (planes 3) (planes-faithful 3) (planes-faithful 3) (Init runBase) unclean garbage imaging ones-bytes ones-bytes no-files refl
     (unclean-accepted .0) (run-accepted .0) (same-length 3 (unclean .table) (garbage .table))
     ∙ garbage-images .1
 
@@ -71,19 +73,44 @@ packed-accepted = refl
 pub packed-answers : answersIn packed run packedOnes ≡ runAnswers
 unfolding tabulate entriesIn entriesOf
 packed-answers =
-    forms-alike packed (planes 3) packed-faithful (planes-faithful 3) runBase packedOnes garbage (filling ++ ending) packed-accepted (run-accepted .0) refl ∙ garbage-answers
+    forms-alike packed (planes 3) packed-faithful (planes-faithful 3) (Init runBase) packedOnes garbage (filling ++ ending) refl packed-accepted (run-accepted .0) refl ∙ garbage-answers
 
 -- and uses as many blocks
 pub packed-used : used (entriesOf (afterIn packed run packedOnes .table)) ≡ 10
 unfolding summed counted filling ending runAnswers
 packed-used =
-    let s = rw packed-answers at (used-answered packed packed-faithful runBase packedOnes (filling ++ ending) (pos 99) packed-accepted) in
+    let s = rw packed-answers at (used-answered packed packed-faithful (Init runBase) packedOnes (filling ++ ending) (pos 99) refl packed-accepted) in
     cc
 
 -- and the images are the same
 pub packed-images : filledIn packed imageRun packedOnes ≡ imageFillings
 unfolding tabulate entriesIn entriesOf
 packed-images =
-    images-alike packed (planes 3) packed-faithful (planes-faithful 3) runBase packedOnes garbage imaging ones-bytes ones-bytes
+    images-alike packed (planes 3) packed-faithful (planes-faithful 3) (Init runBase) packedOnes garbage imaging ones-bytes ones-bytes no-files refl
     packed-accepted (run-accepted .0) refl
     ∙ garbage-images .1
+
+-- ---- another form, from an opening on
+
+-- as many blocks as the file has
+abbrev pub packedSpent : Memory
+packedSpent = memory (replicate 64 255) (replicate 1 255)
+
+packed-opens : AcceptedIn (perform packed (OpenImage strewn 8) [] packedSpent)
+unfolding perform orRefused step openImage unlessRefused firstOf goodShape goodBase addressOf count tabulate mayFollow wellAfter wellFormed used number firstTwo wordAt entryOf entriesOf sectionIn sectionTests fileOf fileTests faultOf goodTarget
+packed-opens = refl
+
+-- the run is answered as on the planes, and writes the same
+pub packed-opened : (answersIn packed openRun packedSpent ≡ openAnswers) × (filledIn packed openRun packedSpent ≡ openFillings)
+unfolding tabulate entriesIn entriesOf
+packed-opened = (
+  forms-alike packed (planes 1) packed-faithful (planes-faithful 1) (OpenImage strewn 8) packedSpent spent reopened refl packed-opens (spent-accepted .0) refl ∙ opened-run .0,
+  images-alike packed (planes 1) packed-faithful (planes-faithful 1) (OpenImage strewn 8) packedSpent spent reopened spent-bytes spent-bytes open-files refl packed-opens (spent-accepted .0) refl ∙ opened-run .1,
+)
+
+-- and leaves as many blocks in use
+pub packed-opened-used : used (entriesOf (afterIn packed openRun packedSpent .table)) ≡ 1
+unfolding summed counted count tabulate firstTwo used entryOf entriesOf sectionIn fileOf reopened openAnswers
+packed-opened-used =
+    let s = rw (packed-opened .0) at (used-answered packed packed-faithful (OpenImage strewn 8) packedSpent reopened (pos 99) refl packed-opens) in
+    cc

@@ -1,4 +1,4 @@
--- The heap is a plain list: an accepted init makes the heap represent the empty list, and each call after it agrees with the list's rule.
+-- The heap is a plain list: an accepted init makes the heap represent the empty list, an accepted opening the file's, and each call after it agrees with the list's rule.
 -- The calls on lent memory are those on the heap in it.
 -- Assumes nothing.
 use mathlib.Core.Path.{_≡_, refl, sym, ap, _∙_}
@@ -6,28 +6,27 @@ use mathlib.Core.Bool.{true}
 use mathlib.Core.List.{List, [], _∷_}
 use Prim.Native.Nat.{ℕ, _*_}
 use lib.ListN.{length, replicate, length-replicate}
-use borrow.Author.Tests.{eq-eqb, le-leb}
 use Rattle.rules.specs.Entries.{FREE}
-use Rattle.rules.specs.Pointers.{addressOf, goodBase}
 use Rattle.rules.specs.Outcomes.{Heap}
 use Rattle.rules.specs.Meaning.{AllBytes}
 use Rattle.rules.specs.Refusals.{goodShape}
 use Rattle.rules.specs.Calls.{init}
-use Rattle.rules.specs.Runs.{Call, Init, Allocate, Free, Reallocate, Collect, Survey, Load, Store, WriteImage, Turn, step, answers, fillings as filledOn}
+use Rattle.rules.specs.Runs.{Call, Init, Allocate, Free, Reallocate, Collect, Survey, Load, Store, WriteImage, OpenImage, Turn, EveryFile, next, step, answers, fillings as filledOn}
 use Rattle.rules.specs.Memory.{heapIn, perform, answersIn, filledIn}
 use Rattle.rules.proofs.Refusals.{shape-true}
 use Rattle.rules.proofs.Sizes.{step-keeps}
-use Rattle.rules.proofs.Memory.{answers-in, filled-in}
+use Rattle.rules.proofs.Memory.{passes-in, follows-accepted, answers-in, filled-in}
 use Rattle.plain.specs.Objects.{Plain}
 use Rattle.plain.specs.Replies.{reply, replies, fillings}
 use Rattle.plain.specs.Refines.{AnswersAsList, ImagesAsList}
-use Rattle.plain.proofs.Inits.{init-accepted, init-follows, shape-in}
+use Rattle.plain.proofs.Inits.{shape-base, init-accepted, Anew, inits, opened, anew}
 use Rattle.plain.proofs.Agrees.{Represents, Agrees}
 use Rattle.plain.proofs.Acts.{empty-laid, init-agrees, survey-agrees, load-agrees, store-agrees}
 use Rattle.plain.proofs.Places.{free-agrees, allocate-agrees}
 use Rattle.plain.proofs.Resizes.{reallocate-agrees}
 use Rattle.plain.proofs.Sweeps.{collect-agrees}
 use Rattle.plain.proofs.Images.{image-agrees}
+use Rattle.plain.proofs.Opens.{open-agrees, first-open}
 
 -- each call
 pub step-agrees : (c : Call) (stack : List ℕ) {p : Plain} {h : Heap} → Represents p h → Agrees (reply c stack p) (step c stack h)
@@ -41,6 +40,7 @@ step-agrees (Survey base) stack r = survey-agrees r base stack
 step-agrees (Load base k i) stack r = load-agrees r base k i stack
 step-agrees (Store base k i w) stack r = store-agrees r base k i w stack
 step-agrees (WriteImage base roots room) stack r = image-agrees r base roots room stack
+step-agrees (OpenImage image room) stack r = open-agrees image room r stack
 
 -- one and those after it
 both-same : {A : Type 0} {a b : A} {xs ys : List A} → a ≡ b → xs ≡ ys → a ∷ xs ≡ b ∷ ys
@@ -54,39 +54,45 @@ all-agree (t ∷ ts) r =
     let a = step-agrees (t .call) (t .stack) r in
     both-same (a .answer) (all-agree ts (a .heap))
 
--- and what they write into buffers, from a pool of bytes on
-all-filled : (ts : List Turn) {p : Plain} {h : Heap} → Represents p h → AllBytes (h .pool) → filledOn ts h ≡ fillings ts p
+-- and what they write into buffers, from a pool of bytes on, and with files of bytes
+all-filled : (ts : List Turn) {p : Plain} {h : Heap} → Represents p h → AllBytes (h .pool) → EveryFile AllBytes ts → filledOn ts h ≡ fillings ts p
 unfolding filledOn fillings
-all-filled [] r bytes = refl
-all-filled (t ∷ ts) {h = h} r bytes =
+all-filled [] r bytes files = refl
+all-filled (t ∷ ts) {h = h} r bytes (next file files) =
     let a = step-agrees (t .call) (t .stack) r in
-    let still = step-keeps (t .call) (t .stack) h .all-bytes bytes in
-    both-same (a .filled still) (all-filled ts (a .heap) still)
+    let still = step-keeps (t .call) (t .stack) h .all-bytes file bytes in
+    both-same (a .filled still) (all-filled ts (a .heap) still files)
 
 -- an init of a good shape, whatever was there before
 first-init : (base : ℕ) (h : Heap) (p : Plain) → goodShape base h ≡ true → p .size ≡ length (h .entries) → Agrees (reply (Init base) [] p) (init base h)
-unfolding reply goodBase addressOf
+unfolding reply
 first-init base h p good same =
     let s = shape-true base h good in
     let l : length (replicate (length (h .entries)) FREE) ≡ length (h .entries) = length-replicate (length (h .entries)) FREE in
-    rw (same, init-accepted base h good, eq-eqb _ _ (s .aligned), le-leb _ _ (s .above), le-leb _ _ (s .below))
+    rw (init-accepted base h good, shape-base s same)
     (record {
       answer = refl;
-      heap = record { size = sym l; some = rw l (s .some); few = rw l (s .few); pool = s .pool ∙ ap (λ (n : ℕ). 16 * n) (sym l); laid = empty-laid (h .pool) (length (h .entries)) };
+      heap = record { size = same ∙ sym l; some = rw l (s .some); few = rw l (s .few); pool = s .pool ∙ ap (λ (n : ℕ). 16 * n) (sym l); laid = empty-laid (h .pool) (length (h .entries)) };
       filled = λ _. refl;
     })
 
+-- an accepted call that starts anew, whatever was there before
+first-agrees : {c : Call} {h : Heap} (p : Plain) → Anew h c → p .size ≡ length (h .entries) → Agrees (reply c [] p) (step c [] h)
+unfolding step
+first-agrees {h = h} p (inits base good) same = first-init base h p good same
+first-agrees {h = h} p (opened image room o) same = first-open image room h p o same
+
 pub answers-as-list : AnswersAsList
 unfolding AnswersAsList answersIn replies
-answers-as-list f faithful base m p ts z same =
-    let x = init-follows f faithful base m z in
-    let a = first-init base (heapIn f m) p (shape-in f base m z) same in
-    both-same (x .answer ∙ a .answer) (answers-in f faithful ts (perform f (Init base) [] m .memory) (x .sound z) ∙ ap (answers ts) (x .heap) ∙ all-agree ts (a .heap))
+answers-as-list f faithful c m p ts starts z same =
+    let x = follows-accepted f faithful c [] m z in
+    let a = first-agrees p (anew c [] (heapIn f m) starts (passes-in f c [] m z .own)) same in
+    both-same (x .answer ∙ a .answer) (answers-in f faithful ts (perform f c [] m .memory) (x .sound z) ∙ ap (answers ts) (x .heap) ∙ all-agree ts (a .heap))
 
 pub images-as-list : ImagesAsList
-unfolding ImagesAsList filledIn fillings step
-images-as-list f faithful base m bytes z p ts same =
-    let x = init-follows f faithful base m z in
-    let a = first-init base (heapIn f m) p (shape-in f base m z) same in
-    let still = step-keeps (Init base) [] (heapIn f m) .all-bytes bytes in
-    both-same (x .filled ∙ a .filled still) (filled-in f faithful ts (perform f (Init base) [] m .memory) (x .sound z) ∙ ap (filledOn ts) (x .heap) ∙ all-filled ts (a .heap) still)
+unfolding ImagesAsList filledIn fillings
+images-as-list f faithful c m p ts bytes (next file files) starts z same =
+    let x = follows-accepted f faithful c [] m z in
+    let a = first-agrees p (anew c [] (heapIn f m) starts (passes-in f c [] m z .own)) same in
+    let still = step-keeps c [] (heapIn f m) .all-bytes file bytes in
+    both-same (x .filled ∙ a .filled still) (filled-in f faithful ts (perform f c [] m .memory) (x .sound z) ∙ ap (filledOn ts) (x .heap) ∙ all-filled ts (a .heap) still files)

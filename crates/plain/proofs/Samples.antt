@@ -1,5 +1,5 @@
--- The theorems used on two runs, from a table that is not well-formed: what the list answers and writes is computed, and what the heap answers and writes, how many
--- blocks it uses and what a collection keeps follow by the theorems.
+-- The theorems used on runs from an init and from an opening on, where the table was not well-formed: what the list answers and writes is computed, and what the heap
+-- answers and writes, how many blocks it uses and what a collection keeps follow by the theorems.
 -- Assumes nothing.
 use mathlib.Core.Path.{_≡_, refl, sym, _∙_}
 use mathlib.Core.Bool.{not}
@@ -8,12 +8,17 @@ use native.Mathlib.Omega.{arith}
 use lib.Dec.{eqb}
 use lib.IntN.{pos}
 use lib.ListN.{replicate, set}
-use Rattle.rules.specs.Tests.{tabulate}
+use Rattle.rules.specs.Tests.{count, tabulate}
+use Rattle.rules.specs.Words.{firstTwo}
+use Rattle.rules.specs.Entries.{entryOf, entriesOf}
 use Rattle.rules.specs.Tables.{used}
 use Rattle.rules.specs.Pointers.{addressOf, goodBase}
 use Rattle.rules.specs.Planes.{entriesIn, planes}
 use Rattle.rules.specs.Meaning.{AllBytes}
 use Rattle.rules.specs.Calls.{blocksFor}
+use Rattle.rules.specs.Outcomes.{onlyRefusal, placedAt}
+use Rattle.rules.specs.Files.{sectionIn, fileOf}
+use Rattle.rules.specs.Runs.{Init, Allocate, OpenImage, Turn, EveryFile}
 use Rattle.rules.specs.Memory.{afterIn, answersIn, filledIn}
 use Rattle.rules.proofs.Lists.{bounded-replicate}
 use Rattle.rules.proofs.Planes.{length-entriesIn, planes-faithful}
@@ -22,17 +27,17 @@ use Rattle.plain.specs.Tracing.{isIn, ledTo, trace, among}
 use Rattle.plain.specs.Reaching.{Reachable, root, edge, Keeps}
 use Rattle.plain.specs.Replies.{places, allocatedAt, onObject, named, loadedFrom, storedIn, reply, left}
 use Rattle.plain.specs.Refines.{AnswersAsList, ImagesAsList, ListKeepsReachable, counted}
-use Rattle.plain.specs.Examples.{zeros, runBase, filling, ending, runRoots, run, garbage, run-accepted, twelve, runAnswers, run-answers, imaging, imageRun, imageAnswers, imageFillings, image-run}
+use Rattle.plain.specs.Examples.{zeros, runBase, bare, filling, ending, runRoots, run, garbage, run-accepted, twelve, runAnswers, run-answers, imaging, imageRun, imageAnswers, imageFillings, image-run, strewn, reopened, openRun, initRun, openAnswers, openFillings, four, open-run, init-run, spent, spent-accepted}
 use Rattle.plain.proofs.Refinement.{answers-as-list, images-as-list}
 use Rattle.plain.proofs.Reached.{of-at, list-keeps-reachable}
-use Rattle.plain.proofs.Consequences.{summed, used-answered, allOf, leadsInto, Closed, reachable-in}
+use Rattle.plain.proofs.Consequences.{summed, used-answered, files-of, allOf, leadsInto, Closed, reachable-in}
 
 -- ---- what the heap answers
 
 -- as the list does, whatever memory and list held before
 pub garbage-answers : answersIn (planes 3) run garbage ≡ runAnswers
 unfolding AnswersAsList
-garbage-answers = answers-as-list (planes 3) (planes-faithful 3) runBase garbage twelve (filling ++ ending) (run-accepted .0) (sym (length-entriesIn 3 (garbage .table))) ∙ run-answers
+garbage-answers = answers-as-list (planes 3) (planes-faithful 3) (Init runBase) garbage twelve (filling ++ ending) refl (run-accepted .0) (sym (length-entriesIn 3 (garbage .table))) ∙ run-answers
 
 -- ---- what it writes
 
@@ -40,13 +45,18 @@ garbage-answers = answers-as-list (planes 3) (planes-faithful 3) runBase garbage
 pub ones-bytes : AllBytes (garbage .pool)
 ones-bytes = bounded-replicate 192 255 (omega arith)
 
+-- no file is read
+pub no-files : EveryFile AllBytes imageRun
+unfolding allOf imaging
+no-files = files-of imageRun tt
+
 -- the images are those of the list's objects: no byte of them is one that the pool held before
 pub garbage-images : (answersIn (planes 3) imageRun garbage ≡ imageAnswers) × (filledIn (planes 3) imageRun garbage ≡ imageFillings)
 unfolding AnswersAsList ImagesAsList
 garbage-images =
     let same = sym (length-entriesIn 3 (garbage .table)) in (
-      answers-as-list (planes 3) (planes-faithful 3) runBase garbage twelve imaging (run-accepted .0) same ∙ image-run .0,
-      images-as-list (planes 3) (planes-faithful 3) runBase garbage ones-bytes (run-accepted .0) twelve imaging same ∙ image-run .1,
+      answers-as-list (planes 3) (planes-faithful 3) (Init runBase) garbage twelve imaging refl (run-accepted .0) same ∙ image-run .0,
+      images-as-list (planes 3) (planes-faithful 3) (Init runBase) garbage twelve imaging ones-bytes no-files refl (run-accepted .0) same ∙ image-run .1,
     )
 
 -- ---- how many blocks are used
@@ -55,7 +65,48 @@ garbage-images =
 pub garbage-used : used (entriesIn 3 (afterIn (planes 3) run garbage .table)) ≡ 10
 unfolding summed counted filling ending runAnswers
 garbage-used =
-    let s = rw garbage-answers at (used-answered (planes 3) (planes-faithful 3) runBase garbage (filling ++ ending) (pos 99) (run-accepted .0)) in
+    let s = rw garbage-answers at (used-answered (planes 3) (planes-faithful 3) (Init runBase) garbage (filling ++ ending) (pos 99) refl (run-accepted .0)) in
+    cc
+
+-- ---- from an opening on
+
+pub spent-bytes : AllBytes (spent .pool)
+spent-bytes = bounded-replicate 64 255 (omega arith)
+
+pub open-files : EveryFile AllBytes openRun
+unfolding allOf reopened tabulate
+open-files = files-of openRun tt
+
+-- the run is answered and written as on the list
+pub opened-run : (answersIn (planes 1) openRun spent ≡ openAnswers) × (filledIn (planes 1) openRun spent ≡ openFillings)
+unfolding AnswersAsList ImagesAsList
+opened-run =
+    let same = sym (length-entriesIn 1 (spent .table)) in (
+      answers-as-list (planes 1) (planes-faithful 1) (OpenImage strewn 8) spent four reopened refl (spent-accepted .0) same ∙ open-run .0,
+      images-as-list (planes 1) (planes-faithful 1) (OpenImage strewn 8) spent four reopened spent-bytes open-files refl (spent-accepted .0) same ∙ open-run .1,
+    )
+
+-- of the three blocks that the file uses one is left, whatever was counted before
+pub opened-used : used (entriesIn 1 (afterIn (planes 1) openRun spent .table)) ≡ 1
+unfolding summed counted count tabulate firstTwo used entryOf entriesOf sectionIn fileOf reopened openAnswers
+opened-used =
+    let s = rw (opened-run .0) at (used-answered (planes 1) (planes-faithful 1) (OpenImage strewn 8) spent reopened (pos 99) refl (spent-accepted .0)) in
+    cc
+
+-- the same behind an init and four blocks that were allocated
+pub begun-run : (answersIn (planes 1) initRun spent ≡ onlyRefusal 0 ∷ placedAt 0 (pos 4) ∷ openAnswers) × (filledIn (planes 1) initRun spent ≡ [] ∷ [] ∷ openFillings)
+unfolding AnswersAsList ImagesAsList allOf reopened tabulate
+begun-run =
+    let same = sym (length-entriesIn 1 (spent .table)) in
+    let ts : List Turn = bare (Allocate 4096 64) ∷ openRun in (
+      answers-as-list (planes 1) (planes-faithful 1) (Init 4096) spent four ts refl (spent-accepted .1) same ∙ init-run .0,
+      images-as-list (planes 1) (planes-faithful 1) (Init 4096) spent four ts spent-bytes (files-of initRun tt) refl (spent-accepted .1) same ∙ init-run .1,
+    )
+
+pub begun-used : used (entriesIn 1 (afterIn (planes 1) initRun spent .table)) ≡ 1
+unfolding summed counted count tabulate firstTwo used entryOf entriesOf sectionIn fileOf reopened openAnswers
+begun-used =
+    let s = rw (begun-run .0) at (used-answered (planes 1) (planes-faithful 1) (Init 4096) spent (bare (Allocate 4096 64) ∷ openRun) (pos 99) refl (spent-accepted .1)) in
     cc
 
 -- ---- what a collection keeps

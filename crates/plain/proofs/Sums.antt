@@ -15,16 +15,16 @@ use Rattle.rules.specs.Tables.{used, isUsed}
 use Rattle.rules.specs.Entries.{FREE}
 use Rattle.rules.specs.Forms.{Form, Faithful}
 use Rattle.rules.specs.Outcomes.{Heap, Answer, Outcome, onlyRefusal, changeFrom, unlessRefused}
-use Rattle.rules.specs.Calls.{Way, stay, shrink, grow, move, noWay, placing, allocate, free, along, reallocate, collecting, collect, survey, load, store, writeImage}
-use Rattle.rules.specs.Runs.{Call, Init, Allocate, Free, Reallocate, Collect, Survey, Load, Store, WriteImage, Turn, step}
+use Rattle.rules.specs.Calls.{Way, stay, shrink, grow, move, noWay, placing, allocate, free, along, reallocate, collecting, collect, survey, load, store, writeImage, openImage}
+use Rattle.rules.specs.Runs.{Call, Init, Allocate, Free, Reallocate, Collect, Survey, Load, Store, WriteImage, OpenImage, Turn, step}
 use Rattle.rules.specs.Memory.{Memory, Sound, heapIn, AcceptedIn, stackFor, perform, turnIn, afterIn}
-use Rattle.rules.specs.Meaning.{Accepted}
 use Rattle.rules.proofs.Lists.{count-none}
 use Rattle.rules.proofs.Calls.{sub-add}
-use Rattle.rules.proofs.Refusals.{true-not-false, both-false}
+use Rattle.rules.proofs.Refusals.{true-not-false, both-false, accepts}
+use Rattle.rules.proofs.Opening.{open-passes}
 use Rattle.rules.proofs.Memory.{Ended, accepted, refused, step-ended, Follows, follows-sound, kept-by, passes-in, follows-accepted}
-use Rattle.plain.specs.Refines.{startsAnew, counted, changes, UsedIsSum}
-use Rattle.plain.proofs.Inits.{init-accepted, init-shape}
+use Rattle.plain.specs.Refines.{startsAnew, usedAtStart, counted, changes, UsedIsSum}
+use Rattle.plain.proofs.Inits.{init-accepted, Anew, inits, opened, anew}
 
 -- ---- one call
 
@@ -72,33 +72,27 @@ step-accounted (Survey base) stack h e = accounted-refused _ h [] _ (accounted-s
 step-accounted (Load base k i) stack h e = accounted-refused _ h [] _ (accounted-same h _ refl refl)
 step-accounted (Store base k i w) stack h e = accounted-refused _ h [] _ (accounted-same h _ refl refl)
 step-accounted (WriteImage base roots room) stack h e = accounted-refused _ h [] _ (accounted-same h _ refl refl)
+step-accounted (OpenImage image room) stack h e = absurd (true-not-false refl e)
 
--- after an accepted call that starts it anew no block is used
-step-anew : (c : Call) (stack : List ℕ) (h : Heap) → startsAnew c ≡ true → Accepted (step c stack h) → 0 ≡ used (step c stack h .heap .entries)
-unfolding step
-step-anew (Init base) stack h e z = rw (init-accepted base h (init-shape base h z)) (sym (none-used (length (h .entries))))
-step-anew (Allocate base bytes) stack h e z = absurd (true-not-false e refl)
-step-anew (Free base k) stack h e z = absurd (true-not-false e refl)
-step-anew (Reallocate base k bytes) stack h e z = absurd (true-not-false e refl)
-step-anew (Collect base roots) stack h e z = absurd (true-not-false e refl)
-step-anew (Survey base) stack h e z = absurd (true-not-false e refl)
-step-anew (Load base k i) stack h e z = absurd (true-not-false e refl)
-step-anew (Store base k i w) stack h e z = absurd (true-not-false e refl)
-step-anew (WriteImage base roots room) stack h e z = absurd (true-not-false e refl)
+-- after an accepted call that starts it anew no block is used, or those of the file
+step-anew : {c : Call} (stack : List ℕ) (h : Heap) → Anew h c → usedAtStart c ≡ used (step c stack h .heap .entries)
+unfolding step openImage
+step-anew stack h (inits base good) = rw (init-accepted base h good) (sym (none-used (length (h .entries))))
+step-anew stack h (opened image room o) = rw (accepts h [] _ (open-passes h image room o))
 
 -- the three ways to count an answer: a refused one, one that adds its change, one that starts anew
 module _ (c : Call) (d : ℤ) where
   counted-refused : (r : ℕ) → counted c (onlyRefusal (suc r)) d ≡ d
   unfolding counted
-  counted-refused r = ap (λ (b : Bool). pick b (pos 0) (d +ℤ pos 0)) (ap (both (startsAnew c)) (ne-eqb (suc r) 0 (λ e. omega arith)) ∙ both-false (startsAnew c)) ∙ +ℤ-idr d
+  counted-refused r = ap (λ (b : Bool). pick b (pos (usedAtStart c)) (d +ℤ pos 0)) (ap (both (startsAnew c)) (ne-eqb (suc r) 0 (λ e. omega arith)) ∙ both-false (startsAnew c)) ∙ +ℤ-idr d
 
   counted-change : (a : Answer) → startsAnew c ≡ false → counted c a d ≡ d +ℤ a .change
   unfolding counted
-  counted-change a e = ap (λ (b : Bool). pick (both b (eqb (a .refusal) 0)) (pos 0) (d +ℤ a .change)) e
+  counted-change a e = ap (λ (b : Bool). pick (both b (eqb (a .refusal) 0)) (pos (usedAtStart c)) (d +ℤ a .change)) e
 
-  counted-anew : (a : Answer) → startsAnew c ≡ true → a .refusal ≡ 0 → counted c a d ≡ pos 0
+  counted-anew : (a : Answer) → startsAnew c ≡ true → a .refusal ≡ 0 → counted c a d ≡ pos (usedAtStart c)
   unfolding counted
-  counted-anew a e z = ap (λ (b : Bool). pick b (pos 0) (d +ℤ a .change)) (ap (λ (t : Bool). both t (eqb (a .refusal) 0)) e ∙ eq-eqb (a .refusal) 0 z)
+  counted-anew a e z = ap (λ (b : Bool). pick b (pos (usedAtStart c)) (d +ℤ a .change)) (ap (λ (t : Bool). both t (eqb (a .refusal) 0)) e ∙ eq-eqb (a .refusal) 0 z)
 
 -- each call
 step-sums : (c : Call) (stack : List ℕ) (h : Heap) (d : ℤ) → Sums h d → Sums (step c stack h .heap) (counted c (step c stack h .answer) d)
@@ -106,7 +100,7 @@ step-sums c stack h d s = go (startsAnew c) refl (step-ended c stack h)
   where
     go : (b : Bool) → startsAnew c ≡ b → Ended h (stackFor c stack) (step c stack h) → Sums (step c stack h .heap) (counted c (step c stack h .answer) d)
     go false e x = counted-change c d (step c stack h .answer) e ∙ step-accounted c stack h e .sums d s
-    go true e (accepted z) = counted-anew c d (step c stack h .answer) e z ∙ ap pos (step-anew c stack h e z)
+    go true e (accepted z) = counted-anew c d (step c stack h .answer) e z ∙ ap pos (step-anew stack h (anew c stack h e z))
     go true e (refused r q) = rw q (counted-refused c d r ∙ s)
 
 -- ---- calls in a row on lent memory
@@ -123,7 +117,7 @@ module _ (f : Form) (faithful : Faithful f) where
   anew-sums c stack m d e z =
       let x = follows-accepted f faithful c stack m z in
       let own = passes-in f c stack m z .own in
-      rw (ap (λ (h : Heap). h .entries) (x .heap), x .answer) (counted-anew c d (step c stack (heapIn f m) .answer) e own ∙ ap pos (step-anew c stack (heapIn f m) e own))
+      rw (ap (λ (h : Heap). h .entries) (x .heap), x .answer) (counted-anew c d (step c stack (heapIn f m) .answer) e own ∙ ap pos (step-anew stack (heapIn f m) (anew c stack (heapIn f m) e own)))
 
   all-sums : (ts : List Turn) (m : Memory) (d : ℤ) → Sound f m → Sums (heapIn f m) d → changes f ts m d ≡ pos (used (f .read (afterIn f ts m .table)))
   unfolding changes afterIn
@@ -133,10 +127,10 @@ module _ (f : Form) (faithful : Faithful f) where
       all-sums ts (turnIn f t m .memory) (counted (t .call) (turnIn f t m .answer) d) (kept-by (Sound f) f (t .call) (t .stack) m (x .sound) sound)
       (follows-sums (t .call) (t .stack) m d x s)
 
--- from an accepted init on
+-- from an accepted init or opening on
 pub used-is-sum : UsedIsSum
 unfolding UsedIsSum changes afterIn
-used-is-sum f faithful base m ts d z =
-    let r = perform f (Init base) [] m in
-    let x = follows-accepted f faithful (Init base) [] m z in
-    all-sums f faithful ts (r .memory) (counted (Init base) (r .answer) d) (x .sound z) (anew-sums f faithful (Init base) [] m d refl z)
+used-is-sum f faithful c m ts d starts z =
+    let r = perform f c [] m in
+    let x = follows-accepted f faithful c [] m z in
+    all-sums f faithful ts (r .memory) (counted c (r .answer) d) (x .sound z) (anew-sums f faithful c [] m d starts z)

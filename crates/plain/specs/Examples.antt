@@ -1,31 +1,34 @@
--- The worked examples 1 to 11, a chain, large objects and images, in heaps of 4 to 16 blocks at base 4,096, computed on the plain list: each call's answer, the list it
+-- The worked examples 1 to 11, a chain, large objects, images and files, in heaps of 4 to 16 blocks at base 4,096, computed on the plain list: each call's answer, the list it
 -- leaves and what it writes into a buffer. And calls in a row.
 -- Assumes nothing.
 use mathlib.Core.Path.{_≡_, refl}
 use mathlib.Core.Bool.{false}
 use mathlib.Core.List.{List, [], _∷_, _++_, map}
-use Prim.Native.Nat.{ℕ, _*_}
+use Prim.Native.Nat.{ℕ, _-_, _*_, _/_}
 use lib.IntN.{pos}
-use lib.ListN.{length, replicate, set}
-use Rattle.rules.specs.Tests.{count, tabulate}
+use lib.ListN.{length, take, replicate, set}
+use Rattle.rules.specs.Tests.{count, leading, tabulate}
 use Rattle.rules.specs.Bits.{bitOf, bitAt}
-use Rattle.rules.specs.Words.{number, bytesOf, twoBytesOf, wordAt, wordsOf}
-use Rattle.rules.specs.Entries.{tableOf}
+use Rattle.rules.specs.Words.{number, bytesOf, twoBytesOf, firstTwo, wordAt, wordsOf}
+use Rattle.rules.specs.Entries.{entryOf, entriesOf, tableOf}
 use Rattle.rules.specs.Pointers.{addressOf, goodBase}
 use Rattle.rules.specs.Tables.{mayFollow, wellAfter, wellFormed, used}
 use Rattle.rules.specs.Images.{section, sections}
-use Rattle.rules.specs.Planes.{planeBytes, entryIn, entriesIn, planes}
-use Rattle.rules.specs.Outcomes.{Answer, unlessRefused, onlyRefusal, placedAt, collectedTo, surveyed, loaded, writtenTo}
+use Rattle.rules.specs.Planes.{planeBytes, entryIn, entriesIn, spare, spareFree, planes}
+use Rattle.rules.specs.Outcomes.{Answer, unlessRefused, onlyRefusal, placedAt, collectedTo, surveyed, loaded, writtenTo, openedAt}
 use Rattle.rules.specs.Refusals.{firstOf, goodShape, wholeWords}
-use Rattle.rules.specs.Calls.{blocksFor, init}
-use Rattle.rules.specs.Runs.{Call, Init, Allocate, Free, Reallocate, Collect, Survey, Load, Store, WriteImage, Turn, step}
+use Rattle.rules.specs.Files.{sectionIn, sectionTests, fileOf, fileTests, faultOf}
+use Rattle.rules.specs.Calls.{blocksFor, init, goodTarget, openImage}
+use Rattle.rules.specs.Runs.{Call, Init, Allocate, Free, Reallocate, Collect, Survey, Load, Store, WriteImage, OpenImage, Turn, step}
 use Rattle.rules.specs.Memory.{Memory, memory, AcceptedIn, orRefused, perform}
 use Rattle.rules.specs.Examples.{minus}
+use Rattle.rules.specs.ImageExamples.{oneImage}
+use Rattle.rules.specs.FileExamples.{fileAt, file, marked}
 use Rattle.plain.specs.Objects.{Object, object, Plain, total, find, placeFrom, lowestGap, longestGap, nextStart, insert, remove, replace}
 use Rattle.plain.specs.Tracing.{isIn, ledTo, push, followTo, follow, followAll, emptyFor, empty, subtree, fromRootTo, fromRoots, goThrough, again, againFor, trace, among}
-use Rattle.plain.specs.Images.{entriesFrom, bytesOfAll, contents, imageOfList}
-use Rattle.plain.specs.Replies.{Reply, places, allocatedAt, onObject, named, movedInto, resized, collectedBy, loadedFrom, storedIn, imageIn, reply, replies, fillings}
-use Rattle.plain.specs.Refines.{fromInit}
+use Rattle.plain.specs.Images.{entriesFrom, bytesOfAll, contents, imageOfList, objectsFrom}
+use Rattle.plain.specs.Replies.{Reply, places, allocatedAt, onObject, named, movedInto, resized, collectedBy, loadedFrom, storedIn, imageIn, openedIn, reply, replies, fillings}
+use Rattle.plain.specs.Refines.{from}
 
 -- a call's reply, and what it should be
 pub record Example : Type 0 where
@@ -48,6 +51,10 @@ example r a os = exampleIn 8 r a os
 -- an image is written, and the list stays
 abbrev pub written : ℕ → Reply → List ℕ → List Object → Example
 written n r image os = record { is = r; ought = record { answer = writtenTo (length image); heap = blocks n os; filled = image } }
+
+-- a file at base 4,096 is opened: the list becomes these objects, and the root list has these roots
+abbrev pub opened : ℕ → Reply → List ℕ → List Object → Example
+opened n r roots os = record { is = r; ought = record { answer = openedAt 4096 (length roots / 4); heap = blocks n os; filled = roots } }
 
 -- b blocks from s on, all words zero
 abbrev pub zeros : ℕ → ℕ → Object
@@ -117,6 +124,32 @@ twoObjects =
 abbrev pub twoRoots : List ℕ
 twoRoots = bytesOf 4112 ++ bytesOf 4128
 
+-- a file of words that lead nowhere, with a root that leads nowhere: 65 bytes
+abbrev pub strewn : List ℕ
+strewn =
+    -- the base
+    1 ∷ 0 ∷ 0 ∷ 16 ∷ 0 ∷ 0
+    -- FREE HEAD TAIL HEAD
+    ∷ 1 ∷ 0 ∷ 100
+    -- three used blocks: 255, 254 and so on
+    ∷ 3 ∷ 0 ∷ tabulate 48 (λ (i : ℕ). 255 - i)
+    -- one root
+    ++ 1 ∷ 0 ∷ 239 ∷ 190 ∷ 173 ∷ 222 ∷ []
+
+abbrev pub strewnRoots : List ℕ
+strewnRoots = bytesOf 0xdead_beef
+
+-- its objects: no two words are the same
+abbrev pub scraps : List Object
+scraps =
+    object 1 2 (0xfcfd_feff ∷ 0xf8f9_fafb ∷ 0xf4f5_f6f7 ∷ 0xf0f1_f2f3 ∷ 0xeced_eeef ∷ 0xe8e9_eaeb ∷ 0xe4e5_e6e7 ∷ 0xe0e1_e2e3 ∷ [])
+    ∷ object 3 1 (0xdcdd_dedf ∷ 0xd8d9_dadb ∷ 0xd4d5_d6d7 ∷ 0xd0d1_d2d3 ∷ [])
+    ∷ []
+
+-- a file of one TAIL, behind a FREE block
+abbrev pub torn : List ℕ
+torn = file 8 (1 ∷ 0 ∷ replicate 16 7 ++ 0 ∷ 0 ∷ [])
+
 unfoldable pub examples : List Example
 examples =
     -- 1 to 4: allocate
@@ -170,16 +203,34 @@ examples =
     ∷ written 8 (reply (WriteImage 4096 twoRoots 70) [] (eight apart)) twoObjects apart
     ∷ example (reply (WriteImage 4096 twoRoots 69) [] (eight apart)) (onlyRefusal 10) apart
     ∷ example (reply (WriteImage 4096 (5 ∷ twoRoots) 100) [] (eight apart)) (onlyRefusal 1) apart
+    -- files, whatever the list held: the 33 bytes, the 70 that were written, words that lead nowhere; for a root list that is as long as the roots, and a longer one
+    ∷ opened 4 (reply (OpenImage oneImage 4) [] (blocks 4 (zeros 1 3 ∷ []))) (bytesOf 4096) (zeros 0 1 ∷ [])
+    ∷ opened 8 (reply (OpenImage twoObjects 8) [] (eight full)) twoRoots apart
+    ∷ opened 4 (reply (OpenImage strewn 400) [] (blocks 4 [])) strewnRoots scraps
+    -- refused by a fault of the file: cut short, a wrong count, too many roots, a byte left over
+    ∷ exampleIn 4 (reply (OpenImage (take 32 oneImage) 4) [] (blocks 4 scraps)) (onlyRefusal 14) scraps
+    ∷ exampleIn 4 (reply (OpenImage (2 ∷ 0 ∷ []) 4) [] (blocks 4 scraps)) (onlyRefusal 15) scraps
+    ∷ exampleIn 4 (reply (OpenImage (file 0 (0 ∷ 0 ∷ 1 ∷ 16 ∷ [])) 4) [] (blocks 4 scraps)) (onlyRefusal 3) scraps
+    ∷ exampleIn 4 (reply (OpenImage (oneImage ++ 0 ∷ []) 5) [] (blocks 4 scraps)) (onlyRefusal 16) scraps
+    -- by 1: more blocks than the file has, or fewer; a base that is no multiple of 16; a root list of no whole words
+    ∷ example (reply (OpenImage oneImage 4) [] (eight full)) (onlyRefusal 1) full
+    ∷ exampleIn 4 (reply (OpenImage twoObjects 8) [] (blocks 4 scraps)) (onlyRefusal 1) scraps
+    ∷ exampleIn 4 (reply (OpenImage (fileAt (8 ∷ 16 ∷ 0 ∷ 0 ∷ []) 0 (0 ∷ 0 ∷ 0 ∷ 0 ∷ [])) 4) [] (blocks 4 scraps)) (onlyRefusal 1) scraps
+    ∷ exampleIn 4 (reply (OpenImage marked 5) [] (blocks 4 scraps)) (onlyRefusal 1) scraps
+    -- by 2: a MARK, and a TAIL behind a FREE block; by 17
+    ∷ exampleIn 4 (reply (OpenImage marked 0) [] (blocks 4 scraps)) (onlyRefusal 2) scraps
+    ∷ exampleIn 4 (reply (OpenImage torn 0) [] (blocks 4 scraps)) (onlyRefusal 2) scraps
+    ∷ exampleIn 4 (reply (OpenImage oneImage 0) [] (blocks 4 scraps)) (onlyRefusal 17) scraps
     ∷ []
 
 -- there are so many
-pub examples-number : length examples ≡ 39
+pub examples-number : length examples ≡ 53
 unfolding examples
 examples-number = refl
 
 -- every example is as it should be
 pub examples-hold : map (λ (x : Example). x .is) examples ≡ map (λ (x : Example). x .ought) examples
-unfolding examples tabulate number bytesOf wordAt wordsOf addressOf goodBase wholeWords blocksFor total find placeFrom lowestGap longestGap nextStart insert remove replace isIn ledTo push followTo follow followAll emptyFor empty subtree fromRootTo fromRoots goThrough again againFor trace among places allocatedAt onObject named movedInto resized collectedBy tableOf count used twoBytesOf section sections entriesFrom bytesOfAll contents imageOfList imageIn reply
+unfolding examples tabulate number bytesOf wordAt wordsOf addressOf goodBase wholeWords blocksFor total find placeFrom lowestGap longestGap nextStart insert remove replace isIn ledTo push followTo follow followAll emptyFor empty subtree fromRootTo fromRoots goThrough again againFor trace among places allocatedAt onObject named movedInto resized collectedBy tableOf count used twoBytesOf section sections entriesFrom bytesOfAll contents imageOfList imageIn leading firstTwo entryOf entriesOf mayFollow wellAfter wellFormed firstOf sectionIn sectionTests fileOf fileTests faultOf objectsFrom openedIn reply
 examples-hold = refl
 
 -- ---- calls in a row
@@ -215,7 +266,7 @@ ending =
     ∷ map bare (Survey runBase ∷ Load runBase 7 0 ∷ Load runBase 8 15 ∷ Free runBase 1 ∷ Reallocate runBase 4 40 ∷ Survey runBase ∷ [])
 
 abbrev pub run : List Turn
-run = fromInit runBase (filling ++ ending)
+run = from (Init runBase) (filling ++ ending)
 
 -- before the init: a pool full of ones, and two planes that are not even well-formed
 abbrev pub garbage : Memory
@@ -248,7 +299,7 @@ run-answers = refl
 -- ---- images in a row
 
 -- the image of the one object that is allocated after an init
-pub one-object-run : fillings (fromInit 4096 (map bare (Allocate 4096 16 ∷ WriteImage 4096 (bytesOf 4096) 33 ∷ []))) (blocks 4 []) ≡ [] ∷ [] ∷ oneObject ∷ []
+pub one-object-run : fillings (from (Init 4096) (map bare (Allocate 4096 16 ∷ WriteImage 4096 (bytesOf 4096) 33 ∷ []))) (blocks 4 []) ≡ [] ∷ [] ∷ oneObject ∷ []
 unfolding bytesOf addressOf goodBase wholeWords blocksFor total placeFrom lowestGap insert places allocatedAt tableOf count used twoBytesOf section sections entriesFrom bytesOfAll contents imageOfList imageIn reply fillings
 one-object-run = refl
 
@@ -262,7 +313,7 @@ imaging =
     ∷ Store runBase 1 0 0 ∷ Collect runBase (bytesOf (addressOf runBase 1)) ∷ WriteImage runBase [] 47 ∷ [])
 
 abbrev pub imageRun : List Turn
-imageRun = fromInit runBase imaging
+imageRun = from (Init runBase) imaging
 
 unfoldable pub imageAnswers : List Answer
 imageAnswers =
@@ -286,3 +337,47 @@ imageFillings = replicate 8 [] ++ firstImage ∷ replicate 3 [] ++ lastImage ∷
 pub image-run : (replies imageRun twelve ≡ imageAnswers) × (fillings imageRun twelve ≡ imageFillings)
 unfolding imaging imageAnswers imageFillings tabulate number bytesOf wordAt wordsOf addressOf goodBase wholeWords blocksFor total find placeFrom lowestGap insert remove replace isIn ledTo push followTo follow followAll emptyFor empty subtree fromRootTo fromRoots goThrough again againFor trace among places allocatedAt onObject named collectedBy storedIn tableOf count used twoBytesOf section sections entriesFrom bytesOfAll contents imageOfList imageIn reply replies fillings
 image-run = (refl, refl)
+
+-- ---- openings in a row
+
+-- A file is opened, where four blocks were allocated, or where anything was: its objects are surveyed, written again and freed but for one. Two openings are refused, by
+-- the file and for the root list, and change nothing.
+unfoldable pub reopened : List Turn
+reopened =
+    map bare
+    (Survey 4096 ∷ WriteImage 4096 strewnRoots 65 ∷ OpenImage (take 64 strewn) 4 ∷ Free 4096 1 ∷ OpenImage strewn 0 ∷ Survey 4096 ∷ [])
+
+abbrev pub openRun : List Turn
+openRun = from (OpenImage strewn 8) reopened
+
+abbrev pub initRun : List Turn
+initRun = from (Init 4096) (bare (Allocate 4096 64) ∷ openRun)
+
+unfoldable pub openAnswers : List Answer
+openAnswers = openedAt 4096 1 ∷ surveyed 3 2 1 ∷ writtenTo 65 ∷ onlyRefusal 14 ∷ placedAt 0 (minus 2) ∷ onlyRefusal 17 ∷ surveyed 1 1 3 ∷ []
+
+-- the roots of the file, and the same file
+unfoldable pub openFillings : List (List ℕ)
+openFillings = strewnRoots ∷ [] ∷ strewn ∷ replicate 4 []
+
+-- a list with an object in it
+abbrev pub four : Plain
+four = blocks 4 (zeros 3 1 ∷ [])
+
+pub open-run : (replies openRun four ≡ openAnswers) × (fillings openRun four ≡ openFillings)
+unfolding reopened openAnswers openFillings tabulate number bytesOf wordAt wordsOf addressOf goodBase wholeWords blocksFor total find placeFrom lowestGap longestGap nextStart insert remove places allocatedAt onObject named tableOf count used twoBytesOf section sections entriesFrom bytesOfAll contents imageOfList imageIn leading firstTwo entryOf entriesOf mayFollow wellAfter wellFormed firstOf sectionIn sectionTests fileOf fileTests faultOf objectsFrom openedIn reply replies fillings
+open-run = (refl, refl)
+
+pub init-run : (replies initRun four ≡ onlyRefusal 0 ∷ placedAt 0 (pos 4) ∷ openAnswers) × (fillings initRun four ≡ [] ∷ [] ∷ openFillings)
+unfolding reopened openAnswers openFillings tabulate number bytesOf wordAt wordsOf addressOf goodBase wholeWords blocksFor total find placeFrom lowestGap longestGap nextStart insert remove places allocatedAt onObject named tableOf count used twoBytesOf section sections entriesFrom bytesOfAll contents imageOfList imageIn leading firstTwo entryOf entriesOf mayFollow wellAfter wellFormed firstOf sectionIn sectionTests fileOf fileTests faultOf objectsFrom openedIn reply replies fillings
+init-run = (refl, refl)
+
+-- before the first call: a pool full of ones, and planes full of ones, in which every block is MARK and every spare bit is set
+abbrev pub spent : Memory
+spent = memory (replicate 64 255) (replicate 2 255)
+
+-- the opening is accepted all the same, and so is the init
+pub spent-accepted : AcceptedIn (perform (planes 1) (OpenImage strewn 8) [] spent) × AcceptedIn (perform (planes 1) (Init 4096) [] spent)
+    × (wellFormed (entriesIn 1 (spent .table)) ≡ false) × (spareFree 1 (spent .table) ≡ false)
+unfolding perform orRefused step init openImage unlessRefused firstOf goodShape goodBase addressOf count tabulate bitOf bitAt planeBytes entryIn entriesIn spare spareFree mayFollow wellAfter wellFormed used number firstTwo wordAt entryOf entriesOf sectionIn sectionTests fileOf fileTests faultOf goodTarget
+spent-accepted = (refl, refl, refl, refl)

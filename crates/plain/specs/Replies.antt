@@ -9,14 +9,16 @@ use lib.IntN.{subℕ}
 use lib.ListN.{length, getD, set, take, replicate}
 use Rattle.rules.specs.Tests.{pick, both}
 use Rattle.rules.specs.Words.{wordsOf}
+use Rattle.rules.specs.Tables.{wellFormed}
 use Rattle.rules.specs.Pointers.{goodBase}
-use Rattle.rules.specs.Outcomes.{Answer, onlyRefusal, placedAt, collectedTo, surveyed, loaded, writtenTo}
+use Rattle.rules.specs.Outcomes.{Answer, onlyRefusal, placedAt, collectedTo, surveyed, loaded, writtenTo, openedAt}
 use Rattle.rules.specs.Refusals.{wholeWords}
+use Rattle.rules.specs.Files.{File, fileOf, faultOf, entriesFor, baseOf, rootsOf}
 use Rattle.rules.specs.Calls.{blocksFor}
-use Rattle.rules.specs.Runs.{Call, Init, Allocate, Free, Reallocate, Collect, Survey, Load, Store, WriteImage, Turn}
+use Rattle.rules.specs.Runs.{Call, Init, Allocate, Free, Reallocate, Collect, Survey, Load, Store, WriteImage, OpenImage, Turn}
 use Rattle.plain.specs.Objects.{Object, object, Plain, padded, total, find, placeFrom, lowestGap, longestGap, nextStart, insert, remove, replace}
 use Rattle.plain.specs.Tracing.{Traced, trace, among}
-use Rattle.plain.specs.Images.{imageOfList}
+use Rattle.plain.specs.Images.{imageOfList, objectsFrom}
 
 -- an answer, the heap that is left, and what is written into a buffer that was lent for it
 pub record Reply : Type 0 where
@@ -87,6 +89,26 @@ storedIn p i w o =
 unfoldable pub imageIn : Plain → ℕ → List ℕ → Reply
 imageIn p room image = refuseIf (ltb room (length image)) 10 p (record { answer = writtenTo (length image); heap = p; filled = image })
 
+-- 1, of a file that is opened: it has as many blocks as the list, its base suits them, and the root list of `room` bytes is whole words
+abbrev pub suited : File → ℕ → Plain → Bool
+suited f room p = both (both (goodBase (baseOf f) (p .size)) (eqb (length (entriesFor (f .table))) (p .size))) (eqb (room % 4) 0)
+
+-- the file's objects, whatever the list held, and its roots
+abbrev pub opens : File → Plain → Reply
+opens f p = record {
+  answer = openedAt (baseOf f) (length (rootsOf f) / 4);
+  heap = record { size = p .size; objects = objectsFrom 0 (entriesFor (f .table)) (f .blocks .body) };
+  filled = rootsOf f;
+}
+
+-- Open an image, whose file has no fault: 2 if its table is not well-formed, 17 if the root list is shorter than its roots
+unfoldable pub openedIn : File → ℕ → Plain → Reply
+openedIn f room p =
+    refuseIf (not (suited f room p)) 1 p
+    (refuseIf (not (wellFormed (entriesFor (f .table)))) 2 p
+    (refuseIf (ltb room (length (rootsOf f))) 17 p
+    (opens f p)))
+
 -- 1: the base does not suit the blocks
 abbrev pub misplaced : ℕ → Plain → Bool
 misplaced base p = not (goodBase base (p .size))
@@ -119,6 +141,7 @@ reply (WriteImage base roots room) stack p =
     refuseIf (not (both (goodBase base (p .size)) (wholeWords roots))) 1 p
     (refuseIf (ltb 4096 (length roots / 4)) 3 p
     (imageIn p room (imageOfList base p roots)))
+reply (OpenImage image room) stack p = refuseIf (not (eqb (faultOf image) 0)) (faultOf image) p (openedIn (fileOf image) room p)
 
 -- the answers to calls in a row: each finds the list as the one before left it
 unfoldable pub replies : List Turn → Plain → List Answer
