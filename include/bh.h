@@ -26,10 +26,11 @@ extern "C" {
 
 /*
  * Where a heap's lent memory is. The calls write that memory and not the
- * struct, which may be const. Later versions add fields: let one of the makers
- * below fill the struct, or set fields by name in one that is all 0. An
- * initialiser of your own that lists the fields in order will break. BH_DEFINE
- * and bh_split also find the memory for what is added.
+ * struct, which may be const; bh_open_image alone sets the base in it. Later
+ * versions add fields: let one of the makers below fill the struct, or set
+ * fields by name in one that is all 0. An initialiser of your own that lists the
+ * fields in order will break. BH_DEFINE and bh_split also find the memory for
+ * what is added.
  */
 struct blockheap {
     uint64_t base;
@@ -171,6 +172,38 @@ static inline uint32_t bh_write_image(const struct blockheap *heap, const uint8_
                                  length ? length : &no_length);
 }
 
+/* The t of an image, by its first 8 bytes; 0 if they are none of an image, which bh_open_image then refuses. */
+static inline size_t bh_image_t(const uint8_t *image, size_t image_len)
+{
+    size_t t;
+    if (image_len < 8 || image[0] != 1 || image[1] != 0)
+        return 0;
+    t = image[6] | (size_t)image[7] << 8;
+    return t <= BLOCKHEAP_MAX_T ? t : 0;
+}
+
+/*
+ * Makes a heap of an image. Lend a struct with a pool and a table of the image's
+ * t, and it gets the image's base; after a refusal it has the base that it had.
+ * In an area that is large enough for any heap:
+ *
+ *   size_t t = bh_image_t(image, image_len);
+ *   struct blockheap heap = bh_split(0, area, BLOCKHEAP_HEAP_BYTES(t));
+ *   refusal = bh_open_image(&heap, image, image_len, roots, sizeof roots, &count);
+ */
+static inline uint32_t bh_open_image(struct blockheap *heap, const uint8_t *image, size_t image_len,
+                                     uint8_t *roots, size_t roots_len, uint32_t *count)
+{
+    uint32_t base, no_count;
+    uint32_t refusal =
+        blockheap_open_image(BH_LIST(image, image_len), bh_t(heap), BH_LIST(heap->pool, heap->pool_len),
+                             BH_LIST(heap->table, heap->table_len), BH_LIST(roots, roots_len), &base,
+                             count ? count : &no_count);
+    if (!refusal)
+        heap->base = base;
+    return refusal;
+}
+
 /* ---- Blocks, addresses and bytes ---- */
 
 /* What bh_block answers where there is no block. Every call refuses it as NO_SUCH_BLOCK. */
@@ -269,6 +302,10 @@ static inline const char *bh_refusal_name(uint32_t refusal)
     case BLOCKHEAP_NO_SUCH_WORD: return "NO_SUCH_WORD";
     case BLOCKHEAP_NO_ROOM: return "NO_ROOM";
     case BLOCKHEAP_OUTPUT_TOO_SHORT: return "OUTPUT_TOO_SHORT";
+    case BLOCKHEAP_IMAGE_TRUNCATED: return "IMAGE_TRUNCATED";
+    case BLOCKHEAP_BAD_COUNT: return "BAD_COUNT";
+    case BLOCKHEAP_TRAILING_BYTES: return "TRAILING_BYTES";
+    case BLOCKHEAP_ROOTS_TOO_SHORT: return "ROOTS_TOO_SHORT";
     default: return "UNKNOWN";
     }
 }
@@ -288,6 +325,10 @@ static inline const char *bh_refusal_text(uint32_t refusal)
     case BLOCKHEAP_NO_SUCH_WORD: return "the word lies outside the object";
     case BLOCKHEAP_NO_ROOM: return "no aligned run of free blocks is long enough";
     case BLOCKHEAP_OUTPUT_TOO_SHORT: return "the buffer is shorter than the image";
+    case BLOCKHEAP_IMAGE_TRUNCATED: return "the image ends inside a section";
+    case BLOCKHEAP_BAD_COUNT: return "a count in the image is wrong";
+    case BLOCKHEAP_TRAILING_BYTES: return "bytes follow behind the image";
+    case BLOCKHEAP_ROOTS_TOO_SHORT: return "the list is too short for the image's roots";
     default: return "this version knows no such refusal number";
     }
 }

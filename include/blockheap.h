@@ -36,7 +36,8 @@
  * - Block 0 is a block like any other. Its address is base, and so 0 is never
  *   an address: a word that is 0 serves as nil.
  *
- * To start, lend a pool and a table and call blockheap_init. Then hand both to
+ * To start, lend a pool and a table and call blockheap_init, or
+ * blockheap_open_image to go on with a heap that was saved. Then hand both to
  * each later call as the last one left them, with the same t. Programs may read
  * and write the bytes of their own objects directly; block k begins at
  * pool + 16 * k. The table is the library's to write.
@@ -73,7 +74,8 @@
  *
  * IMAGES
  *
- * blockheap_write_image writes a heap as a file that any host can read. The file
+ * An image is a heap as one file. blockheap_write_image writes it, and
+ * blockheap_open_image makes it a heap again, on that host or another. The file
  * is four sections, one directly after the other. Each begins with a count of 16
  * bits, lowest byte first, and then has as many items:
  *
@@ -85,33 +87,47 @@
  *   blocks    used blocks   the 16 bytes of each block that is not FREE, rising
  *   roots     root words    the root words as they were handed over
  *
- * That is 12 + t + 16 * used + 4 * roots bytes, BLOCKHEAP_IMAGE_BYTES. The table
+ * So the counts are at bytes 0, 6, 8 + t and 10 + t + 16 * used, and there are
+ * 12 + t + 16 * used + 4 * roots bytes in all, BLOCKHEAP_IMAGE_BYTES. The table
  * is not in planes here, and has no spare bits: blocks that are FREE, HEAD, TAIL
  * and FREE are the byte 0x24. Of a free block the file has its entry alone. An
  * object that nothing leads to any more is used until a collection frees it:
  * collect first, or it is in the file.
  *
+ * The bytes are the same from every host, and any program may write them without
+ * the library. A count c is the bytes c & 255 and c >> 8; a word w, as the base
+ * and each root are, the bytes w & 255, w >> 8 & 255, w >> 16 & 255 and w >> 24.
+ * Take them by such shifts: a number in the memory of a big-endian host has them
+ * the other way round. The bytes of a block are those of the pool, where a word
+ * has its lowest byte first on every host.
+ *
  * Here t is 1 and the base 4,096. Block 0 is an object, all of it 0, and the one
  * root is its address. The image has 33 bytes:
  *
- *   base     01 00   00 10 00 00
- *   table    01 00   01
- *   blocks   01 00   00 00 00 00 00 00 00 00 00 00 00 00 00 00 00 00
- *   roots    01 00   00 10 00 00
+ *   section   at   bytes         what they say
+ *   base       0   01 00         one base
+ *              2   00 10 00 00   4,096
+ *   table      6   01 00         t is 1
+ *              8   01            block 0 is HEAD, blocks 1 to 3 are FREE
+ *   blocks     9   01 00         one block is used
+ *             11   00 ... 00     the 16 bytes of block 0
+ *   roots     27   01 00         one root
+ *             29   00 10 00 00   4,096
  *
  * ANSWERS
  *
  * Every call returns 0, or the number of the first reason to refuse, in the
- * order of enum blockheap_refusal. Any number may be passed as base, t, block,
- * word or bytes, and any content in any buffer: what does not fit is refused.
- * The other answers go out through the pointers that come last. They are
- * written on every call. After a refusal they are all 0, and every byte of
- * pool, table, mark stack and image is what it was before, spare bits too. Block
- * 0 is a valid answer, so look at the returned number, not at the block, to see
- * whether a call was refused.
+ * order of enum blockheap_refusal; blockheap_open_image has an order of its own.
+ * Any number may be passed as base, t, block, word or bytes, and any content in
+ * any buffer: what does not fit is refused. The other answers go out through the
+ * pointers that come last. They are written on every call. After a refusal they
+ * are all 0, and every byte of every buffer is what it was before, spare bits
+ * too. Block 0 is a valid answer, so look at the returned number, not at the
+ * block, to see whether a call was refused.
  *
  * `change` is the change in used blocks, -4,096 to 4,096. Since the latest
- * accepted init, the changes add up to the used blocks of blockheap_survey.
+ * accepted init, the changes add up to the used blocks of blockheap_survey; from
+ * an accepted opening of an image on, they do with the image's used blocks.
  *
  * WHAT THE CALLER ENSURES
  *
@@ -174,10 +190,11 @@ extern "C" {
 #define BLOCKHEAP_MAX_STACK_ENTRIES 64
 #define BLOCKHEAP_MAX_IMAGE_BYTES 82956 /* of a full heap with the largest t and the most roots */
 
-/* From t: the lengths in bytes of the pool, of one plane of the table, and of the whole table. */
+/* From t: the lengths in bytes of the pool, of one plane of the table, of the whole table, and of pool and table. */
 #define BLOCKHEAP_POOL_BYTES(t) (64 * (t))
 #define BLOCKHEAP_PLANE_BYTES(t) (((t) + 1) / 2)
 #define BLOCKHEAP_TABLE_BYTES_OF_T(t) (2 * BLOCKHEAP_PLANE_BYTES(t))
+#define BLOCKHEAP_HEAP_BYTES(t) (BLOCKHEAP_POOL_BYTES(t) + BLOCKHEAP_TABLE_BYTES_OF_T(t))
 
 /* From the length of the pool: t, and the length of the table. */
 #define BLOCKHEAP_T_OF_POOL(pool_bytes) ((pool_bytes) / 64)
@@ -201,21 +218,26 @@ enum blockheap_entry {
     BLOCKHEAP_MARK = 3
 };
 
-/* What a call returns. Of several reasons, the lowest number is given. */
+/* What a call returns. Of several reasons, the lowest number is given, but by blockheap_open_image. */
 enum blockheap_refusal {
     BLOCKHEAP_OK = 0,
-    BLOCKHEAP_BAD_SHAPE = 1,        /* t, table_len, pool_len or base breaks the rules above, or the
-                                       roots' or stack's length is not divisible by 4 */
-    BLOCKHEAP_BAD_TABLE = 2,        /* a MARK, a tail at block 0 or after a free block, or a spare
-                                       bit that is 1 */
-    BLOCKHEAP_TOO_MANY_ROOTS = 3,   /* more than 4,096 root words */
-    BLOCKHEAP_STACK_TOO_LONG = 4,   /* a mark stack of more than 64 entries */
-    BLOCKHEAP_ZERO_BYTES = 5,       /* a request for 0 bytes */
-    BLOCKHEAP_NO_SUCH_BLOCK = 6,    /* the block number is n or more */
-    BLOCKHEAP_NOT_A_HEAD = 7,       /* the block is free or a tail */
-    BLOCKHEAP_NO_SUCH_WORD = 8,     /* the word is not inside the object */
-    BLOCKHEAP_NO_ROOM = 9,          /* no long enough run of free blocks that is aligned */
-    BLOCKHEAP_OUTPUT_TOO_SHORT = 10 /* the buffer for an image is shorter than the image */
+    BLOCKHEAP_BAD_SHAPE = 1,         /* t, table_len, pool_len or base breaks the rules above, or the
+                                        roots' or stack's length is not divisible by 4 */
+    BLOCKHEAP_BAD_TABLE = 2,         /* a MARK, a tail at block 0 or after a free block, or a spare
+                                        bit that is 1 */
+    BLOCKHEAP_TOO_MANY_ROOTS = 3,    /* more than 4,096 root words */
+    BLOCKHEAP_STACK_TOO_LONG = 4,    /* a mark stack of more than 64 entries */
+    BLOCKHEAP_ZERO_BYTES = 5,        /* a request for 0 bytes */
+    BLOCKHEAP_NO_SUCH_BLOCK = 6,     /* the block number is n or more */
+    BLOCKHEAP_NOT_A_HEAD = 7,        /* the block is free or a tail */
+    BLOCKHEAP_NO_SUCH_WORD = 8,      /* the word is not inside the object */
+    BLOCKHEAP_NO_ROOM = 9,           /* no long enough run of free blocks that is aligned */
+    BLOCKHEAP_OUTPUT_TOO_SHORT = 10, /* the buffer for an image is shorter than the image */
+    /* 11 to 13 are no call's. */
+    BLOCKHEAP_IMAGE_TRUNCATED = 14,  /* the image ends inside a count or inside a section's items */
+    BLOCKHEAP_BAD_COUNT = 15,        /* a count in the image is not what it must be */
+    BLOCKHEAP_TRAILING_BYTES = 16,   /* bytes behind the image's last section */
+    BLOCKHEAP_ROOTS_TOO_SHORT = 17   /* the lent list of roots has fewer entries than the image */
 };
 
 /*
@@ -351,6 +373,47 @@ uint32_t blockheap_write_image(uint64_t base, uint64_t t, const uint8_t *pool, s
                                const uint8_t *table, size_t table_len,
                                const uint8_t *roots, size_t roots_len,
                                uint8_t *image, size_t image_len, uint32_t *length);
+
+/*
+ * Opens an image: pool and table become the heap that the file says, and the
+ * front of a list its roots. What they held before does not matter. The file may
+ * be any bytes at all.
+ * - image: the whole file.
+ * - t, pool, table: those of a heap as large as the image's, whose t is the
+ *   count at byte 6 (bh_image_t in bh.h reads it).
+ * - roots: the list for the roots, four bytes each, lowest byte first, as many
+ *   as the image has or more: BLOCKHEAP_MAX_ROOTS are always enough, and there
+ *   is no limit here. Entries behind the roots stay as they were.
+ * - base: the image's base, for all later calls.
+ * - count: the number of roots.
+ * Each block that is not FREE has its bytes from the file, and every other byte
+ * of the pool is 0. All spare bits are 0.
+ * A heap that is written and then opened has the same base, table and roots, and
+ * the same bytes in its objects. An image that is opened and then written, with
+ * that base and those roots, is the same file.
+ * Refusals, in this order. First those of the file, which is read from the front
+ * to the first fault:
+ * - IMAGE_TRUNCATED: it ends inside a count or inside the items of a section;
+ * - BAD_COUNT: that of the base is not 1, that of the table not 1 to 1,024, or
+ *   that of the blocks not the number of the table's entries other than FREE (a
+ *   MARK counts);
+ * - TOO_MANY_ROOTS: the count of the roots is more than 4,096;
+ * - TRAILING_BYTES: it goes on behind the roots.
+ * A count is looked at before its items: a wrong one is told from a file that
+ * ends. Then:
+ * - BAD_SHAPE: the image's base breaks the rules above; or t, pool_len or
+ *   table_len is not that of a heap of the image's t; or roots_len is not
+ *   divisible by 4;
+ * - BAD_TABLE: the image's table has a MARK, or a tail at block 0 or after a
+ *   free block;
+ * - ROOTS_TOO_SHORT: the list has fewer entries than the image has roots.
+ */
+BLOCKHEAP_NONNULL
+uint32_t blockheap_open_image(const uint8_t *image, size_t image_len,
+                              uint64_t t, uint8_t *pool, size_t pool_len,
+                              uint8_t *table, size_t table_len,
+                              uint8_t *roots, size_t roots_len,
+                              uint32_t *base, uint32_t *count);
 
 #ifdef __cplusplus
 }
