@@ -40,6 +40,14 @@ impl Address {
     pub fn all_in(bytes: &[u8]) -> Result<&[Address], Refusal> {
         raw::addresses(bytes).ok_or(Refusal::BadShape)
     }
+
+    /// The same, to write: a list for the roots of an image.
+    ///
+    /// # Errors
+    /// As [`Address::all_in`].
+    pub fn all_in_mut(bytes: &mut [u8]) -> Result<&mut [Address], Refusal> {
+        raw::addresses_mut(bytes).ok_or(Refusal::BadShape)
+    }
 }
 
 impl fmt::Debug for Address {

@@ -1,4 +1,4 @@
-use crate::Block;
+use crate::{Address, Block, Heap};
 
 /// Where an object was placed.
 #[derive(Clone, Copy, Debug, PartialEq, Eq)]
@@ -39,4 +39,14 @@ pub struct Survey {
     /// The blocks of the longest run of free blocks, aligned or not: a large object of as many blocks may
     /// have no room in it. A run of `b + 3` free blocks always has room for `b`.
     pub longest: u32,
+}
+
+/// What an image says.
+#[derive(Debug)]
+#[non_exhaustive]
+pub struct Opened<'m, 'r> {
+    /// The heap, in the memory that was lent, at the image's base.
+    pub heap: Heap<'m>,
+    /// Its roots: the front of the list that was lent.
+    pub roots: &'r [Address],
 }

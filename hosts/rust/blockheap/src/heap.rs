@@ -1,6 +1,6 @@
 use crate::raw::Lent;
 use crate::{image_bytes, BLOCK_BYTES, WORDS_PER_BLOCK};
-use crate::{Address, Block, Collected, MarkEntry, Placed, Refusal, Survey};
+use crate::{Address, Block, Collected, MarkEntry, Opened, Placed, Refusal, Survey};
 use core::ops::Range;
 
 /// A heap in lent memory.
@@ -40,6 +40,50 @@ impl<'m> Heap<'m> {
     /// that other programs made, are valid, and stay where they are until they grow.
     pub fn resume(base: Address, pool: &'m mut [u8], table: &'m mut [u8]) -> Self {
         Heap { lent: Lent { base, pool, table } }
+    }
+
+    /// Makes a heap of an image, a file that [`Heap::write_image`] or any other program wrote, and copies
+    /// its roots to the front of a list. `include/blockheap.h` draws the file.
+    ///
+    /// The file may be any bytes at all. The pool has [`pool_bytes(t)`](crate::pool_bytes) and the table
+    /// [`table_bytes(t)`](crate::table_bytes) for the image's `t`, which [`image_t`](crate::image_t) reads;
+    /// what they hold does not matter. The list may be longer than the image's roots: the rest stays as it
+    /// was, and [`MAX_ROOTS`](crate::MAX_ROOTS) are always enough. Every byte of the pool that is not an
+    /// object's is 0.
+    ///
+    /// ```
+    /// # use blockheap::{full_image_bytes, image_t, pool_bytes, table_bytes, Address, Heap, Memory, MAX_ROOTS};
+    /// # fn main() -> Result<(), blockheap::Refusal> {
+    /// # let mut memory = Memory::<16>::new();
+    /// # let mut heap = memory.init(Address::from_word(4096))?;
+    /// # let block = heap.allocate(20)?.block;
+    /// # let mut buffer = [0; full_image_bytes(16, 1)];
+    /// # let image = heap.write_image(&[heap.address_of(block)?], &mut buffer)?;
+    /// let t = image_t(image).unwrap_or(0); // 0 is of no image, and is refused
+    /// let (mut pool, mut table) = (vec![0; pool_bytes(t)], vec![0; table_bytes(t)]);
+    /// let mut roots = [Address::NULL; MAX_ROOTS];
+    /// let opened = Heap::open_image(image, &mut pool, &mut table, &mut roots)?;
+    /// assert_eq!(opened.heap.base(), Address::from_word(4096));
+    /// assert_eq!(opened.roots, [Address::from_word(4096)]);
+    /// # Ok(())
+    /// # }
+    /// ```
+    ///
+    /// # Errors
+    /// In this order. Of the file, from its front: [`ImageTruncated`](Refusal::ImageTruncated),
+    /// [`BadCount`](Refusal::BadCount), [`TooManyRoots`](Refusal::TooManyRoots) and
+    /// [`TrailingBytes`](Refusal::TrailingBytes), whichever is met first; a count is looked at before its
+    /// items. Then [`BadShape`](Refusal::BadShape), also if pool and table are those of another `t`,
+    /// [`BadTable`](Refusal::BadTable), and [`RootsTooShort`](Refusal::RootsTooShort).
+    pub fn open_image<'r>(
+        image: &[u8],
+        pool: &'m mut [u8],
+        table: &'m mut [u8],
+        roots: &'r mut [Address],
+    ) -> Result<Opened<'m, 'r>, Refusal> {
+        let mut heap = Heap::resume(Address::NULL, pool, table);
+        let count = heap.lent.open_image(image, roots)?;
+        Ok(Opened { heap, roots: &roots[..count as usize] })
     }
 
     /// Makes an object of so many bytes, rounded up to whole blocks, in the lowest aligned run of as many

@@ -28,7 +28,7 @@ mod refusal;
 mod sizes;
 
 pub use address::Address;
-pub use answers::{Collected, Placed, Survey};
+pub use answers::{Collected, Opened, Placed, Survey};
 pub use block::Block;
 pub use heap::Heap;
 pub use mark_entry::MarkEntry;

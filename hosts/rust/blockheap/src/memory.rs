@@ -1,5 +1,5 @@
 use crate::raw::TableBytes;
-use crate::{pool_bytes, Address, Heap, Refusal};
+use crate::{pool_bytes, Address, Heap, Opened, Refusal};
 
 /// All the memory that a heap of `4 * T` blocks wants, with `T` from 1 to 1,024.
 ///
@@ -40,6 +40,20 @@ impl<const T: usize> Memory<T> {
     /// ```
     pub fn resume(&mut self, base: Address) -> Heap<'_> {
         Heap::resume(base, self.pool.as_flattened_mut(), self.table.as_mut_slice())
+    }
+
+    /// The heap of an image, in this memory, and its roots, in the list. The image's
+    /// [`t`](crate::image_t) must be `T`.
+    ///
+    /// # Errors
+    /// As [`Heap::open_image`].
+    pub fn open_image<'r>(
+        &mut self,
+        image: &[u8],
+        roots: &'r mut [Address],
+    ) -> Result<Opened<'_, 'r>, Refusal> {
+        let (pool, table) = (self.pool.as_flattened_mut(), self.table.as_mut_slice());
+        Heap::open_image(image, pool, table, roots)
     }
 }
 

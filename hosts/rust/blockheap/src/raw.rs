@@ -61,6 +61,23 @@ declare! {
     );
 }
 
+extern "C" {
+    /// Makes a file a heap.
+    pub fn blockheap_open_image(
+        image: *const u8,
+        image_len: usize,
+        t: u64,
+        pool: *mut u8,
+        pool_len: usize,
+        table: *mut u8,
+        table_len: usize,
+        roots: *mut u8,
+        roots_len: usize,
+        base: *mut u32,
+        count: *mut u32,
+    ) -> u32;
+}
+
 /// What every call is handed.
 #[derive(Debug)]
 pub(crate) struct Lent<'m> {
@@ -166,6 +183,33 @@ impl Lent<'_> {
         ))?;
         Ok(length)
     }
+
+    /// Sets the base too, and answers the number of roots.
+    pub fn open_image(&mut self, image: &[u8], roots: &mut [Address]) -> Result<u32, Refusal> {
+        let (mut base, mut count) = (0, 0);
+        let t = self.t() as u64;
+        let (pool_len, table_len) = (self.pool.len(), self.table.len());
+        let (pool, table) = (self.pool.as_mut_ptr(), self.table.as_mut_ptr());
+        let (entries, roots_len) = (roots.as_mut_ptr().cast(), size_of_val(roots));
+        // As hand_over does, and the image overlaps nothing that is lent to be written.
+        check(unsafe {
+            blockheap_open_image(
+                image.as_ptr(),
+                image.len(),
+                t,
+                pool,
+                pool_len,
+                table,
+                table_len,
+                entries,
+                roots_len,
+                &mut base,
+                &mut count,
+            )
+        })?;
+        self.base = Address::from_word(base);
+        Ok(count)
+    }
 }
 
 /// `T` bytes and one more, for the table of a heap of this `T`, odd or even.
@@ -192,6 +236,12 @@ pub(crate) fn addresses(bytes: &[u8]) -> Option<&[Address]> {
     let count = whole_words(bytes)?;
     // An address is four bytes, of any content and aligned to one.
     Some(unsafe { from_raw_parts(bytes.as_ptr().cast(), count) })
+}
+
+/// The same, to write.
+pub(crate) fn addresses_mut(bytes: &mut [u8]) -> Option<&mut [Address]> {
+    let count = whole_words(bytes)?;
+    Some(unsafe { from_raw_parts_mut(bytes.as_mut_ptr().cast(), count) })
 }
 
 /// Bytes as entries of the mark stack, if none is left over.

@@ -1,12 +1,13 @@
 use core::fmt;
 
-/// Why a call was refused: of several reasons, the one with the lowest number. After a refusal all that
-/// is lent holds what it held before.
+/// Why a call was refused: of several reasons, the one with the lowest number, but by
+/// [`Heap::open_image`](crate::Heap::open_image), which reads a file from its front. After a refusal all
+/// that is lent holds what it held before.
 #[derive(Clone, Copy, Debug, PartialEq, Eq, Hash)]
 #[non_exhaustive]
 pub enum Refusal {
-    /// The lengths of pool and table or the base do not fit, or a number of bytes is not divisible by
-    /// four.
+    /// The lengths of pool and table or the base do not fit, each other or an image, or a number of bytes
+    /// is not divisible by four.
     BadShape = 1,
     /// The table has a mark, a tail at block 0 or after a free block, or a spare bit that is 1.
     BadTable = 2,
@@ -26,10 +27,18 @@ pub enum Refusal {
     NoRoom = 9,
     /// The buffer for an image is shorter than the image.
     OutputTooShort = 10,
+    /// The image ends inside a count or inside a section's items.
+    ImageTruncated = 14,
+    /// A count in the image is not what it must be.
+    BadCount = 15,
+    /// Bytes follow behind the image's last section.
+    TrailingBytes = 16,
+    /// The lent list of roots has fewer entries than the image.
+    RootsTooShort = 17,
 }
 
 impl Refusal {
-    /// Every refusal, in the order of the numbers from 1.
+    /// Every refusal, in the order of the numbers.
     pub const ALL: &'static [Refusal] = &[
         Refusal::BadShape,
         Refusal::BadTable,
@@ -41,6 +50,10 @@ impl Refusal {
         Refusal::NoSuchWord,
         Refusal::NoRoom,
         Refusal::OutputTooShort,
+        Refusal::ImageTruncated,
+        Refusal::BadCount,
+        Refusal::TrailingBytes,
+        Refusal::RootsTooShort,
     ];
 
     /// Its number in `include/blockheap.h`.
@@ -53,7 +66,8 @@ impl Refusal {
             Refusal::BadShape => {
                 "the pool must have 64 * t bytes, with t from 1 to 1,024, the table t bytes, rounded up \
                  to an even number, the base must be a multiple of 16, at least 16, with the pool's \
-                 end at most 4,294,967,296, and roots and mark stack must have four bytes to an entry"
+                 end at most 4,294,967,296, roots and mark stack must have four bytes to an entry, and \
+                 an image must have the t of the pool"
             }
             Refusal::BadTable => {
                 "the table has a mark, a tail at block 0 or after a free block, or a spare bit that is 1"
@@ -66,6 +80,10 @@ impl Refusal {
             Refusal::NoSuchWord => "the word lies outside the object",
             Refusal::NoRoom => "no aligned run of free blocks is long enough",
             Refusal::OutputTooShort => "the buffer is shorter than the image",
+            Refusal::ImageTruncated => "the image ends inside a section",
+            Refusal::BadCount => "a count in the image is wrong",
+            Refusal::TrailingBytes => "bytes follow behind the image",
+            Refusal::RootsTooShort => "the list is too short for the image's roots",
         }
     }
 }

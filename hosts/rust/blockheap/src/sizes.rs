@@ -61,3 +61,17 @@ pub const fn image_bytes(t: usize, used: usize, roots: usize) -> usize {
 pub const fn full_image_bytes(t: usize, roots: usize) -> usize {
     image_bytes(t, 4 * t, roots)
 }
+
+/// The `t` of an image, by its first 8 bytes. [`None`] if they are of no image, which
+/// [`Heap::open_image`](crate::Heap::open_image) then refuses whatever it is lent.
+///
+/// ```
+/// # use blockheap::image_t;
+/// assert_eq!(image_t(&[1, 0, 0, 16, 0, 0, 3, 0]), Some(3));
+/// assert_eq!(image_t(b"no image"), None);
+/// ```
+pub fn image_t(image: &[u8]) -> Option<usize> {
+    let (front, _) = image.split_first_chunk::<8>()?;
+    let [base_count, t] = [[front[0], front[1]], [front[6], front[7]]].map(u16::from_le_bytes);
+    (base_count == 1 && (1..=MAX_T).contains(&t.into())).then_some(t.into())
+}

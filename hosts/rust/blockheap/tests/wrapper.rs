@@ -1,6 +1,6 @@
 //! The wrapper as a Rust program meets it.
 
-use blockheap::{full_image_bytes, pool_bytes, table_bytes, MAX_ROOTS};
+use blockheap::{full_image_bytes, image_t, pool_bytes, table_bytes, MAX_ROOTS};
 use blockheap::{Address, Block, Heap, MarkEntry, Memory, Placed, Refusal, Survey};
 
 const BASE: Address = Address::from_word(4096);
@@ -130,9 +130,13 @@ fn roots_and_mark_stack_may_be_bytes() -> Result<(), Refusal> {
         [BASE, Address::from_word(0x0403_0201)]
     );
     assert_eq!(Address::all_in(&[])?, []);
+    let mut bytes = [0, 16, 0, 0, 7, 7, 7, 7];
+    Address::all_in_mut(&mut bytes)?[1] = Address::from_word(0x2000_0000);
+    assert_eq!(bytes, [0, 16, 0, 0, 0, 0, 0, 32]);
     assert_eq!(MarkEntry::all_in(&mut [0; 8])?, [MarkEntry::EMPTY; 2]);
     for bytes in 1..4 {
         assert_eq!(Address::all_in(&[0; 4][..bytes]), Err(Refusal::BadShape));
+        assert_eq!(Address::all_in_mut(&mut [0; 4][..bytes]), Err(Refusal::BadShape));
         assert_eq!(MarkEntry::all_in(&mut [0; 4][..bytes]), Err(Refusal::BadShape));
     }
     Ok(())
@@ -169,13 +173,109 @@ fn a_buffer_that_is_too_short_is_refused_after_the_roots() -> Result<(), Refusal
     Ok(())
 }
 
+/// The 33 bytes of a heap of four blocks from address 4,096 with an object in block 0, its one root.
+const ONE_BLOCK: [u8; 33] = {
+    let mut image = [0; 33];
+    (image[0], image[3], image[6], image[8], image[9], image[27], image[30]) =
+        (1, 16, 1, 1, 1, 1, 16);
+    image
+};
+
+#[test]
+fn an_image_is_opened_in_other_memory() -> Result<(), Refusal> {
+    let (mut logger, mut visitor) = (Memory::<16>::new(), Memory::<16>::new());
+    let mut heap = logger.init(Address::from_word(0x2000_0000))?;
+    heap.allocate(5)?;
+    let text = heap.allocate(40)?.block;
+    heap.object_mut(text)?[..4].copy_from_slice(b"rain");
+    heap.free(Block::from_number(0))?;
+    let (mut buffer, mut again) = ([0; full_image_bytes(16, 1)], [0; full_image_bytes(16, 1)]);
+    let image = heap.write_image(&[heap.address_of(text)?], &mut buffer)?;
+
+    visitor.init(BASE)?.allocate(1000)?; // what was there before does not matter
+    let mut roots = [BASE; 3];
+    let opened = visitor.open_image(image, &mut roots)?;
+    assert_eq!(opened.heap.base(), Address::from_word(0x2000_0000));
+    assert_eq!(opened.heap.block_at(opened.roots[0]), Some(text));
+    assert_eq!(opened.heap.object(text)?, heap.object(text)?);
+    assert_eq!(opened.heap.write_image(opened.roots, &mut again)?, image);
+
+    let mut heap = opened.heap;
+    assert_eq!(parts(heap.allocate(1)?), (0, 1));
+    assert_eq!(counts(heap.survey()?), [4, 2, 60]);
+    assert_eq!(roots, [Address::from_word(0x2000_0010), BASE, BASE]);
+    Ok(())
+}
+
+#[test]
+fn any_size_is_opened_in_slices() -> Result<(), Refusal> {
+    let t = image_t(&ONE_BLOCK).expect("the t of an image");
+    let (mut pool, mut table) = (vec![0xEE; pool_bytes(t)], vec![0xEE; table_bytes(t)]);
+    let mut roots = [Address::NULL; MAX_ROOTS + 1];
+    let opened = Heap::open_image(&ONE_BLOCK, &mut pool, &mut table, &mut roots)?;
+    assert_eq!((opened.heap.base(), opened.roots), (BASE, &[BASE][..]));
+    assert_eq!((pool, table), (vec![0; 64], vec![1, 0]));
+    Ok(())
+}
+
+#[test]
+fn the_front_of_an_image_has_its_t() {
+    assert_eq!(image_t(&ONE_BLOCK[..8]), Some(1));
+    assert_eq!(image_t(&[1, 0, 9, 9, 9, 9, 0, 4]), Some(1024));
+    for length in 0..8 {
+        assert_eq!(image_t(&ONE_BLOCK[..length]), None, "{length} bytes");
+    }
+    for [base_count, t] in [[0, 1], [2, 1], [256, 1], [257, 1], [1, 0], [1, 1025], [1, 65535]] {
+        let [base_count, t] = [base_count, t].map(u16::to_le_bytes);
+        assert_eq!(image_t(&[&base_count[..], &[0; 4], &t].concat()), None);
+    }
+}
+
+#[test]
+fn what_is_no_image_is_refused_and_changes_nothing() {
+    let changed = |at: usize, byte: u8| {
+        let mut image = ONE_BLOCK.to_vec();
+        image[at] = byte;
+        image
+    };
+    for (image, refusal) in [
+        (vec![], Refusal::ImageTruncated),
+        (ONE_BLOCK[..32].to_vec(), Refusal::ImageTruncated),
+        (changed(0, 2), Refusal::BadCount),
+        (changed(9, 2), Refusal::BadCount),
+        (changed(28, 17), Refusal::TooManyRoots),
+        ([&ONE_BLOCK[..], &[0]].concat(), Refusal::TrailingBytes),
+        (changed(2, 1), Refusal::BadShape),
+        (changed(8, 2), Refusal::BadTable),
+        (changed(8, 3), Refusal::BadTable),
+        (ONE_BLOCK.to_vec(), Refusal::RootsTooShort),
+    ] {
+        let (mut pool, mut table) = ([0xEE; 64], [0xEE; 2]);
+        let opened = Heap::open_image(&image, &mut pool, &mut table, &mut []);
+        assert_eq!(opened.err(), Some(refusal), "{image:?}");
+        assert_eq!((pool, table), ([0xEE; 64], [0xEE; 2]));
+    }
+}
+
+#[test]
+fn an_image_of_another_size_is_refused() {
+    let mut roots = [Address::NULL; 1];
+    let larger = Memory::<2>::new().open_image(&ONE_BLOCK, &mut roots).err();
+    assert_eq!(larger, Some(Refusal::BadShape));
+    let none = Memory::<0>::new().open_image(&ONE_BLOCK, &mut roots).err();
+    assert_eq!(none, Some(Refusal::BadShape));
+    assert_eq!(roots, [Address::NULL]);
+}
+
 #[test]
 fn each_refusal_says_what_is_wrong() {
     let texts: Vec<String> = Refusal::ALL.iter().map(Refusal::to_string).collect();
-    for (index, text) in texts.iter().enumerate() {
-        assert!(text.starts_with(&format!("refused ({}): ", index + 1)), "{text}");
+    for (index, (refusal, text)) in Refusal::ALL.iter().zip(&texts).enumerate() {
+        assert!(text.starts_with(&format!("refused ({}): ", refusal.number())), "{text}");
         assert!(!texts[..index].contains(text), "{text}");
     }
+    let numbers: Vec<u32> = Refusal::ALL.iter().map(|refusal| refusal.number()).collect();
+    assert_eq!(numbers, (1..=10).chain(14..=17).collect::<Vec<u32>>());
     let no_room = "refused (9): no aligned run of free blocks is long enough";
     assert_eq!(Refusal::NoRoom.to_string(), no_room);
 }
