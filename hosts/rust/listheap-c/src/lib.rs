@@ -68,3 +68,26 @@ export!(blockheap_write_image(roots: *const u8, roots_len: usize, image: *mut u8
     let image = from_raw_parts_mut(image, image_len);
     lent.write_image(roots, image).map(|length| [length as i64])
 });
+
+/// # Safety
+/// As `include/blockheap.h` asks.
+#[no_mangle]
+pub unsafe extern "C" fn blockheap_open_image(
+    image: *const u8,
+    image_len: usize,
+    t: u64,
+    pool: *mut u8,
+    pool_len: usize,
+    table: *mut u8,
+    table_len: usize,
+    roots: *mut u8,
+    roots_len: usize,
+    base: *mut u32,
+    count: *mut u32,
+) -> u32 {
+    let image = from_raw_parts(image, image_len);
+    let [pool, table, roots] = [(pool, pool_len), (table, table_len), (roots, roots_len)]
+        .map(|(bytes, length)| from_raw_parts_mut(bytes, length));
+    let opened = Lent { base: 0, t, pool, table }.open_image(image, roots);
+    answer(opened.map(|(base, count)| [base as i64, count as i64]), [base, count])
+}

@@ -1,7 +1,7 @@
 //! A list of objects out of a lent table and pool, and back.
 
 use crate::heap::{BLOCK_BYTES, WORDS_PER_BLOCK};
-use crate::{Collected, ListHeap, Object, Refusal};
+use crate::{Collected, File, ListHeap, Object, Refusal};
 
 const WORD_BYTES: usize = 4;
 const BLOCKS_PER_T: u64 = 4;
@@ -60,13 +60,23 @@ impl Lent<'_> {
         self.on_list(|heap| heap.write_image(&words_of(roots), output))
     }
 
+    /// Open image, with the list for the roots as bytes: the file gives the base. Answers it, and the number
+    /// of roots.
+    pub fn open_image(self, image: &[u8], roots: &mut [u8]) -> Result<(u64, u64), Refusal> {
+        let file = File::read(image)?;
+        let lent = Lent { base: file.base.into(), ..self };
+        lent.check_shape()?;
+        let heap = file.open(lent.t, roots)?;
+        lent.pool.fill(0);
+        lent.encode(&heap);
+        Ok((heap.base, file.roots.len() as u64))
+    }
+
     fn check_shape(&self) -> Result<(), Refusal> {
         let [pool, table] = [&self.pool, &self.table].map(|bytes| bytes.len() as u64);
         let t_fits = (1..=1024).contains(&self.t);
         let lengths_fit = t_fits && pool == 64 * self.t && table == 2 * self.t.div_ceil(2);
-        let end_fits = self.base.checked_add(pool).is_some_and(|end| end <= ADDRESSES);
-        let base_fits = self.base >= 16 && self.base % 16 == 0 && end_fits;
-        if lengths_fit && base_fits {
+        if lengths_fit && base_fits(self.base, self.t) {
             Ok(())
         } else {
             Err(Refusal::Shape)
@@ -75,18 +85,7 @@ impl Lent<'_> {
 
     fn decode(&self) -> Result<ListHeap, Refusal> {
         let mut heap = ListHeap::empty(self.base, BLOCKS_PER_T * self.t);
-        for (block, entry) in (0..).zip(entries(self.table)) {
-            match entry {
-                FREE => {}
-                _ if block >= heap.blocks => return Err(Refusal::Table),
-                HEAD => heap.objects.push(Object { start: block, blocks: 1, words: Vec::new() }),
-                TAIL => match heap.objects.last_mut() {
-                    Some(object) if object.end() == block => object.blocks += 1,
-                    _ => return Err(Refusal::Table),
-                },
-                _ => return Err(Refusal::Table),
-            }
-        }
+        heap.objects = objects_of(entries(self.table), heap.blocks)?;
         for object in &mut heap.objects {
             object.words = words_of(&self.pool[bytes_of(object)]);
         }
@@ -104,6 +103,33 @@ impl Lent<'_> {
             }
         }
     }
+}
+
+/// Whether a heap of this t, which is one, may have this base.
+pub(crate) fn base_fits(base: u64, t: u64) -> bool {
+    let end_fits = base.checked_add(64 * t).is_some_and(|end| end <= ADDRESSES);
+    base >= 16 && base % 16 == 0 && end_fits
+}
+
+/// The objects of entries, still without words. Behind so many blocks every entry must be FREE.
+pub(crate) fn objects_of(
+    entries: impl IntoIterator<Item = u8>,
+    blocks: u64,
+) -> Result<Vec<Object>, Refusal> {
+    let mut objects: Vec<Object> = Vec::new();
+    for (block, entry) in (0..).zip(entries) {
+        match entry {
+            FREE => {}
+            _ if block >= blocks => return Err(Refusal::Table),
+            HEAD => objects.push(Object { start: block, blocks: 1, words: Vec::new() }),
+            TAIL => match objects.last_mut() {
+                Some(object) if object.end() == block => object.blocks += 1,
+                _ => return Err(Refusal::Table),
+            },
+            _ => return Err(Refusal::Table),
+        }
+    }
+    Ok(objects)
 }
 
 /// The words that the bytes spell, lowest byte first.

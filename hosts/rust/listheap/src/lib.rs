@@ -7,11 +7,13 @@
 
 mod bytes;
 mod collect;
+mod file;
 mod heap;
 mod image;
 mod refusal;
 
 pub use bytes::{words_of, Lent};
 pub use collect::{Collected, Marking};
+pub use file::File;
 pub use heap::{ListHeap, Object, Placed, Survey};
 pub use refusal::Refusal;

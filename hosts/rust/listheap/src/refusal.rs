@@ -11,6 +11,10 @@ pub enum Refusal {
     NoSuchWord = 8,
     NoRoom = 9,
     OutputTooShort = 10,
+    ImageTruncated = 14,
+    BadCount = 15,
+    TrailingBytes = 16,
+    RootsTooShort = 17,
 }
 
 impl Refusal {
