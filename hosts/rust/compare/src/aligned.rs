@@ -41,8 +41,9 @@ pub fn unaligned_head(lent: &Lent) -> Option<u64> {
     large_heads(lent).into_iter().find(|head| !aligned(*head, lent.object_blocks(*head)))
 }
 
-/// Makes so many calls from an init on, after each of which every large object must be aligned. Answers
-/// how many large objects the calls left, all counted together.
+/// Makes so many calls from an init on, after each of which every large object must be aligned. Nothing is
+/// opened: a file may have large objects anywhere. Answers how many large objects the calls left, all counted
+/// together.
 pub fn stays_aligned(subject: Subject, t: u64, seed: u64, calls: u64) -> Result<usize, String> {
     let random = &mut Random::new(seed);
     let mut lent = draw::noise(random, t);
@@ -50,7 +51,9 @@ pub fn stays_aligned(subject: Subject, t: u64, seed: u64, calls: u64) -> Result<
     let mut left = 0;
     for number in 0..calls {
         let call = draw::call(random, &mut lent);
-        subject(&call, &mut lent);
+        if call != Call::OpenImage {
+            subject(&call, &mut lent);
+        }
         if let Some(head) = unaligned_head(&lent) {
             return Err(format!(
                 "seed {seed}, call {number}: a large object at {head} after {call:?} on {lent}"

@@ -9,8 +9,12 @@ pub enum Access {
     Writes,
     /// Writes all of it, whatever it held, and needs no certain length.
     Scratch,
-    /// Writes as many bytes at its front as it answers, whatever they held, and needs no certain length.
-    Fills,
+    /// Writes as many items at its front as that answer says, of so many bytes each, whatever they held, and
+    /// needs no certain length.
+    Fills {
+        answer: &'static str,
+        bytes: usize,
+    },
 }
 
 /// What is to be known of a call.
@@ -99,7 +103,18 @@ calls! {
         name: "write image",
         answers: &["length"],
         refusals: &[0, 1, 2, 3, 10],
-        takes: &[(Roots, Reads), (Image, Fills)],
+        takes: &[(Roots, Reads), (Image, Fills { answer: "length", bytes: 1 })],
+    };
+    OpenImage = Description {
+        name: "open image",
+        answers: &["base", "count"],
+        refusals: &[0, 1, 2, 3, 14, 15, 16, 17],
+        takes: &[
+            (Pool, Writes),
+            (Table, Writes),
+            (Roots, Fills { answer: "count", bytes: 4 }),
+            (Image, Reads),
+        ],
     };
 }
 
@@ -118,7 +133,7 @@ impl Call {
             _ if reply.refusal != 0 => 0,
             None | Some(Reads) => 0,
             Some(Writes | Scratch) => length,
-            Some(Fills) => length.min(reply.parts["length"] as usize),
+            Some(Fills { answer, bytes }) => length.min(bytes * reply.parts[answer] as usize),
         }
     }
 
@@ -128,7 +143,7 @@ impl Call {
         match self.access(buffer) {
             None => 0,
             Some(Reads | Writes) => length,
-            Some(Scratch | Fills) => self.written(buffer, length, reply),
+            Some(Scratch | Fills { .. }) => self.written(buffer, length, reply),
         }
     }
 }
@@ -140,6 +155,6 @@ mod tests {
     #[test]
     fn no_pair_of_a_call_and_a_refusal_number_is_lost() {
         let pairs: usize = Call::DESCRIPTIONS.iter().map(|call| call.refusals.len()).sum();
-        assert_eq!(pairs, 44);
+        assert_eq!(pairs, 52);
     }
 }

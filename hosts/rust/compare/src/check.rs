@@ -63,7 +63,7 @@ fn rescan_fault(reply: &Reply, before: &Lent) -> Option<String> {
 mod tests {
     use super::*;
     use crate::Guarded;
-    use Buffer::{Image, Pool, Stack, Table};
+    use Buffer::{Image, Pool, Roots, Stack, Table};
 
     /// The buffers of which a call may change a byte.
     fn writable(call: Call, reply: Reply) -> Vec<Buffer> {
@@ -100,9 +100,17 @@ mod tests {
     }
 
     #[test]
+    fn a_write_behind_opened_roots_is_seen() {
+        let opened = |count| Reply::accepted(&Call::OpenImage, &[4096, count]);
+        assert_eq!(writable(Call::OpenImage, opened(1)), [Pool, Table, Roots]);
+        assert_eq!(writable(Call::OpenImage, opened(0)), [Pool, Table]);
+    }
+
+    #[test]
     fn a_write_by_a_refused_call_is_seen() {
         assert_eq!(refused(Call::Collect, 3), []);
         assert_eq!(refused(Call::Allocate { bytes: 1 }, 9), []);
         assert_eq!(refused(Call::WriteImage, 10), []);
+        assert_eq!(refused(Call::OpenImage, 17), []);
     }
 }

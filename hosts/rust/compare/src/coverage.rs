@@ -4,7 +4,7 @@
 use crate::readings::{self, collect_reading, reads_otherwise, right, Reading};
 use crate::situations::{Made, SITUATIONS};
 use crate::{on_list, Buffer, Call, Lent, Reply};
-use std::collections::BTreeMap;
+use std::collections::{BTreeMap, BTreeSet};
 use std::fmt::Write;
 
 /// Words that tell a right collection from a wrong one: what they are called, and how the wrong one reads
@@ -101,14 +101,14 @@ impl Coverage {
 
     /// A line for each call, with a column for each refusal number, then a line for each thing seen.
     pub fn table(&self) -> String {
-        let most = reachable().map(|(_, number)| number).max().unwrap_or(0);
+        let numbers: BTreeSet<u32> = reachable().map(|(_, number)| number).collect();
         let mut text = format!("{:<12}", "refusal");
-        for number in 0..=most {
+        for number in &numbers {
             write!(text, "{number:>8}").expect("text can be written");
         }
         for call in Call::DESCRIPTIONS {
             write!(text, "\n{:<12}", call.name).expect("text can be written");
-            for number in 0..=most {
+            for number in numbers.iter().copied() {
                 let count = self.numbers.get(&(call.name, number));
                 let shown = count.map_or("-".to_string(), u64::to_string);
                 write!(text, "{shown:>8}").expect("text can be written");

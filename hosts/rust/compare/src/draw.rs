@@ -2,7 +2,7 @@
 
 use crate::planes::{table_bytes, FREE, HEAD, MARK, MOST, TAIL};
 use crate::Buffer::{Image, Pool, Roots, Stack, Table};
-use crate::{Access, Call, Guarded, Lent, Random};
+use crate::{files, Access, Call, Guarded, Lent, Random};
 
 /// Far outside of every heap, and equal to small numbers where a number is cut or wrapped.
 const HUGE: [u64; 6] = [1 << 32, 1 << 36, 1 << 60, 1 << 62, 1 << 63, u64::MAX - 31];
@@ -169,9 +169,10 @@ fn some_address(random: &mut Random, lent: &Lent) -> u32 {
     address(lent, some_part(random, lent, head))
 }
 
-/// A call with its arguments; for a collection also roots and mark stack, for an image roots and output.
+/// A call with its arguments; for a collection also roots and mark stack, for an image roots and output, or
+/// the file and a list for its roots.
 pub fn call(random: &mut Random, lent: &mut Lent) -> Call {
-    match random.below(330) {
+    match random.below(354) {
         0 => Call::Init,
         1..=74 => Call::Allocate { bytes: bytes(random, lent) },
         75..=104 => Call::Free { block: block(random, lent) },
@@ -194,10 +195,15 @@ pub fn call(random: &mut Random, lent: &mut Lent) -> Call {
             let value = word_value(random, lent);
             Call::Store { block, word: word(random, lent, block), value }
         }
-        _ => {
+        300..=329 => {
             draw_any_roots(random, lent);
             lent[Image] = Guarded::new(&output(random, lent));
             Call::WriteImage
+        }
+        _ => {
+            let file = files::draw(random, lent);
+            files::lend(random, lent, &file);
+            Call::OpenImage
         }
     }
 }
@@ -329,7 +335,7 @@ pub fn other(random: &mut Random, access: Access, bytes: &Guarded) -> Guarded {
     match access {
         Access::Reads | Access::Writes => bytes.clone(),
         Access::Scratch => Guarded::new(&other_stack(random, bytes)),
-        Access::Fills => Guarded::new(&random.bytes(bytes.len())),
+        Access::Fills { .. } => Guarded::new(&random.bytes(bytes.len())),
     }
 }
 

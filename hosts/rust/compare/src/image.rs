@@ -22,19 +22,27 @@ pub fn file(sections: &[Section]) -> Vec<u8> {
 }
 
 /// The sections of a file by their counts, if they are all that it has.
-pub fn read(mut file: &[u8]) -> Option<Vec<Section>> {
-    let mut take = |length: usize| {
-        let (taken, rest) = file.split_at_checked(length)?;
-        file = rest;
-        Some(taken)
-    };
-    let sections = ITEM_BYTES.map(|item_bytes| {
-        let count = u16::from_le_bytes(take(2)?.try_into().ok()?);
-        let items = take(usize::from(count) * item_bytes)?.to_vec();
-        Some(Section { count, items })
-    });
-    let sections: Option<Vec<Section>> = sections.into_iter().collect();
-    sections.filter(|_| file.is_empty())
+pub fn read(file: &[u8]) -> Option<Vec<Section>> {
+    let (sections, rest) = whole_sections(file);
+    (sections.len() == ITEM_BYTES.len() && rest.is_empty()).then_some(sections)
+}
+
+/// The sections of a file by their counts, up to one that is cut short, and the bytes behind them.
+pub fn whole_sections(mut file: &[u8]) -> (Vec<Section>, &[u8]) {
+    let mut sections = Vec::new();
+    while let Some(section) = ITEM_BYTES.get(sections.len()).and_then(|bytes| first(file, *bytes)) {
+        file = &file[2 + section.items.len()..];
+        sections.push(section);
+    }
+    (sections, file)
+}
+
+/// The section at the front of a file, with items of so many bytes.
+fn first(file: &[u8], item_bytes: usize) -> Option<Section> {
+    let (count, rest) = file.split_first_chunk()?;
+    let count = u16::from_le_bytes(*count);
+    let items = rest.get(..usize::from(count) * item_bytes)?.to_vec();
+    Some(Section { count, items })
 }
 
 impl Lent {
@@ -99,5 +107,8 @@ mod tests {
         assert_eq!(read(&file), Some(heap().sections().to_vec()));
         assert!((0..file.len()).all(|length| read(&file[..length]).is_none()));
         assert_eq!(read(&[&file[..], &[0]].concat()), None);
+        assert_eq!(whole_sections(&file[..8]), (heap().sections()[..1].to_vec(), &file[6..8]));
+        let longer = [&file[..], &[7]].concat();
+        assert_eq!(whole_sections(&longer), (heap().sections().to_vec(), &[7][..]));
     }
 }

@@ -25,7 +25,7 @@ impl fmt::Display for Buffer {
     }
 }
 
-/// All that is lent to a call; it may take less.
+/// All that is lent to a call; it may take less. An opened image sets the base.
 #[derive(Clone, Debug)]
 pub struct Lent {
     pub base: u64,

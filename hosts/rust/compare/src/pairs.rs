@@ -6,7 +6,7 @@ use crate::planes::FREE;
 use crate::Buffer::{self, Pool, Stack};
 use crate::{draw, second, Call, Guarded, Lent, Random, Reply, Sizes, Subject};
 
-/// What was run: pairs and calls on each side, how many of these were refused and how many wrote an image,
+/// What was run: pairs and calls on each side, how many of these were refused, wrote an image and opened one,
 /// in how many pool bytes the pairs differed at the start, and how often stacks of different lengths took
 /// different rescans.
 #[derive(Clone, Copy, Debug, Default)]
@@ -15,6 +15,7 @@ pub struct PairCounts {
     pub calls: u64,
     pub refused: u64,
     pub images: u64,
+    pub openings: u64,
     pub different_bytes: u64,
     pub different_rescans: u64,
 }
@@ -70,11 +71,24 @@ impl Pair {
         first[Pool].iter().zip(second[Pool].iter()).filter(|(a, b)| a != b).count() as u64
     }
 
+    /// Gives both sides other bytes in their free blocks, where they have become the same by an opening.
+    fn part(&mut self, random: &mut Random) {
+        for side in &mut self.sides {
+            let entries = side.clone();
+            refill_free_blocks(random, side, &entries);
+        }
+    }
+
     /// A call for both sides, now and then with another base or t: the second takes what the first takes,
     /// but for the heap, and other bytes where they must not matter.
     fn draw_call(&mut self, random: &mut Random) -> Call {
+        for side in &mut self.sides {
+            (side.base, side.t) = (self.base, self.t);
+        }
+        if self.different_bytes() == 0 {
+            self.part(random);
+        }
         let [first, second] = &mut self.sides;
-        (first.base, first.t) = (self.base, self.t);
         let call = draw::call(random, first);
         if random.percent(5) {
             first.base = draw::any_base(random, first);
@@ -102,6 +116,10 @@ impl Pair {
         counts.calls += 1;
         counts.refused += u64::from(replies[0].refusal != 0);
         counts.images += u64::from(*call == Call::WriteImage && replies[0].refusal == 0);
+        if *call == Call::OpenImage && replies[0].refusal == 0 {
+            self.base = self.sides[0].base;
+            counts.openings += 1;
+        }
         if self.lengths_differ(call) {
             let rescans = replies[0].parts["rescans"];
             let others = replies[1].parts.insert("rescans", rescans);

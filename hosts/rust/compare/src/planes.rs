@@ -17,6 +17,11 @@ pub fn table_bytes(t: u64) -> usize {
     (t + t % 2) as usize
 }
 
+/// The entries that these numbers spell: four to a number, the first in the lowest bits.
+pub fn entries_in(numbers: &[u8]) -> impl Iterator<Item = u8> + '_ {
+    numbers.iter().flat_map(|number| [1, 4, 16, 64].map(|of| number / of % 4))
+}
+
 /// A bit of a table that is of no block: of the low plane (0) or the high one (1), and which bit of its last
 /// byte.
 #[derive(Clone, Copy, Debug, PartialEq, Eq)]
@@ -38,12 +43,10 @@ impl Lent {
         Lent::new(base, t, &vec![0; 64 * t as usize], &vec![0; table_bytes(t)])
     }
 
-    /// A heap in a pool of zeros with the entries that these numbers spell: four to a number, the first in
-    /// the lowest bits.
+    /// A heap in a pool of zeros with the entries that these numbers spell.
     pub fn of_numbers(base: u64, numbers: &[u8]) -> Lent {
         let mut lent = Lent::empty(base, numbers.len() as u64);
-        let digits = numbers.iter().flat_map(|number| [1, 4, 16, 64].map(|of| number / of % 4));
-        (0..).zip(digits).for_each(|(block, entry)| lent.set_entry(block, entry));
+        (0..).zip(entries_in(numbers)).for_each(|(block, entry)| lent.set_entry(block, entry));
         lent
     }
 

@@ -1,7 +1,8 @@
 //! Situations that a refusal number does not show.
 
 use crate::aligned::{aligned, free_from, large, lowest_start};
-use crate::planes::{table_bytes, SpareBit, MOST};
+use crate::image::{self, whole_sections, Section};
+use crate::planes::{entries_in, table_bytes, SpareBit, FREE, MARK, MOST, TAIL};
 use crate::Buffer::{Image, Pool, Roots, Table};
 use crate::{second, Call, Guarded, Lent, Reply};
 
@@ -19,7 +20,7 @@ type Situation = (&'static str, u32, &'static str, fn(&Made) -> bool);
 const ANY: &str = "any call";
 
 /// What is said to be alone is the one reason of the refusal.
-pub const SITUATIONS: [Situation; 62] = [
+pub const SITUATIONS: [Situation; 107] = [
     (ANY, 0, "t is 1", |made| made.before.t == 1),
     (ANY, 0, "t is odd", |made| made.before.t % 2 == 1),
     (ANY, 0, "t is even", |made| made.before.t % 2 == 0),
@@ -98,7 +99,73 @@ pub const SITUATIONS: [Situation; 62] = [
     ("write image", 10, "no room for the roots alone", |made| {
         made.roots() > 0 && made.left_over() == -4 * made.roots()
     }),
+    ("open image", 0, "no used block", |made| made.count(BLOCKS) == Some(0)),
+    ("open image", 0, "no free block", |made| !made.file_entries().contains(&FREE)),
+    ("open image", 0, "more than 255 used blocks", |made| made.count(BLOCKS) > Some(255)),
+    ("open image", 0, "t above 255", |made| made.before.t > 255),
+    ("open image", 0, "no roots", |made| made.part("count") == 0),
+    ("open image", 0, "4,096 roots", |made| made.part("count") == 4096),
+    ("open image", 0, "a list as long as the roots", |made| made.entries_left_over() == 0),
+    ("open image", 0, "a list of more than 4,096 entries", |made| made.roots() > 4096),
+    ("open image", 0, "over an ill-formed table", |made| made.lies_over_a_wrong_table()),
+    ("open image", 0, "over a spare bit", |made| made.spares_set().next().is_some()),
+    ("open image", 0, "at another base", |made| made.part("base") as u64 != made.before.base),
+    ("open image", 1, "a base of 0, alone", |made| made.has_base_alone(|base, _| base == 0)),
+    ("open image", 1, "a base inside a block, alone", |made| {
+        made.has_base_alone(|base, _| base % 16 != 0)
+    }),
+    ("open image", 1, "a base a block too high, alone", |made| {
+        made.has_base_alone(|base, t| base + 64 * t == (1 << 32) + 16)
+    }),
+    ("open image", 1, "memory of another t, alone", |made| made.has_memory_of_another_t()),
+    ("open image", 1, "a piece of an entry, alone", |made| made.has_piece_of_root_alone()),
+    ("open image", 2, "a mark, alone", |made| made.table_faults() == [true, false, false]),
+    ("open image", 2, "a tail at block 0, alone", |made| {
+        made.table_faults() == [false, true, false]
+    }),
+    ("open image", 2, "a tail after a free block, alone", |made| {
+        made.table_faults() == [false, false, true]
+    }),
+    ("open image", 2, "too short a list", |made| made.entries_left_over() < 0),
+    ("open image", 3, "4,097 roots", |made| made.count(ROOTS) == Some(4097)),
+    ("open image", 3, "no roots behind the count", |made| made.ends_with_count(ROOTS)),
+    ("open image", 14, "an empty file", |made| made.before[Image].is_empty()),
+    ("open image", 14, "in the base's count", |made| made.is_cut_in_count(BASE)),
+    ("open image", 14, "in the base", |made| made.is_cut_in_items(BASE)),
+    ("open image", 14, "in the table's count", |made| made.is_cut_in_count(TABLE)),
+    ("open image", 14, "in the table", |made| made.is_cut_in_items(TABLE)),
+    ("open image", 14, "in the blocks' count", |made| made.is_cut_in_count(BLOCKS)),
+    ("open image", 14, "in the blocks", |made| made.is_cut_in_items(BLOCKS)),
+    ("open image", 14, "in the roots' count", |made| made.is_cut_in_count(ROOTS)),
+    ("open image", 14, "in the roots", |made| made.is_cut_in_items(ROOTS)),
+    ("open image", 15, "no base", |made| made.count(BASE) == Some(0)),
+    ("open image", 15, "two bases", |made| made.count(BASE) == Some(2)),
+    ("open image", 15, "nothing behind the base's count", |made| made.ends_with_count(BASE)),
+    ("open image", 15, "no table", |made| made.has_wrong_count(TABLE, 0)),
+    ("open image", 15, "a table of 1,025 bytes", |made| made.has_wrong_count(TABLE, 1025)),
+    ("open image", 15, "nothing behind the table's count", |made| {
+        made.has_right_counts_before(TABLE) && made.ends_with_count(TABLE)
+    }),
+    ("open image", 15, "a block too few", |made| made.has_wrong_blocks(-1)),
+    ("open image", 15, "a block too many", |made| made.has_wrong_blocks(1)),
+    ("open image", 15, "without the marks", |made| {
+        let marks = made.file_entries().into_iter().filter(|entry| *entry == MARK).count();
+        made.has_wrong_blocks(-(marks as i64))
+    }),
+    ("open image", 15, "nothing behind the blocks' count", |made| {
+        made.has_right_counts_before(BLOCKS) && made.ends_with_count(BLOCKS)
+    }),
+    ("open image", 16, "one byte", |made| made.rest_of_file() == 1),
+    ("open image", 16, "an image", |made| made.has_image_behind()),
+    ("open image", 17, "an entry too few", |made| made.entries_left_over() == -1),
+    ("open image", 17, "an empty list", |made| made.before[Roots].is_empty()),
 ];
+
+// The sections of a file.
+const BASE: usize = 0;
+const TABLE: usize = 1;
+const BLOCKS: usize = 2;
+const ROOTS: usize = 3;
 
 impl Made<'_> {
     pub fn shows(&self, (call, refusal, _, shown): &Situation) -> bool {
@@ -233,6 +300,106 @@ impl Made<'_> {
         whole.len() < roots.len() && self.is_mended(|lent| lent[Roots] = whole)
     }
 
+    /// The whole sections of the file that is to be opened, and how many bytes are behind them.
+    fn file(&self) -> (Vec<Section>, &[u8]) {
+        whole_sections(&self.before[Image])
+    }
+
+    /// The count of a section, if those before it are whole and the count is there.
+    fn count(&self, section: usize) -> Option<u64> {
+        let (sections, rest) = self.file();
+        let of_rest = || rest.first_chunk().map(|count| u16::from_le_bytes(*count));
+        let next = (section == sections.len() && section <= ROOTS).then(of_rest).flatten();
+        sections.get(section).map(|section| section.count).or(next).map(u64::from)
+    }
+
+    /// The entries of the file's table, if that is whole.
+    fn file_entries(&self) -> Vec<u8> {
+        let (sections, _) = self.file();
+        sections.get(TABLE).map_or(vec![], |table| entries_in(&table.items).collect())
+    }
+
+    fn file_used(&self) -> u64 {
+        self.file_entries().into_iter().filter(|entry| *entry != FREE).count() as u64
+    }
+
+    /// Whether the counts of the sections before this one are there, and right.
+    fn has_right_counts_before(&self, section: usize) -> bool {
+        let right = |section: usize| match section {
+            BASE => self.count(BASE) == Some(1),
+            TABLE => self.count(TABLE).is_some_and(|count| (1..=MOST).contains(&count)),
+            _ => self.count(BLOCKS) == Some(self.file_used()),
+        };
+        (BASE..section).all(right)
+    }
+
+    fn has_wrong_count(&self, section: usize, count: u64) -> bool {
+        self.has_right_counts_before(section) && self.count(section) == Some(count)
+    }
+
+    /// Whether the first wrong count is that of the blocks, and by so much.
+    fn has_wrong_blocks(&self, by: i64) -> bool {
+        by != 0 && self.has_wrong_count(BLOCKS, self.file_used().wrapping_add_signed(by))
+    }
+
+    fn ends_with_count(&self, section: usize) -> bool {
+        let (sections, rest) = self.file();
+        sections.len() == section && rest.len() == 2
+    }
+
+    fn is_cut_in_count(&self, section: usize) -> bool {
+        let (sections, rest) = self.file();
+        sections.len() == section && rest.len() < 2
+    }
+
+    fn is_cut_in_items(&self, section: usize) -> bool {
+        let (sections, rest) = self.file();
+        sections.len() == section && rest.len() >= 2
+    }
+
+    fn rest_of_file(&self) -> usize {
+        self.file().1.len()
+    }
+
+    fn has_image_behind(&self) -> bool {
+        image::read(self.file().1).is_some()
+    }
+
+    /// How many more entries the list has than the file has roots.
+    fn entries_left_over(&self) -> i64 {
+        self.roots() - self.count(ROOTS).unwrap_or(0) as i64
+    }
+
+    /// What faults the file's entries have: a mark, a tail at block 0, a tail after a free block.
+    fn table_faults(&self) -> [bool; 3] {
+        let entries = self.file_entries();
+        let after_free = entries.windows(2).any(|pair| pair == [FREE, TAIL]);
+        [entries.contains(&MARK), entries.first() == Some(&TAIL), after_free]
+    }
+
+    fn has_base_alone(&self, is_wrong: impl Fn(u64, u64) -> bool) -> bool {
+        let (sections, _) = self.file();
+        let base = listheap::words_of(&sections[BASE].items)[0];
+        is_wrong(base.into(), sections[TABLE].count.into())
+            && self.is_mended(|lent| lent[Image][2..6].copy_from_slice(&4096u32.to_le_bytes()))
+    }
+
+    fn has_memory_of_another_t(&self) -> bool {
+        let t = self.count(TABLE).unwrap_or(0);
+        let right = Lent::empty(self.before.base, t);
+        self.before.fits()
+            && self.is_mended(|lent| {
+                lent.t = t;
+                lent[Pool] = right[Pool].clone();
+                lent[Table] = right[Table].clone();
+            })
+    }
+
+    fn lies_over_a_wrong_table(&self) -> bool {
+        let lent = &mut Lent { base: 4096, ..self.before.clone() };
+        second(&Call::Survey, lent).refusal == 2
+    }
+
     fn longest_is_unaligned(&self) -> bool {
         let longest = self.part("longest") as u64;
         lowest_start(self.before, longest, |start| aligned(start, longest)).is_none()
@@ -361,6 +528,107 @@ mod tests {
         assert_eq!(shown_by_image(&[1, 8], &[0; 7], 200), ["a piece of a root, alone"]);
         assert_eq!(shown_by_image(&[8], &[0; 8], 0), [] as [&str; 0]);
         assert_eq!(shown_by_image(&[1], &[0; 4 * 4097], 0), ["4,097 roots"]);
+    }
+
+    /// The image of a heap with an object in the first of four blocks, with two roots.
+    const FILE: [u8; 37] = {
+        let mut file = [0; 37];
+        (file[0], file[3], file[6], file[8], file[9], file[27]) = (1, 16, 1, 1, 1, 2);
+        file
+    };
+
+    /// The situations that the opening of a file shows, in empty memory of this t and with a list of so many
+    /// bytes.
+    fn shown_by_file(file: &[u8], t: u64, list: usize) -> Vec<&'static str> {
+        let mut before = Lent::empty(4096, t);
+        before[Image] = Guarded::new(file);
+        before[Roots] = Guarded::zeroed(list);
+        shown(&before, Call::OpenImage, false)
+    }
+
+    /// The same with other bytes in the file, in memory that fits and with a list of two entries.
+    fn shown_by_changed_file(changes: &[(usize, u8)]) -> Vec<&'static str> {
+        let mut file = FILE;
+        changes.iter().for_each(|(at, byte)| file[*at] = *byte);
+        shown_by_file(&file, 1, 8)
+    }
+
+    #[test]
+    fn where_a_file_is_cut_is_seen() {
+        for (length, names) in [
+            (0, &["an empty file", "in the base's count"][..]),
+            (1, &["in the base's count"]),
+            (2, &["in the base"]),
+            (5, &["in the base"]),
+            (6, &["in the table's count"]),
+            (8, &["in the table"]),
+            (9, &["in the blocks' count"]),
+            (26, &["in the blocks"]),
+            (28, &["in the roots' count"]),
+            (36, &["in the roots"]),
+        ] {
+            assert_eq!(shown_by_file(&FILE[..length], 1, 8), names, "{length} bytes");
+        }
+    }
+
+    #[test]
+    fn which_count_is_wrong_is_seen() {
+        assert_eq!(shown_by_changed_file(&[(0, 0)]), ["no base"]);
+        assert_eq!(shown_by_changed_file(&[(0, 2)]), ["two bases"]);
+        let nothing = "nothing behind the base's count";
+        assert_eq!(shown_by_file(&[2, 0], 1, 8), ["two bases", nothing]);
+        assert_eq!(shown_by_changed_file(&[(6, 0)]), ["no table"]);
+        assert_eq!(shown_by_changed_file(&[(6, 1), (7, 4)]), ["a table of 1,025 bytes"]);
+        let none = [&FILE[..6], &[1, 4]].concat();
+        let nothing = "nothing behind the table's count";
+        assert_eq!(shown_by_file(&none, 1, 8), ["a table of 1,025 bytes", nothing]);
+        assert_eq!(shown_by_changed_file(&[(9, 2)]), ["a block too many"]);
+        assert_eq!(shown_by_changed_file(&[(8, 5)]), ["a block too few"]);
+        assert_eq!(shown_by_changed_file(&[(8, 13)]), ["a block too few", "without the marks"]);
+        let none = [&FILE[..9], &[2, 0]].concat();
+        let nothing = "nothing behind the blocks' count";
+        assert_eq!(shown_by_file(&none, 1, 8), ["a block too many", nothing]);
+        assert_eq!(shown_by_changed_file(&[(27, 1), (28, 16)]), ["4,097 roots"]);
+        let none = [&FILE[..27], &[1, 16]].concat();
+        assert_eq!(shown_by_file(&none, 1, 8), ["4,097 roots", "no roots behind the count"]);
+        assert_eq!(shown_by_file(&[&FILE[..], &[1]].concat(), 1, 8), ["one byte"]);
+        assert_eq!(shown_by_file(&[FILE, FILE].concat(), 1, 8), ["an image"]);
+    }
+
+    #[test]
+    fn why_a_file_in_order_is_refused_is_seen() {
+        assert_eq!(shown_by_changed_file(&[(3, 0)]), ["a base of 0, alone"]);
+        assert_eq!(shown_by_changed_file(&[(2, 8)]), ["a base inside a block, alone"]);
+        let too_high = [(2, 0xD0), (3, 0xFF), (4, 0xFF), (5, 0xFF)];
+        assert_eq!(shown_by_changed_file(&too_high), ["a base a block too high, alone"]);
+        assert_eq!(shown_by_file(&FILE, 2, 8), ["memory of another t, alone"]);
+        assert_eq!(shown_by_file(&FILE, 1, 9), ["a piece of an entry, alone"]);
+        assert_eq!(shown_by_file(&FILE, 2, 9), [] as [&str; 0]);
+        assert_eq!(shown_by_changed_file(&[(8, 3)]), ["a mark, alone"]);
+        assert_eq!(shown_by_changed_file(&[(8, 2)]), ["a tail at block 0, alone"]);
+        assert_eq!(shown_by_changed_file(&[(8, 8)]), ["a tail after a free block, alone"]);
+        assert_eq!(shown_by_file(&FILE, 1, 4), ["an entry too few"]);
+        assert_eq!(shown_by_file(&FILE, 1, 0), ["an empty list"]);
+    }
+
+    #[test]
+    fn what_is_opened_is_seen() {
+        let as_long = "a list as long as the roots";
+        assert_eq!(shown_by_file(&FILE, 1, 8), [as_long]);
+        assert_eq!(shown_by_file(&FILE, 1, 12), [] as [&str; 0]);
+        assert_eq!(shown_by_file(&FILE, 1, 4 * 4097), ["a list of more than 4,096 entries"]);
+        let mut before = Lent::new(16, 1, &[0; 64], &[0xFF, 0]);
+        before[Image] = Guarded::new(&FILE);
+        before[Roots] = Guarded::zeroed(8);
+        let over = ["over an ill-formed table", "over a spare bit", "at another base"];
+        assert_eq!(shown(&before, Call::OpenImage, false), [&[as_long][..], &over].concat());
+        let empty = Lent::empty(4096, 256);
+        let full = Lent::of_numbers(4096, &[85; 64]);
+        let [empty, full] = [empty, full].map(|heap| image::file(&heap.sections()));
+        let none = ["no used block", "t above 255", "no roots", as_long];
+        assert_eq!(shown_by_file(&empty, 256, 0), none);
+        let most = ["no free block", "more than 255 used blocks", "no roots", as_long];
+        assert_eq!(shown_by_file(&full, 64, 0), most);
     }
 
     #[test]

@@ -3,7 +3,7 @@
 use crate::Buffer::{self, Image, Roots, Stack};
 use crate::{Call, Lent, Reply};
 use blockheap::{raw, Address, Block, Heap, MarkEntry};
-use listheap::{ListHeap, Refusal};
+use listheap::{File, ListHeap, Refusal};
 
 /// A heap under test.
 pub type Subject<'s> = &'s dyn Fn(&Call, &mut Lent) -> Reply;
@@ -47,8 +47,33 @@ pub fn library(call: &Call, lent: &mut Lent) -> Reply {
                 blockheap_write_image, roots.as_ptr(), roots.len(), output, length => "length"
             )
         }
+        // As in hand_over.
+        Call::OpenImage => unsafe {
+            raw::blockheap_open_image(
+                image.as_ptr(),
+                image.len(),
+                lent.t,
+                pool.as_mut_ptr(),
+                pool.len(),
+                table.as_mut_ptr(),
+                table.len(),
+                roots.as_mut_ptr(),
+                roots.len(),
+                answers.place("base"),
+                answers.place("count"),
+            )
+        },
     };
-    answers.reply(refusal)
+    let reply = answers.reply(refusal);
+    keep_base(lent, &reply);
+    reply
+}
+
+/// A program goes on with the base of an image that it has opened.
+fn keep_base(lent: &mut Lent, reply: &Reply) {
+    if let (0, Some(base)) = (reply.refusal, reply.parts.get("base")) {
+        lent.base = *base as u64;
+    }
 }
 
 /// The places for the answers to a call, each with a guard before and after it.
@@ -91,7 +116,25 @@ impl Answers<'_> {
 /// The library through the safe wrapper, which has no place for a base above 32 bits, or for a t that is
 /// not that of the pool.
 pub fn wrapper(call: &Call, lent: &mut Lent) -> Reply {
-    reply(call, on_wrapper(call, lent).map_err(|refusal| refusal.number()))
+    let result = match call {
+        Call::OpenImage => open_on_wrapper(lent),
+        _ => on_wrapper(call, lent),
+    };
+    let reply = reply(call, result.map_err(|refusal| refusal.number()));
+    keep_base(lent, &reply);
+    reply
+}
+
+/// A t that is not that of the pool, or a piece of a root, is told as a pool of no bytes: by 1, after the
+/// faults of the file.
+fn open_on_wrapper(lent: &mut Lent) -> Result<Vec<i64>, blockheap::Refusal> {
+    let [pool, table, roots, _, image] = &mut lent.buffers;
+    let fits = lent.t == pool.len() as u64 / 64 && roots.len() % 4 == 0;
+    let pool = if fits { &mut pool[..] } else { &mut [] };
+    let whole = roots.len() / 4 * 4;
+    let list = Address::all_in_mut(&mut roots[..whole])?;
+    let opened = Heap::open_image(image, pool, table, list)?;
+    Ok(vec![opened.heap.base().word().into(), opened.roots.len() as i64])
 }
 
 fn on_wrapper(call: &Call, lent: &mut Lent) -> Result<Vec<i64>, blockheap::Refusal> {
@@ -127,6 +170,7 @@ fn on_wrapper(call: &Call, lent: &mut Lent) -> Result<Vec<i64>, blockheap::Refus
             vec![]
         }
         Call::WriteImage => vec![heap.write_image(Address::all_in(roots)?, image)?.len() as i64],
+        Call::OpenImage => unreachable!("handled by the caller"),
     })
 }
 
@@ -137,9 +181,12 @@ pub fn second(call: &Call, lent: &mut Lent) -> Reply {
         Call::Init => heap.init().map(|()| vec![]),
         Call::Collect => heap.collect(roots, stack).map(collected_parts),
         Call::WriteImage => heap.write_image(roots, image).map(length_part),
+        Call::OpenImage => heap.open_image(image, roots).map(opened_parts),
         _ => heap.on_list(|heap| call_on_list(call, heap)),
     };
-    reply(call, result.map_err(Refusal::number))
+    let reply = reply(call, result.map_err(Refusal::number));
+    keep_base(lent, &reply);
+    reply
 }
 
 /// Lets `work` change the list of the objects in lent memory.
@@ -153,7 +200,7 @@ pub fn on_list<A>(
 /// What is lent as the plain-list heap takes it.
 struct ForList<'l> {
     heap: listheap::Lent<'l>,
-    roots: &'l [u8],
+    roots: &'l mut [u8],
     stack: &'l mut [u8],
     image: &'l mut [u8],
 }
@@ -186,15 +233,27 @@ pub fn second_on_list(call: &Call, heap: &mut ListHeap, lent: &mut Lent) -> Repl
             let roots = listheap::words_of(&lent[Roots]);
             heap.write_image(&roots, &mut lent[Image]).map(length_part)
         }
+        Call::OpenImage => open_on_list(heap, lent).map(opened_parts),
         _ => call_on_list(call, heap),
     };
-    reply(call, result.map_err(Refusal::number))
+    let reply = reply(call, result.map_err(Refusal::number));
+    keep_base(lent, &reply);
+    reply
+}
+
+/// The list becomes that of the file.
+fn open_on_list(heap: &mut ListHeap, lent: &mut Lent) -> Result<(u64, u64), Refusal> {
+    let file = File::read(&lent[Image])?;
+    *heap = file.open(heap.blocks / 4, &mut lent[Roots])?;
+    Ok((heap.base, file.roots.len() as u64))
 }
 
 fn call_on_list(call: &Call, heap: &mut ListHeap) -> Result<Vec<i64>, Refusal> {
     let placed = |placed: listheap::Placed| vec![placed.block as i64, placed.change];
     Ok(match *call {
-        Call::Init | Call::Collect | Call::WriteImage => unreachable!("handled by the callers"),
+        Call::Init | Call::Collect | Call::WriteImage | Call::OpenImage => {
+            unreachable!("handled by the callers")
+        }
         Call::Allocate { bytes } => placed(heap.allocate(bytes)?),
         Call::Free { block } => vec![heap.free(block)?],
         Call::Reallocate { block, bytes } => placed(heap.reallocate(block, bytes)?),
@@ -212,6 +271,10 @@ fn call_on_list(call: &Call, heap: &mut ListHeap) -> Result<Vec<i64>, Refusal> {
 
 fn collected_parts(collected: listheap::Collected) -> Vec<i64> {
     vec![collected.kept as i64, collected.rescans as i64, collected.change]
+}
+
+fn opened_parts((base, count): (u64, u64)) -> Vec<i64> {
+    vec![base as i64, count as i64]
 }
 
 fn length_part(length: u64) -> Vec<i64> {

@@ -375,7 +375,7 @@ fn an_empty_run_has_reached_nothing() {
     let pairs = Call::DESCRIPTIONS.iter().map(|call| call.refusals.len()).sum();
     assert_eq!(numbers, pairs, "pairs of a call and a refusal number");
     let seen = faults.iter().filter(|fault| fault.contains("never seen")).count();
-    assert_eq!(seen, 70, "situations and kinds of words");
+    assert_eq!(seen, 115, "situations and kinds of words");
 }
 
 /// The heads of a heap whose lengths fit.

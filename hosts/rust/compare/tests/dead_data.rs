@@ -11,17 +11,19 @@ fn pairs_wanted() -> u64 {
 fn pairs_agree(sizes: Sizes, seed: u64, pairs: u64) {
     let counts = run_pairs(&library, sizes, seed, pairs).unwrap_or_else(|fault| panic!("{fault}"));
     println!(
-        "t from {} to {}: {} pairs with {} different bytes answer {} calls alike ({} refused, {} images)",
+        "t from {} to {}: {} pairs with {} different bytes answer {} calls alike ({} refused, {} images, \
+         {} openings)",
         sizes.least,
         sizes.most,
         counts.pairs,
         counts.different_bytes,
         counts.calls,
         counts.refused,
-        counts.images
+        counts.images,
+        counts.openings
     );
     assert!(counts.different_bytes > 0 && counts.refused > 0 && counts.different_rescans > 0);
-    assert!(counts.images > 0);
+    assert!(counts.images > 0 && counts.openings > 0);
 }
 
 #[test]

@@ -1,8 +1,10 @@
 //! From an accepted init on, the library answers as a list of objects that is never read back from
-//! pool or table would.
+//! pool or table would. An opened image is a new beginning, at its objects.
 
-use compare::Buffer::Image;
-use compare::{draw_call, library, noise, on_list, second_on_list, Call, Lent, Random};
+use compare::Buffer::{Image, Roots};
+use compare::{
+    draw_call, image, library, noise, on_list, second_on_list, Call, Lent, Random, Reply,
+};
 use listheap::ListHeap;
 
 fn library_and_list_agree(seed: u64, t: u64, calls: usize) {
@@ -17,9 +19,11 @@ fn library_and_list_agree(seed: u64, t: u64, calls: usize) {
         let expected_reply = second_on_list(&call, &mut list, &mut expected);
         let reply = library(&call, &mut lent);
         assert_eq!(reply, expected_reply, "seed {seed}, call {number}: {call:?}");
-        assert!(lent[Image][..] == expected[Image][..], "seed {seed}, call {number}: the image");
-        let change = reply.parts.get("change").unwrap_or(&0);
-        used = if call == Call::Init { 0 } else { used + change };
+        for buffer in [Image, Roots] {
+            let same = lent[buffer][..] == expected[buffer][..];
+            assert!(same, "seed {seed}, call {number}: the {buffer}");
+        }
+        used = used_after(used, &call, &reply, &lent);
         assert_eq!(
             used,
             list.used() as i64,
@@ -30,6 +34,17 @@ fn library_and_list_agree(seed: u64, t: u64, calls: usize) {
             list,
             "seed {seed}, call {number}: objects after {call:?}"
         );
+    }
+}
+
+/// The used blocks after a call, by what it answers alone.
+fn used_after(used: i64, call: &Call, reply: &Reply, lent: &Lent) -> i64 {
+    match call {
+        Call::Init => 0,
+        Call::OpenImage if reply.refusal == 0 => {
+            image::read(&lent[Image]).expect("an image")[2].count.into()
+        }
+        _ => used + reply.parts.get("change").unwrap_or(&0),
     }
 }
 

@@ -38,7 +38,7 @@ impl File {
     /// The heap of the file, if a heap of this t is to be, and its roots at the front of the list.
     pub fn open(&self, t: u64, list: &mut [u8]) -> Result<ListHeap, Refusal> {
         let blocks = self.entries.len() as u64;
-        let fits = blocks == 4 * t && base_fits(self.base.into(), t);
+        let fits = blocks / 4 == t && base_fits(self.base.into(), t);
         if !fits || list.len() % WORD_BYTES != 0 {
             return Err(Refusal::Shape);
         }
