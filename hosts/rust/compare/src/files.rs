@@ -36,21 +36,16 @@ pub fn good(random: &mut Random, t: u64) -> Vec<u8> {
     of_heap(random, heap)
 }
 
-/// The image of a heap, with any roots.
+/// The image of a heap, with any roots: some of its addresses, a few words, at times the most.
 fn of_heap(random: &mut Random, mut heap: Lent) -> Vec<u8> {
-    let roots = any_number_of_roots(random);
-    heap[Roots] = Guarded::new(&random.bytes(4 * roots));
-    image::file(&heap.sections())
-}
-
-/// Few, at times the most.
-fn any_number_of_roots(random: &mut Random) -> usize {
-    let few = random.below(6) as usize;
-    if random.percent(1) {
-        4096
+    if random.percent(40) {
+        let roots = draw::good_roots(random, &heap);
+        heap.set_roots(&roots);
     } else {
-        few
+        let words = if random.percent(2) { 4096 } else { random.below(6) };
+        heap[Roots] = Guarded::new(&random.bytes(4 * words as usize));
     }
+    image::file(&heap.sections())
 }
 
 /// The file, changed in some way.

@@ -1,11 +1,12 @@
 //! Laws, each tried on drawn heaps. Of order: frees commute, roots are a set, joined root lists keep what
 //! one or the other keeps, and a second collection at once changes nothing. Of images: they have all that a
-//! heap has, and nothing of its free blocks.
+//! heap has, and nothing of its free blocks; written and then opened, a heap is the same, and opened and then
+//! written, a file.
 
 use crate::difference::Difference;
 use crate::pairs::refill_free_blocks;
 use crate::planes::{FREE, HEAD};
-use crate::Buffer::{self, Image, Pool, Stack};
+use crate::Buffer::{self, Image, Pool, Roots, Stack};
 use crate::{draw, image, Call, Guarded, Lent, Random, Reply, Subject};
 use std::ops::RangeInclusive;
 
@@ -142,10 +143,9 @@ pub fn images_have_the_heap(trial: &mut Trial) -> Result<(), String> {
 /// What free blocks hold is in no image.
 pub fn images_have_no_free_bytes(trial: &mut Trial) -> Result<(), String> {
     trial.draw_roots();
+    trial.count_mixed();
     let mut other = trial.heap.clone();
     refill_free_blocks(trial.random, &mut other, &trial.heap);
-    let used = trial.heap.used().count() as u64;
-    trial.counts.telling += u64::from(used > 0 && used < trial.heap.blocks());
     if trial.image(trial.heap.clone())? == trial.image(other)? {
         Ok(())
     } else {
@@ -153,7 +153,64 @@ pub fn images_have_no_free_bytes(trial: &mut Trial) -> Result<(), String> {
     }
 }
 
+/// A heap that is written and then opened, where memory held anything, has its base, table and roots again,
+/// and the bytes of its objects. All other bytes of the pool are 0, and later entries of the list stay.
+pub fn write_then_open(trial: &mut Trial) -> Result<(), String> {
+    trial.draw_roots();
+    trial.count_mixed();
+    let image = trial.image(trial.heap.clone())?;
+    let target = trial.target(&image);
+    let opened = trial.call(&Call::OpenImage, &target)?;
+    let mut expected = trial.heap.clone();
+    for block in (0..expected.blocks()).filter(|block| trial.heap.entry(*block) == FREE) {
+        expected[Pool][image::bytes_of(block)].fill(0);
+    }
+    same_heap(&opened.lent, &expected)?;
+    let roots = &trial.heap[Roots];
+    let answer = [trial.heap.base as i64, roots.len() as i64 / 4];
+    let right = Reply::accepted(&Call::OpenImage, &answer);
+    same_reply(&Call::OpenImage, &opened.reply, &right)?;
+    match opened.lent[Roots].split_at(roots.len()) {
+        (front, _) if *front != roots[..] => Err("the roots are others".to_string()),
+        (_, later) if *later != target[Roots][roots.len()..] => {
+            Err("later entries of the list are others".to_string())
+        }
+        _ => Ok(()),
+    }
+}
+
+/// A file that is opened, and then written with the base and the roots that it gave, is the same file.
+pub fn open_then_write(trial: &mut Trial) -> Result<(), String> {
+    trial.draw_roots();
+    trial.count_mixed();
+    let file = image::file(&trial.heap.sections());
+    let target = trial.target(&file);
+    let Outcome { reply, lent: mut heap } = trial.call(&Call::OpenImage, &target)?;
+    let roots = heap[Roots].get(..4 * reply.parts["count"] as usize);
+    heap[Roots] = Guarded::new(roots.ok_or("more roots than the list has")?);
+    if trial.image(heap)? == file {
+        Ok(())
+    } else {
+        Err("the image of an opened file is another file".to_string())
+    }
+}
+
 impl Trial<'_> {
+    /// Counts a heap with used and free blocks.
+    fn count_mixed(&mut self) {
+        let used = self.heap.used().count() as u64;
+        self.counts.telling += u64::from(used > 0 && used < self.heap.blocks());
+    }
+
+    /// Memory of any content for the heap of a file, with a list that has entries to spare.
+    fn target(&mut self, file: &[u8]) -> Lent {
+        let mut lent = draw::noise(self.random, self.heap.t);
+        let spare = 4 * self.random.below(5) as usize;
+        lent[Roots] = Guarded::new(&self.random.bytes(self.heap[Roots].len() + spare));
+        lent[Image] = Guarded::new(file);
+        lent
+    }
+
     fn draw_roots(&mut self) {
         let roots = draw::good_roots(self.random, &self.heap);
         self.heap.set_roots(&roots);

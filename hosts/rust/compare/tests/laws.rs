@@ -54,6 +54,16 @@ fn images_have_no_free_bytes() {
     holds(laws::images_have_no_free_bytes, 11);
 }
 
+#[test]
+fn a_written_heap_opens_as_it_was() {
+    holds(laws::write_then_open, 111);
+}
+
+#[test]
+fn an_opened_file_is_written_as_it_was() {
+    holds(laws::open_then_write, 1111);
+}
+
 /// The heap of the proofs (crates/algebra/specs/Samples.antt): C leads to E and E to D, B to A, F to itself.
 struct Sample<'s> {
     subject: Subject<'s>,
