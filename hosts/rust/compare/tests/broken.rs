@@ -1,10 +1,10 @@
 //! The comparison must notice a wrong heap: each heap here follows all rules but one.
 
 use compare::aligned::{aligned, lowest_start, stays_aligned, unaligned_head};
-use compare::image::{self, bytes_of, Section};
+use compare::image::{self, bytes_of, whole_sections, Section};
 use compare::laws::{self, run_law, Law};
 use compare::places::{anywhere, free_run, right_start, search, MayBegin, Places, RIGHT};
-use compare::planes::{table_bytes, SpareBit, FREE, HEAD};
+use compare::planes::{entries_in, table_bytes, SpareBit, FREE, HEAD, MARK};
 use compare::readings::{self, collect_reading, Reading};
 use compare::Buffer::{self, Image, Pool, Roots, Stack, Table};
 use compare::{on_list, run_pairs, run_walks, second, Call, Guarded, Lent, Reply};
@@ -104,6 +104,14 @@ fn images_lack_the_heap(name: &str, subject: Subject) {
 
 fn images_have_free_bytes(name: &str, subject: Subject) {
     breaks(laws::images_have_no_free_bytes, name, subject);
+}
+
+fn written_heaps_open_otherwise(name: &str, subject: Subject) {
+    breaks(laws::write_then_open, name, subject);
+}
+
+fn opened_files_are_written_otherwise(name: &str, subject: Subject) {
+    breaks(laws::open_then_write, name, subject);
 }
 
 /// The heap must leave a large object that is not aligned, from an init on.
@@ -248,6 +256,37 @@ each! { must_be_noticed:
     takes_4095_roots_at_most
     takes_more_than_4096_roots
     takes_a_piece_of_a_root
+    ignores_trailing_bytes
+    tests_the_end_of_a_file_first
+    tests_no_count_before_the_file_ends
+    tests_the_memory_before_the_file
+    takes_any_number_of_bases
+    takes_an_empty_table
+    reads_counts_of_a_byte
+    counts_no_marks
+    takes_marks_for_heads
+    takes_files_with_more_roots
+    takes_4096_entries_at_most
+    takes_a_piece_of_an_entry
+    takes_an_image_at_any_base
+    takes_t_from_an_image
+    tests_the_lent_table
+    tests_a_files_table_before_its_base
+    tests_the_list_before_a_files_table
+    leaves_free_blocks
+    puts_blocks_at_the_front
+    reads_blocks_falling
+    reads_the_base_highest_byte_first
+    reads_the_first_block_in_the_highest_bits
+    leaves_a_packed_table
+    clears_later_roots
+    leads_opened_roots_to_heads
+    fills_the_pool_for_too_short_a_list
+    writes_the_roots_that_fit
+    answers_the_lent_base
+    answers_the_entries_of_the_list
+    answers_the_roots_of_a_refused_image
+    answers_the_base_of_a_refused_image
 }
 
 each! { must_be_noticed_at_each_spare_bit:
@@ -260,6 +299,8 @@ each! { must_be_noticed_at_each_spare_bit:
     sets_a_spare_bit_at_init
     sets_a_spare_bit_behind_an_object
     refuses_a_spare_bit_at_init
+    leaves_a_spare_bit_at_an_opening
+    refuses_a_spare_bit_at_an_opening
 }
 
 each! { leaves_unaligned_objects:
@@ -349,19 +390,45 @@ each! { images_have_free_bytes:
     refuses_every_call
 }
 
+each! { written_heaps_open_otherwise:
+    leaves_free_blocks
+    puts_blocks_at_the_front
+    reads_blocks_falling
+    leaves_a_packed_table
+    clears_later_roots
+    leads_opened_roots_to_heads
+    tests_the_lent_table
+    answers_the_lent_base
+    answers_the_entries_of_the_list
+    writes_blocks_falling
+    refuses_every_call
+}
+
+each! { opened_files_are_written_otherwise:
+    puts_blocks_at_the_front
+    reads_blocks_falling
+    leads_opened_roots_to_heads
+    answers_the_lent_base
+    answers_the_entries_of_the_list
+    writes_blocks_falling
+    refuses_every_call
+}
+
 #[test]
 fn a_right_heap_is_not_noticed() {
     for subject in [&second as Subject, &right_places, &right_sections] {
         run_walks(subject, SMALL, 5, MOST_CALLS, &mut Coverage::default()).expect("a right heap");
     }
     stays_aligned(&second, 8, 5, 2_000).expect("a right heap");
-    let all: [Law; 6] = [
+    let all: [Law; 8] = [
         laws::frees_commute,
         laws::roots_are_a_set,
         laws::roots_join,
         laws::collect_idempotent,
         laws::images_have_the_heap,
         laws::images_have_no_free_bytes,
+        laws::write_then_open,
+        laws::open_then_write,
     ];
     for law in all {
         run_law(law, &second, SMALL.least..=SMALL.most, 5, 2_000).expect("a right heap");
@@ -1063,6 +1130,23 @@ fn refuses_a_spare_bit_at_init(spare: SpareBit, call: &Call, lent: &mut Lent) ->
     second(call, lent)
 }
 
+/// As an opening by a right heap, but for this spare bit of the lent table.
+fn leaves_a_spare_bit_at_an_opening(spare: SpareBit, call: &Call, lent: &mut Lent) -> Reply {
+    let set = is_set(lent, spare);
+    let reply = second(call, lent);
+    if let (0, Call::OpenImage, true) = (reply.refusal, call, set) {
+        lent.set_spare(spare, 1);
+    }
+    reply
+}
+
+fn refuses_a_spare_bit_at_an_opening(spare: SpareBit, call: &Call, lent: &mut Lent) -> Reply {
+    if is_set(lent, spare) {
+        return open_refused(call, lent, 2, &[0, 2, 17], |_| true);
+    }
+    second(call, lent)
+}
+
 fn cuts_numbers_to_32_bits(call: &Call, lent: &mut Lent) -> Reply {
     let cut = |number: u64| u64::from(number as u32);
     let call = match *call {
@@ -1380,12 +1464,13 @@ fn pads_the_table(call: &Call, lent: &mut Lent) -> Reply {
     })
 }
 
+/// Puts the entries of four blocks into the other order.
+fn turn(four: &mut u8) {
+    *four = [0, 2, 4, 6].iter().fold(0, |above, shift| 4 * above + (*four >> shift & 3));
+}
+
 fn has_the_first_block_in_the_highest_bits(call: &Call, lent: &mut Lent) -> Reply {
-    let turned =
-        |four: u8| [0, 2, 4, 6].iter().fold(0, |above, shift| 4 * above + (four >> shift & 3));
-    image_of(call, lent, |_, [_, table, ..]| {
-        table.items.iter_mut().for_each(|byte| *byte = turned(*byte));
-    })
+    image_of(call, lent, |_, [_, table, ..]| table.items.iter_mut().for_each(turn))
 }
 
 fn swaps_the_bits_of_an_entry(call: &Call, lent: &mut Lent) -> Reply {
@@ -1565,6 +1650,325 @@ fn keeps_bits_of_the_output(call: &Call, lent: &mut Lent) -> Reply {
     let reply = second(call, lent);
     if let (Call::WriteImage, 0) = (call, reply.refusal) {
         lent[Image][0] |= before[0];
+    }
+    reply
+}
+
+/// A right heap that is handed another file to open than the lent one.
+fn open_file(call: &Call, lent: &mut Lent, file_of: impl Fn(&[u8]) -> Vec<u8>) -> Reply {
+    let file = lent[Image].clone();
+    if *call == Call::OpenImage {
+        lent[Image] = Guarded::new(&file_of(&file));
+    }
+    let reply = second(call, lent);
+    if *call == Call::OpenImage {
+        lent[Image] = file;
+    }
+    reply
+}
+
+/// The same with other sections, where the file has four and nothing else.
+fn open_sections(call: &Call, lent: &mut Lent, change: impl Fn(&mut [Section])) -> Reply {
+    open_file(call, lent, |file| match image::read(file) {
+        Some(mut sections) => {
+            change(&mut sections);
+            image::file(&sections)
+        }
+        None => file.to_vec(),
+    })
+}
+
+/// A right heap that refuses an opening so where the test says it, in the place of these right answers.
+fn open_refused(
+    call: &Call,
+    lent: &mut Lent,
+    number: u32,
+    right: &[u32],
+    test: impl Fn(&Lent) -> bool,
+) -> Reply {
+    let refusal = second(call, &mut lent.clone()).refusal;
+    if *call == Call::OpenImage && right.contains(&refusal) && test(lent) {
+        return Reply::refused(call, number);
+    }
+    second(call, lent)
+}
+
+/// A right opening, after which more is done: with what was lent before, and with the sections of the file.
+fn opened_and(
+    call: &Call,
+    lent: &mut Lent,
+    more: impl Fn(&Lent, &[Section], &mut Lent, &mut Reply),
+) -> Reply {
+    let before = lent.clone();
+    let mut reply = second(call, lent);
+    if let (Call::OpenImage, 0) = (call, reply.refusal) {
+        let sections = image::read(&before[Image]).expect("an image");
+        more(&before, &sections, lent, &mut reply);
+    }
+    reply
+}
+
+/// The file up to where its fourth section ends.
+fn four_sections(file: &[u8]) -> &[u8] {
+    let (sections, rest) = whole_sections(file);
+    let end = if sections.len() == 4 { file.len() - rest.len() } else { file.len() };
+    &file[..end]
+}
+
+fn ignores_trailing_bytes(call: &Call, lent: &mut Lent) -> Reply {
+    open_file(call, lent, |file| four_sections(file).to_vec())
+}
+
+/// Where its counts lead to four sections, whatever they are.
+fn tests_the_end_of_a_file_first(call: &Call, lent: &mut Lent) -> Reply {
+    open_refused(call, lent, 16, &[3, 15], |lent| {
+        four_sections(&lent[Image]).len() < lent[Image].len()
+    })
+}
+
+/// Where the items behind a wrong count are not all there.
+fn tests_no_count_before_the_file_ends(call: &Call, lent: &mut Lent) -> Reply {
+    open_refused(call, lent, 14, &[3, 15], |lent| whole_sections(&lent[Image]).0.len() < 4)
+}
+
+fn tests_the_memory_before_the_file(call: &Call, lent: &mut Lent) -> Reply {
+    open_refused(call, lent, 1, &[3, 14, 15, 16], |lent| !lent.fits() || lent[Roots].len() % 4 != 0)
+}
+
+/// And takes the first for the base.
+fn takes_any_number_of_bases(call: &Call, lent: &mut Lent) -> Reply {
+    open_file(call, lent, |file| {
+        let mut file = file.to_vec();
+        file.iter_mut().zip([1, 0]).for_each(|(byte, of_count)| *byte = of_count);
+        file
+    })
+}
+
+/// In the place of a refusal, and has nothing to do then.
+fn takes_an_empty_table(call: &Call, lent: &mut Lent) -> Reply {
+    let reply = second(call, lent);
+    let (sections, _) = whole_sections(&lent[Image]);
+    match &sections[..] {
+        [base, table, ..] if reply.refusal == 15 && (base.count, table.count) == (1, 0) => {
+            Reply::accepted(call, &[4096, 0])
+        }
+        _ => reply,
+    }
+}
+
+/// Whatever the second one is.
+fn reads_counts_of_a_byte(call: &Call, lent: &mut Lent) -> Reply {
+    open_file(call, lent, |file| {
+        let (mut file, mut at) = (file.to_vec(), 0);
+        for item_bytes in [4, 1, 16, 4] {
+            let Some([count, high]) = file.get_mut(at..at + 2) else { break };
+            *high = 0;
+            at += 2 + usize::from(*count) * item_bytes;
+        }
+        file
+    })
+}
+
+fn marks_in(sections: &[Section]) -> usize {
+    entries_in(&sections[1].items).filter(|entry| *entry == MARK).count()
+}
+
+/// It wants the blocks of heads and tails alone.
+fn counts_no_marks(call: &Call, lent: &mut Lent) -> Reply {
+    open_sections(call, lent, |sections| {
+        let marks = marks_in(sections);
+        sections[2].count += marks as u16;
+        sections[2].items.extend(vec![0; 16 * marks]);
+    })
+}
+
+fn takes_marks_for_heads(call: &Call, lent: &mut Lent) -> Reply {
+    open_sections(call, lent, |sections| {
+        for four in &mut sections[1].items {
+            *four &= !((*four & *four >> 1 & 0x55) << 1);
+        }
+    })
+}
+
+/// And opens the first 4,096.
+fn takes_files_with_more_roots(call: &Call, lent: &mut Lent) -> Reply {
+    open_sections(call, lent, |sections| {
+        sections[3].count = sections[3].count.min(4096);
+        sections[3].items.truncate(4 * 4096);
+    })
+}
+
+fn takes_4096_entries_at_most(call: &Call, lent: &mut Lent) -> Reply {
+    open_refused(call, lent, 3, &[0, 2], |lent| lent[Roots].len() > 4 * 4096)
+}
+
+/// And leaves it as it is.
+fn takes_a_piece_of_an_entry(call: &Call, lent: &mut Lent) -> Reply {
+    let mut whole = lent.clone();
+    let length = lent[Roots].len();
+    whole[Roots] = Guarded::new(&lent[Roots][..length / 4 * 4]);
+    if *call != Call::OpenImage {
+        return second(call, lent);
+    }
+    let reply = second(call, &mut whole);
+    whole[Roots] = Guarded::new(&[&whole[Roots][..], &lent[Roots][length / 4 * 4..]].concat());
+    *lent = whole;
+    reply
+}
+
+fn takes_an_image_at_any_base(call: &Call, lent: &mut Lent) -> Reply {
+    open_sections(call, lent, |sections| {
+        let base = listheap::words_of(&sections[0].items)[0];
+        if base == 0 {
+            sections[0].items = 4096u32.to_le_bytes().to_vec();
+        }
+    })
+}
+
+/// In the place of the t that it is handed.
+fn takes_t_from_an_image(call: &Call, lent: &mut Lent) -> Reply {
+    let (sections, _) = whole_sections(&lent[Image]);
+    match (call, sections.get(1)) {
+        (Call::OpenImage, Some(table)) => with_t(call, lent, table.count.into()),
+        _ => second(call, lent),
+    }
+}
+
+/// Whether the table that is lent is ill-formed.
+fn is_lent_ill_formed(lent: &Lent) -> bool {
+    let mut lent = Lent { base: 4096, ..lent.clone() };
+    second(&Call::Survey, &mut lent).refusal == 2
+}
+
+fn tests_the_lent_table(call: &Call, lent: &mut Lent) -> Reply {
+    open_refused(call, lent, 2, &[0, 17], is_lent_ill_formed)
+}
+
+/// Whether the table of the file is ill-formed.
+fn is_file_ill_formed(lent: &Lent) -> bool {
+    let sections = image::read(&lent[Image]).expect("four sections");
+    let heap = Lent::of_numbers(4096, &sections[1].items);
+    is_lent_ill_formed(&heap)
+}
+
+fn tests_a_files_table_before_its_base(call: &Call, lent: &mut Lent) -> Reply {
+    open_refused(call, lent, 2, &[1], is_file_ill_formed)
+}
+
+fn tests_the_list_before_a_files_table(call: &Call, lent: &mut Lent) -> Reply {
+    open_refused(call, lent, 17, &[2], |lent| {
+        let sections = image::read(&lent[Image]).expect("four sections");
+        lent[Roots].len() < sections[3].items.len()
+    })
+}
+
+fn leaves_free_blocks(call: &Call, lent: &mut Lent) -> Reply {
+    opened_and(call, lent, |before, _, lent, _| {
+        for block in free_blocks(lent) {
+            lent[Pool][bytes_of(block)].copy_from_slice(&before[Pool][bytes_of(block)]);
+        }
+    })
+}
+
+/// Whatever their numbers are, and zeros behind them.
+fn puts_blocks_at_the_front(call: &Call, lent: &mut Lent) -> Reply {
+    opened_and(call, lent, |_, sections, lent, _| {
+        let (front, behind) = lent[Pool].split_at_mut(sections[2].items.len());
+        front.copy_from_slice(&sections[2].items);
+        behind.fill(0);
+    })
+}
+
+fn reads_blocks_falling(call: &Call, lent: &mut Lent) -> Reply {
+    open_sections(call, lent, |sections| {
+        sections[2].items = sections[2].items.chunks(16).rev().flatten().copied().collect();
+    })
+}
+
+fn reads_the_base_highest_byte_first(call: &Call, lent: &mut Lent) -> Reply {
+    open_sections(call, lent, |sections| sections[0].items.reverse())
+}
+
+fn reads_the_first_block_in_the_highest_bits(call: &Call, lent: &mut Lent) -> Reply {
+    open_sections(call, lent, |sections| sections[1].items.iter_mut().for_each(turn))
+}
+
+fn leaves_a_packed_table(call: &Call, lent: &mut Lent) -> Reply {
+    opened_and(call, lent, |_, sections, lent, _| {
+        lent[Table][..sections[1].items.len()].copy_from_slice(&sections[1].items);
+    })
+}
+
+fn clears_later_roots(call: &Call, lent: &mut Lent) -> Reply {
+    opened_and(call, lent, |_, sections, lent, _| {
+        lent[Roots][sections[3].items.len()..].fill(0);
+    })
+}
+
+fn leads_opened_roots_to_heads(call: &Call, lent: &mut Lent) -> Reply {
+    opened_and(call, lent, |_, sections, lent, _| {
+        let given = listheap::words_of(&sections[3].items);
+        let roots = on_list(lent, |heap| {
+            Ok(given.iter().map(|root| head_of_root(heap, *root).unwrap_or(*root)).collect())
+        });
+        let roots: Vec<u32> = roots.expect("an opened heap");
+        for (entry, root) in lent[Roots].chunks_exact_mut(4).zip(roots) {
+            entry.copy_from_slice(&root.to_le_bytes());
+        }
+    })
+}
+
+/// And then finds the list too short.
+fn fills_the_pool_for_too_short_a_list(call: &Call, lent: &mut Lent) -> Reply {
+    let reply = second(call, lent);
+    if reply.refusal == 17 {
+        let mut opened = lent.clone();
+        opened[Roots] = Guarded::zeroed(4 * 4096);
+        second(call, &mut opened);
+        lent[Pool] = opened[Pool].clone();
+    }
+    reply
+}
+
+/// And then finds the list too short.
+fn writes_the_roots_that_fit(call: &Call, lent: &mut Lent) -> Reply {
+    let reply = second(call, lent);
+    if reply.refusal == 17 {
+        let sections = image::read(&lent[Image]).expect("four sections");
+        let fits = lent[Roots].len();
+        lent[Roots].copy_from_slice(&sections[3].items[..fits]);
+    }
+    reply
+}
+
+/// And goes on with it.
+fn answers_the_lent_base(call: &Call, lent: &mut Lent) -> Reply {
+    opened_and(call, lent, |before, _, lent, reply| {
+        lent.base = before.base;
+        reply.parts.insert("base", before.base as i64);
+    })
+}
+
+fn answers_the_entries_of_the_list(call: &Call, lent: &mut Lent) -> Reply {
+    opened_and(call, lent, |before, _, _, reply| {
+        reply.parts.insert("count", before[Roots].len() as i64 / 4);
+    })
+}
+
+fn answers_the_roots_of_a_refused_image(call: &Call, lent: &mut Lent) -> Reply {
+    let mut reply = second(call, lent);
+    if reply.refusal == 17 {
+        let sections = image::read(&lent[Image]).expect("four sections");
+        reply.parts.insert("count", sections[3].count.into());
+    }
+    reply
+}
+
+fn answers_the_base_of_a_refused_image(call: &Call, lent: &mut Lent) -> Reply {
+    let mut reply = second(call, lent);
+    if let (Call::OpenImage, 2) = (call, reply.refusal) {
+        let sections = image::read(&lent[Image]).expect("four sections");
+        reply.parts.insert("base", listheap::words_of(&sections[0].items)[0].into());
     }
     reply
 }
