@@ -1,7 +1,7 @@
 /*
  * The checked examples of the heap's rules through the C header: base 4,096, and 8 blocks up to example 16.
- * Beside each table stand the bytes of its two planes. Examples 20 to 22 are about the planes alone, the last
- * ones about images.
+ * Beside each table stand the bytes of its two planes. Examples 20 to 22 are about the planes alone, 23 to 26
+ * about images that are written, and the last ones about files that are opened.
  *
  * Each runs once for each place of the lent buffers. Against a page that cannot be touched, any access past
  * that border ends the program, also one from inside the archive. In memory from malloc, valgrind sees each
@@ -35,12 +35,12 @@ static bool same(const char *what, long long got, long long expected)
     return got == expected;
 }
 
-/* Where the buffers lie: from the first byte of a page, up to the last byte of it, or in memory from malloc. */
+/* Where the buffers lie: from the first byte of pages, up to their last byte, or in memory from malloc. */
 static enum { AT_FRONT, AT_END, FROM_MALLOC, PLACES } place;
 
-/* Each buffer has a page of its own. So many bytes before and after that page cannot be touched. */
+/* Each buffer has pages of its own. So many bytes before and after them cannot be touched. */
 enum buffer { POOL, TABLE, ROOTS, STACK, IMAGE, BUFFERS };
-enum { PAGE = 4096, FENCE = 256 * PAGE };
+enum { PAGES = 5 * 4096, FENCE = 256 * 4096 };
 static uint8_t *pages[BUFFERS];
 static uint8_t *from_malloc[BUFFERS];
 
@@ -56,9 +56,9 @@ static void *had(void *memory)
 static void start_buffers(void)
 {
     for (int at = 0; at < BUFFERS; at++) {
-        uint8_t *fence = had(mmap(NULL, FENCE + PAGE + FENCE, PROT_NONE, MAP_PRIVATE | MAP_ANONYMOUS, -1, 0));
+        uint8_t *fence = had(mmap(NULL, FENCE + PAGES + FENCE, PROT_NONE, MAP_PRIVATE | MAP_ANONYMOUS, -1, 0));
         pages[at] = fence + FENCE;
-        mprotect(pages[at], PAGE, PROT_READ | PROT_WRITE);
+        mprotect(pages[at], PAGES, PROT_READ | PROT_WRITE);
     }
 }
 
@@ -68,12 +68,12 @@ static void end_buffers(void)
         free(from_malloc[at]);
 }
 
-/* Lends a buffer anew, of at most a page. */
+/* Lends a buffer anew, of at most its pages. */
 static uint8_t *lent(enum buffer buffer, size_t bytes)
 {
     switch (place) {
     case AT_FRONT: return pages[buffer];
-    case AT_END: return pages[buffer] + PAGE - bytes;
+    case AT_END: return pages[buffer] + PAGES - bytes;
     default:
         free(from_malloc[buffer]);
         return from_malloc[buffer] = had(malloc(bytes ? bytes : 1));
@@ -258,6 +258,56 @@ static bool has_image(const uint8_t *words, size_t roots_len, const uint8_t *byt
     return true;
 }
 
+/* Opens a file, in memory and with a list for its roots as they are lent. */
+static bool opens(const uint8_t *bytes, size_t count, uint8_t *list, size_t list_len, uint32_t refusal,
+                  uint32_t expected_base, uint32_t roots)
+{
+    uint8_t *file = lent(IMAGE, count);
+    uint32_t got_base = RUBBISH, got_count = RUBBISH;
+    memcpy(file, bytes, count);
+    uint32_t got = blockheap_open_image(file, count, t, pool, pool_len, table, table_len, list, list_len,
+                                        &got_base, &got_count);
+    return same("refusal", got, refusal) && same("base", got_base, expected_base)
+        && same("count of roots", got_count, roots) && bytes_are("byte of the file", file, bytes, count);
+}
+
+/* Memory for a heap of this t that is not clean: the table is ill-formed, with spare bits if t is odd. */
+static void lend_rubbish(uint64_t size)
+{
+    lend_heap(size, BLOCKHEAP_POOL_BYTES(size), BLOCKHEAP_TABLE_BYTES_OF_T(size));
+    memset(pool, 0x77, pool_len);
+    memset(table, 0xFD, table_len);
+}
+
+/* The list of so many bytes gets these roots, and its later entries stay. */
+static bool opens_at(uint64_t size, size_t list_len, const uint8_t *bytes, size_t count, uint32_t at,
+                     const uint8_t *words, size_t roots_len)
+{
+    uint8_t *list = lent(ROOTS, list_len);
+    lend_rubbish(size);
+    memset(list, 0x55, list_len);
+    return opens(bytes, count, list, list_len, BLOCKHEAP_OK, at, (uint32_t)(roots_len / 4))
+        && bytes_are("byte of the roots", list, words, roots_len)
+        && all_are("later byte of the list", list + roots_len, list_len - roots_len, 0x55);
+}
+
+/* What is lent with a list of so many bytes stays as it was, every byte of it. */
+static bool refuses_file_in(uint64_t size, size_t list_len, uint32_t refusal, const uint8_t *bytes, size_t count)
+{
+    uint8_t *list = lent(ROOTS, list_len);
+    lend_rubbish(size);
+    memset(list, 0x55, list_len);
+    return opens(bytes, count, list, list_len, refusal, 0, 0)
+        && all_are("byte of the pool", pool, pool_len, 0x77) && all_are("table byte", table, table_len, 0xFD)
+        && all_are("byte of the list", list, list_len, 0x55);
+}
+
+/* With four blocks, and a list of three entries. */
+static bool refuses_file(uint32_t refusal, const uint8_t *bytes, size_t count)
+{
+    return refuses_file_in(1, 12, refusal, bytes, count);
+}
+
 /* The heap of examples 9 to 11: word 0 of block 4 leads to block 0. */
 static bool from_linked(void)
 {
@@ -423,7 +473,14 @@ static bool example_19(void)
         && allocates(48, BLOCKHEAP_OK, 1, 3) && table_is(165, 84) && planes_are(0xe3, 0x0c);
 }
 
-/* Whether every call but init is refused so, and writes neither pool, mark stack nor image. */
+/* The image of a heap of four blocks with an object in block 0, all of it 0, and its address as the root. */
+static const uint8_t one_block[33] = {
+    0x01, 0x00, 0x00, 0x10, 0x00, 0x00,
+    0x01, 0x00, 0x01,
+    0x01, 0x00, 0, 0, 0, 0, 0, 0, 0, 0, 0, 0, 0, 0, 0, 0, 0, 0,
+    0x01, 0x00, 0x00, 0x10, 0x00, 0x00};
+
+/* Whether every call on a heap but init is refused so, and writes neither pool, mark stack nor image. */
 static bool calls_refuse(uint32_t refusal)
 {
     enum { OUTPUT = 300 };
@@ -444,7 +501,8 @@ static bool calls_refuse(uint32_t refusal)
         && all_are("image byte", image, OUTPUT, 0xEE);
 }
 
-/* A spare bit that is 1: every call but init refuses the table and leaves it as it was, and init clears it. */
+/* A spare bit that is 1: every call on a heap but init refuses the table and leaves it as it was, and init
+ * clears it. */
 static bool refuses_spare_bit(size_t plane, unsigned bit)
 {
     uint8_t before[4];
@@ -468,7 +526,8 @@ static bool refuses_shape(uint64_t size, size_t pool_bytes, size_t table_bytes)
     lend_heap(size, pool_bytes, table_bytes);
     memset(table, 0x11, table_len);
     return initialises(BLOCKHEAP_BAD_SHAPE) && calls_refuse(BLOCKHEAP_BAD_SHAPE)
-        && all_are("table byte", table, table_len, 0x11);
+        && opens(one_block, sizeof one_block, lent(ROOTS, 4), 4, BLOCKHEAP_BAD_SHAPE, 0, 0)
+        && all_are("byte of the pool", pool, pool_len, 0) && all_are("table byte", table, table_len, 0x11);
 }
 
 static bool example_21(void)
@@ -493,11 +552,7 @@ static bool example_22(void)
 static bool example_23(void)
 {
     return from(1) && planes_are(0x01, 0x00)
-        && has_image(BYTES(0x00, 0x10, 0x00, 0x00),
-                     BYTES(0x01, 0x00, 0x00, 0x10, 0x00, 0x00,
-                           0x01, 0x00, 0x01,
-                           0x01, 0x00, 0, 0, 0, 0, 0, 0, 0, 0, 0, 0, 0, 0, 0, 0, 0, 0,
-                           0x01, 0x00, 0x00, 0x10, 0x00, 0x00))
+        && has_image(BYTES(0x00, 0x10, 0x00, 0x00), one_block, sizeof one_block)
         && table_is(1) && all_are("byte of the pool", pool, pool_len, 0);
 }
 
@@ -545,6 +600,126 @@ static bool example_26(void)
         && from(1) && refuses_image(3, BLOCKHEAP_BAD_SHAPE);
 }
 
+static bool example_27(void)
+{
+    const uint8_t root[] = {0x00, 0x10, 0x00, 0x00};
+    const size_t lists[] = {4, 12, BLOCKHEAP_LIST_BYTES(4097)};
+    for (size_t at = 0; at < sizeof lists / sizeof lists[0]; at++)
+        if (!(opens_at(1, lists[at], one_block, sizeof one_block, 4096, root, sizeof root)
+              && table_is(1) && planes_are(0x01, 0x00) && all_are("byte of the pool", pool, pool_len, 0)))
+            return false;
+    return true;
+}
+
+static bool example_28(void)
+{
+    bool empty = opens_at(2, 4, BYTES(0x01, 0x00, 0x00, 0x10, 0x00, 0x00,
+                                      0x02, 0x00, 0x00, 0x00,
+                                      0x00, 0x00,
+                                      0x00, 0x00), 4096, NULL, 0)
+        && planes_are(0x00, 0x00) && all_are("byte of the pool", pool, pool_len, 0);
+    bool two = opens_at(1, 8, BYTES(0x01, 0x00, 0x00, 0x00, 0x00, 0x20,
+                                    0x01, 0x00, 0x24,
+                                    0x02, 0x00, 1, 2, 3, 4, 5, 6, 7, 8, 9, 10, 11, 12, 13, 14, 15, 16,
+                                    17, 18, 19, 20, 21, 22, 23, 24, 25, 26, 27, 28, 29, 30, 31, 32,
+                                    0x02, 0x00, 0x10, 0x00, 0x00, 0x20, 0xff, 0xff, 0xff, 0xff),
+                        0x20000000, BYTES(0x10, 0x00, 0x00, 0x20, 0xff, 0xff, 0xff, 0xff))
+        && planes_are(0x02, 0x04) && all_are("byte of block 0", pool, 16, 0)
+        && bytes_are("byte of the object", pool + 16,
+                     BYTES(1, 2, 3, 4, 5, 6, 7, 8, 9, 10, 11, 12, 13, 14, 15, 16,
+                           17, 18, 19, 20, 21, 22, 23, 24, 25, 26, 27, 28, 29, 30, 31, 32))
+        && all_are("byte of block 3", pool + 48, 16, 0);
+    base = 0x20000000;
+    return empty && two && surveys(2, 1, 1) && loads(1, 7, BLOCKHEAP_OK, 0x201f1e1d)
+        && allocates(17, BLOCKHEAP_NO_ROOM, 0, 0) && allocates(16, BLOCKHEAP_OK, 0, 1);
+}
+
+static bool example_29(void)
+{
+    uint8_t longer[sizeof one_block + 1] = {0};
+    memcpy(longer, one_block, sizeof one_block);
+    for (size_t length = 0; length < sizeof one_block; length++)
+        if (!refuses_file(BLOCKHEAP_IMAGE_TRUNCATED, one_block, length)) {
+            printf("    (the first %zu bytes)\n", length);
+            return false;
+        }
+    return refuses_file(BLOCKHEAP_TRAILING_BYTES, longer, sizeof longer);
+}
+
+/* A base of 4,096 and a table of one byte, and what is behind them. */
+#define FILE_OF(...) BYTES(0x01, 0x00, 0x00, 0x10, 0x00, 0x00, 0x01, 0x00, __VA_ARGS__)
+
+static bool example_30(void)
+{
+    return refuses_file(BLOCKHEAP_BAD_COUNT, BYTES(0x02, 0x00, 0x00, 0x10, 0x00, 0x00))
+        && refuses_file(BLOCKHEAP_BAD_COUNT, BYTES(0x02, 0x00, 0x00, 0x10))
+        && refuses_file(BLOCKHEAP_BAD_COUNT, BYTES(0x02, 0x00))
+        && refuses_file(BLOCKHEAP_BAD_COUNT, BYTES(0x00, 0x00))
+        && refuses_file(BLOCKHEAP_BAD_COUNT, BYTES(0x01, 0x00, 0x00, 0x10, 0x00, 0x00, 0x00, 0x00))
+        && refuses_file(BLOCKHEAP_BAD_COUNT, BYTES(0x01, 0x00, 0x00, 0x10, 0x00, 0x00, 0x01, 0x04))
+        && refuses_file(BLOCKHEAP_IMAGE_TRUNCATED, BYTES(0x01, 0x00, 0x00, 0x10, 0x00, 0x00, 0x00, 0x04))
+        && refuses_file(BLOCKHEAP_BAD_COUNT, FILE_OF(0x01, 0x02, 0x00))
+        && refuses_file(BLOCKHEAP_BAD_COUNT, FILE_OF(0x01, 0x00, 0x00))
+        && refuses_file(BLOCKHEAP_IMAGE_TRUNCATED, FILE_OF(0x01, 0x01, 0x00))
+        && refuses_file(BLOCKHEAP_TOO_MANY_ROOTS, FILE_OF(0x00, 0x00, 0x00, 0x01, 0x10))
+        && refuses_file(BLOCKHEAP_IMAGE_TRUNCATED, FILE_OF(0x00, 0x00, 0x00, 0x00, 0x10));
+}
+
+/* One block whose entry is a MARK, and a root. */
+#define MARKED \
+    FILE_OF(0x03, 0x01, 0x00, 5, 5, 5, 5, 5, 5, 5, 5, 5, 5, 5, 5, 5, 5, 5, 5, 0x01, 0x00, 0x00, 0x10, 0x00, 0x00)
+
+static bool example_31(void)
+{
+    return refuses_file(BLOCKHEAP_BAD_TABLE, MARKED)
+        && refuses_file(BLOCKHEAP_BAD_COUNT, FILE_OF(0x03, 0x00, 0x00, 0x00, 0x00))
+        && refuses_file(BLOCKHEAP_BAD_TABLE,
+                        FILE_OF(0x02, 0x01, 0x00, 5, 5, 5, 5, 5, 5, 5, 5, 5, 5, 5, 5, 5, 5, 5, 5, 0x00, 0x00))
+        && refuses_file(BLOCKHEAP_BAD_TABLE,
+                        FILE_OF(0x08, 0x01, 0x00, 5, 5, 5, 5, 5, 5, 5, 5, 5, 5, 5, 5, 5, 5, 5, 5, 0x00, 0x00));
+}
+
+/* No block is used, and there is no root. */
+#define EMPTY_AT(...) BYTES(0x01, 0x00, __VA_ARGS__, 0x01, 0x00, 0x00, 0x00, 0x00, 0x00, 0x00)
+
+static bool example_32(void)
+{
+    return refuses_file(BLOCKHEAP_BAD_SHAPE, EMPTY_AT(0x00, 0x00, 0x00, 0x00))
+        && refuses_file(BLOCKHEAP_BAD_SHAPE, EMPTY_AT(0x08, 0x10, 0x00, 0x00))
+        && refuses_file(BLOCKHEAP_BAD_SHAPE, EMPTY_AT(0xd0, 0xff, 0xff, 0xff))
+        && opens_at(1, 0, EMPTY_AT(0xc0, 0xff, 0xff, 0xff), 0xffffffc0, NULL, 0)
+        && opens_at(1, 0, EMPTY_AT(0x10, 0x00, 0x00, 0x00), 16, NULL, 0)
+        && refuses_file_in(2, 12, BLOCKHEAP_BAD_SHAPE, one_block, sizeof one_block)
+        && refuses_file_in(1, 11, BLOCKHEAP_BAD_SHAPE, one_block, sizeof one_block)
+        && refuses_file_in(1, 3, BLOCKHEAP_BAD_SHAPE, one_block, sizeof one_block)
+        && refuses_file_in(1, 0, BLOCKHEAP_ROOTS_TOO_SHORT, one_block, sizeof one_block);
+}
+
+/* First the file, then what is lent, then the table of the file, then the list. */
+static bool example_33(void)
+{
+    return refuses_file_in(2, 5, BLOCKHEAP_IMAGE_TRUNCATED, one_block, sizeof one_block - 1)
+        && refuses_file_in(1, 5, BLOCKHEAP_BAD_SHAPE, MARKED)
+        && refuses_file_in(1, 0, BLOCKHEAP_BAD_TABLE, MARKED);
+}
+
+/* A heap of examples 9 to 11 is written, opened elsewhere and written again. */
+static bool example_34(void)
+{
+    const uint8_t words[] = {0x40, 0x10, 0x00, 0x00, 0x01, 0x00, 0x00, 0x00};
+    uint8_t image[BLOCKHEAP_FULL_IMAGE_BYTES(2, 2)], before[128];
+    uint32_t length = RUBBISH, refusal;
+    bool freed = from_linked() && frees(1, BLOCKHEAP_OK, -3);
+    memset(pool + 16, 0x99, 48); /* of free blocks, and so not in the image */
+    refusal = blockheap_write_image(HEAP, words, sizeof words, image, sizeof image, &length);
+    memset(pool + 16, 0, 48);
+    memcpy(before, pool, sizeof before);
+    return freed && same("refusal", refusal, BLOCKHEAP_OK)
+        && opens_at(2, 12, image, length, 4096, words, sizeof words)
+        && table_is(1, 169) && planes_are(0x11, 0xe0) && bytes_are("byte of the pool", pool, before, sizeof before)
+        && has_image(words, sizeof words, image, length);
+}
+
 static const struct {
     const char *title;
     bool (*holds)(void);
@@ -575,6 +750,14 @@ static const struct {
     {"the image of an empty heap", example_24},
     {"the image of two blocks among free ones", example_25},
     {"the order of an image's refusals", example_26},
+    {"open the image of one block", example_27},
+    {"open an empty heap, and two blocks", example_28},
+    {"every prefix, and a byte too many", example_29},
+    {"wrong counts are told before their items", example_30},
+    {"a mark counts, and is then refused", example_31},
+    {"files that do not fit what is lent", example_32},
+    {"the order of an opening's refusals", example_33},
+    {"write, open, and write again", example_34},
 };
 
 static bool holds_everywhere(bool (*holds)(void))

@@ -2,6 +2,7 @@
 //! Base 4,096 throughout, and eight blocks up to example 16. Decimal numbers spell the entries of a table,
 //! four to a number; beside them stand the bytes of its two planes.
 
+use compare::planes::table_bytes;
 use compare::Buffer::{Image, Pool, Roots, Stack, Table};
 use compare::{library, second, wrapper, Call, Guarded, Lent, Reply, Subject};
 
@@ -84,6 +85,58 @@ impl Example<'_> {
         assert_eq!(self.lent[Table][..], before, "the table after {call:?}");
         self
     }
+}
+
+/// Memory of this t for an opening, with a list of so many entries. It is not clean: the table is ill-formed.
+fn rubbish(t: u64, entries: usize) -> Lent {
+    let (pool, table) = (vec![0x77; 64 * t as usize], vec![0xFD; table_bytes(t)]);
+    let mut lent = Lent::new(BASE, t, &pool, &table);
+    lent[Roots] = Guarded::new(&vec![0x55; 4 * entries]);
+    lent
+}
+
+impl Example<'_> {
+    /// The file opens in such memory: at this base, with these entries, pool and roots. The list had two entries
+    /// more, and they stay.
+    fn opens(&mut self, file: &[u8], base: u32, numbers: &[u8], pool: &[u8], roots: &[u32]) {
+        self.lent = rubbish(numbers.len() as u64, roots.len() + 2);
+        self.lent[Image] = Guarded::new(file);
+        let reply = (self.subject)(&Call::OpenImage, &mut self.lent);
+        let answer = [base.into(), roots.len() as i64];
+        assert_eq!(reply, Reply::accepted(&Call::OpenImage, &answer));
+        let entries = Lent::of_numbers(BASE, numbers);
+        assert_eq!(self.lent[Table][..], entries[Table][..], "the table");
+        assert_eq!(self.lent[Pool][..], *pool, "the pool");
+        let roots = roots.iter().flat_map(|root| root.to_le_bytes());
+        let list: Vec<u8> = roots.chain([0x55; 8]).collect();
+        assert_eq!(self.lent[Roots][..], list, "the list");
+    }
+
+    /// The file is refused in such memory, and every lent byte stays.
+    fn refuses_file(&mut self, lent: &Lent, file: &[u8], number: u32) {
+        self.lent = lent.clone();
+        self.lent[Image] = Guarded::new(file);
+        let reply = (self.subject)(&Call::OpenImage, &mut self.lent);
+        assert_eq!(reply, Reply::refused(&Call::OpenImage, number), "{file:02x?}");
+        for buffer in [Pool, Table, Roots] {
+            assert_eq!(self.lent[buffer][..], lent[buffer][..], "the {buffer}");
+        }
+    }
+}
+
+/// A file of the base 4,096 and a table of one byte, and what is behind them.
+fn file_of(table: u8, behind: &[u8]) -> Vec<u8> {
+    [&[0x01, 0x00, 0x00, 0x10, 0x00, 0x00, 0x01, 0x00, table], behind].concat()
+}
+
+/// The image of example 23.
+fn one_block() -> Vec<u8> {
+    file_of(0x01, &[&[0x01, 0x00][..], &[0x00; 16], &[0x01, 0x00, 0x00, 0x10, 0x00, 0x00]].concat())
+}
+
+/// A file of one block whose entry is a MARK, and a root.
+fn marked() -> Vec<u8> {
+    file_of(0x03, &[&[0x01, 0x00][..], &[0x05; 16], &[0x01, 0x00, 0x00, 0x10, 0x00, 0x00]].concat())
 }
 
 fn on_every_heap(example: impl Fn(&mut Example)) {
@@ -284,14 +337,7 @@ fn example_19_a_free_run_that_is_not_aligned() {
 #[test]
 fn example_23_the_image_of_one_block() {
     on_every_heap(|heap| {
-        let image = [
-            &[0x01, 0x00, 0x00, 0x10, 0x00, 0x00][..],
-            &[0x01, 0x00, 0x01],
-            &[0x01, 0x00],
-            &[0x00; 16],
-            &[0x01, 0x00, 0x00, 0x10, 0x00, 0x00],
-        ];
-        heap.from([1]).planes([0x01, 0x00]).has_image(&[4096], &image.concat());
+        heap.from([1]).planes([0x01, 0x00]).has_image(&[4096], &one_block());
         heap.lent.set_output(32);
         heap.refuses(Call::WriteImage, 10);
     });
@@ -325,5 +371,109 @@ fn example_25_the_image_of_two_blocks_between_free_ones() {
             &[0x02, 0x00, 0x20, 0x10, 0x00, 0x00, 0xFF, 0xFF, 0xFF, 0xFF],
         ];
         heap.has_image(&[4128, u32::MAX], &image.concat());
+    });
+}
+
+#[test]
+fn example_27_open_the_image_of_one_block() {
+    on_every_heap(|heap| {
+        heap.opens(&one_block(), 4096, &[0x01], &[0; 64], &[4096]);
+        heap.planes([0x01, 0x00]);
+    });
+}
+
+#[test]
+fn example_28_open_an_empty_heap_and_two_blocks() {
+    on_every_heap(|heap| {
+        heap.opens(&file_of(0x00, &[0; 4]), 4096, &[0x00], &[0; 64], &[]);
+        let block: Vec<u8> = (1..=32).collect();
+        let roots = [0x02, 0x00, 0x20, 0x10, 0x00, 0x00, 0xFF, 0xFF, 0xFF, 0xFF];
+        let file = file_of(0x24, &[&[0x02, 0x00], &block[..], &roots].concat());
+        let pool = [&[0; 16], &block[..], &[0; 16]].concat();
+        heap.opens(&file, 4096, &[0x24], &pool, &[4128, u32::MAX]);
+        heap.planes([0x02, 0x04]).gives(Call::Survey, [2, 1, 1], [0x24]);
+        let odd = [
+            &[0x01, 0x00, 0x10, 0x00, 0x00, 0x20, 0x03, 0x00, 101, 100, 165, 11, 0x00][..],
+            &[0x05; 176],
+            &[0x00, 0x00],
+        ];
+        let pool = [&[0x05; 64][..], &[0; 16], &[0x05; 112]].concat();
+        heap.opens(&odd.concat(), 0x2000_0010, &[101, 100, 165], &pool, &[]);
+        heap.planes([171, 3, 68, 12]);
+    });
+}
+
+#[test]
+fn example_29_every_prefix_and_a_byte_too_many() {
+    on_every_heap(|heap| {
+        for length in 0..33 {
+            heap.refuses_file(&rubbish(1, 3), &one_block()[..length], 14);
+        }
+        heap.refuses_file(&rubbish(1, 3), &[&one_block()[..], &[0]].concat(), 16);
+    });
+}
+
+#[test]
+fn example_30_wrong_counts_are_told_before_their_items() {
+    on_every_heap(|heap| {
+        let base = [0x01, 0x00, 0x00, 0x10, 0x00, 0x00];
+        for (file, number) in [
+            (vec![0x02, 0x00, 0x00, 0x10, 0x00, 0x00], 15),
+            (vec![0x02, 0x00, 0x00, 0x10], 15),
+            (vec![0x02, 0x00], 15),
+            (vec![0x00, 0x00], 15),
+            ([&base[..], &[0x00, 0x00]].concat(), 15),
+            ([&base[..], &[0x01, 0x04]].concat(), 15),
+            ([&base[..], &[0x00, 0x04]].concat(), 14),
+            (file_of(0x01, &[0x02, 0x00]), 15),
+            (file_of(0x01, &[0x00, 0x00]), 15),
+            (file_of(0x01, &[0x01, 0x00]), 14),
+            (file_of(0x00, &[0x00, 0x00, 0x01, 0x10]), 3),
+            (file_of(0x00, &[0x00, 0x00, 0x00, 0x10]), 14),
+        ] {
+            heap.refuses_file(&rubbish(1, 3), &file, number);
+        }
+    });
+}
+
+#[test]
+fn example_31_a_mark_counts_and_is_then_refused() {
+    on_every_heap(|heap| {
+        heap.refuses_file(&rubbish(1, 3), &marked(), 2);
+        heap.refuses_file(&rubbish(1, 3), &file_of(0x03, &[0; 4]), 15);
+        for table in [0x02, 0x08] {
+            let file = file_of(table, &[&[0x01, 0x00][..], &[0x05; 16], &[0x00, 0x00]].concat());
+            heap.refuses_file(&rubbish(1, 3), &file, 2);
+        }
+    });
+}
+
+#[test]
+fn example_32_files_that_do_not_fit_what_is_lent() {
+    on_every_heap(|heap| {
+        for base in [0u32, 0x1008, 0xFFFF_FFD0] {
+            let mut file = file_of(0x00, &[0; 4]);
+            file[2..6].copy_from_slice(&base.to_le_bytes());
+            heap.refuses_file(&rubbish(1, 3), &file, 1);
+        }
+        let mut highest = file_of(0x00, &[0; 4]);
+        highest[2..6].copy_from_slice(&0xFFFF_FFC0u32.to_le_bytes());
+        heap.opens(&highest, 0xFFFF_FFC0, &[0x00], &[0; 64], &[]);
+        heap.refuses_file(&rubbish(2, 3), &one_block(), 1);
+        let mut piece = rubbish(1, 3);
+        piece[Roots] = Guarded::new(&[0x55; 5]);
+        heap.refuses_file(&piece, &one_block(), 1);
+        heap.refuses_file(&rubbish(1, 0), &one_block(), 17);
+    });
+}
+
+#[test]
+fn example_33_the_order_of_an_openings_refusals() {
+    on_every_heap(|heap| {
+        let mut piece = rubbish(1, 3);
+        piece[Roots] = Guarded::new(&[0x55; 5]);
+        heap.refuses_file(&piece, &[&one_block()[..], &[0]].concat(), 16);
+        heap.refuses_file(&piece, &marked(), 1);
+        heap.refuses_file(&rubbish(1, 0), &marked(), 2);
     });
 }
