@@ -4,9 +4,11 @@
  * The gauge tips while it rains, and each tip is noted in a rain buffer that grows by reallocate. A script
  * runs at every tip and leaves garbage behind. When there is no room, the logger collects and asks again. At
  * the end it gives its heap away as an image, and writes it to the file that its argument names, if any.
+ * Another host opens the image and reads on.
  */
 #include <stdbool.h>
 #include <stdio.h>
+#include <string.h>
 
 #include "bh.h"
 #include "refusals.h" /* must, say_refused */
@@ -25,28 +27,37 @@ static uint32_t buffer;
 static uint32_t buffer_words;
 enum { FIRST_TIP = 1, MORE_WORDS = 12 };
 
-static void draw_blocks(void)
+/* The heap as a member has it: an image, for one root. */
+static uint8_t image[BLOCKHEAP_FULL_IMAGE_BYTES(BLOCKHEAP_T_OF_POOL(POOL_BYTES), 1)];
+static uint32_t image_length;
+
+static void draw_blocks(const struct blockheap *of)
 {
     static const char letters[] = {
         [BLOCKHEAP_FREE] = '.', [BLOCKHEAP_HEAD] = 'h', [BLOCKHEAP_TAIL] = '=', [BLOCKHEAP_MARK] = 'm'};
     enum { LINE = 64 };
-    for (uint32_t block = 0; block < bh_blocks(&heap); block++) {
+    for (uint32_t block = 0; block < bh_blocks(of); block++) {
         if (block % LINE == 0)
-            printf("  0x%08x: ", (unsigned)bh_address(&heap, block));
-        putchar(letters[bh_entry(&heap, block)]);
+            printf("  0x%08x: ", (unsigned)bh_address(of, block));
+        putchar(letters[bh_entry(of, block)]);
         if (block % LINE == LINE - 1)
             putchar('\n');
     }
 }
 
-static void show_heap(void)
+static void show(const struct blockheap *of)
 {
     uint32_t used, objects, longest;
-    must(bh_survey(&heap, &used, &objects, &longest));
+    must(bh_survey(of, &used, &objects, &longest));
     printf("  used %u of %u blocks, objects %u, longest free run %u\n", (unsigned)used,
-           (unsigned)bh_blocks(&heap), (unsigned)objects, (unsigned)longest);
-    draw_blocks();
+           (unsigned)bh_blocks(of), (unsigned)objects, (unsigned)longest);
+    draw_blocks(of);
     putchar('\n');
+}
+
+static void show_heap(void)
+{
+    show(&heap);
 }
 
 /* Collects from the station's record and from one block more, of an object that is in use just now. */
@@ -175,9 +186,9 @@ static const uint8_t *show_section(const char *name, size_t item_bytes, const ui
     return items + bytes;
 }
 
-static void show_image(const uint8_t *image, size_t length)
+static void show_image(void)
 {
-    printf("  an image of %zu bytes\n  section  count  first bytes\n", length);
+    printf("  an image of %u bytes\n  section  count  first bytes\n", (unsigned)image_length);
     const uint8_t *section = show_section("base", BLOCKHEAP_WORD_BYTES, image);
     section = show_section("table", 1, section);
     section = show_section("blocks", BLOCKHEAP_BLOCK_BYTES, section);
@@ -196,15 +207,60 @@ static bool save(const char *path, const uint8_t *bytes, size_t count)
 /* Writes the image, with the station's record as its root, and saves it if there is a path. */
 static bool download(const char *path)
 {
-    static uint8_t image[BLOCKHEAP_FULL_IMAGE_BYTES(BLOCKHEAP_T_OF_POOL(POOL_BYTES), 1)];
     uint8_t roots[BLOCKHEAP_LIST_BYTES(1)];
-    uint32_t length;
     bh_put_word(roots, 0, bh_address(&heap, station));
-    must(bh_write_image(&heap, roots, sizeof roots, image, sizeof image, &length));
-    show_image(image, length);
-    bool saved = !path || save(path, image, length);
+    must(bh_write_image(&heap, roots, sizeof roots, image, sizeof image, &image_length));
+    show_image();
+    bool saved = !path || save(path, image, image_length);
     putchar('\n');
     return saved;
+}
+
+/* The word of the object that an address leads to. */
+static uint32_t word_at(const struct blockheap *in, uint32_t address, uint32_t word)
+{
+    uint32_t value;
+    must(bh_load(in, bh_block(in, address), word, &value));
+    return value;
+}
+
+/* What another host has: memory and roots for an image of any size. */
+static BH_ALIGNED uint8_t area[BLOCKHEAP_HEAP_BYTES(BLOCKHEAP_MAX_T)];
+static uint8_t opened_roots[BLOCKHEAP_LIST_BYTES(BLOCKHEAP_MAX_ROOTS)];
+
+/* Reads the tips from the station's record on, which the root leads to. */
+static void read_tips(const struct blockheap *opened)
+{
+    uint32_t record = bh_get_word(opened_roots, 0);
+    uint32_t readings = word_at(opened, record, STATION_BUFFER), count = word_at(opened, readings, 0);
+    printf("  station %u: %u tips, the last after %u seconds\n",
+           (unsigned)word_at(opened, record, STATION_NUMBER), (unsigned)count,
+           (unsigned)word_at(opened, readings, FIRST_TIP + count - 1));
+}
+
+/* Whether the opened heap gives the same file again. */
+static bool writes_same_image(const struct blockheap *opened, uint32_t roots)
+{
+    static uint8_t again[sizeof image];
+    uint32_t length;
+    must(bh_write_image(opened, opened_roots, BLOCKHEAP_LIST_BYTES(roots), again, sizeof again, &length));
+    return length == image_length && memcmp(again, image, length) == 0;
+}
+
+/* Opens the image where nothing of the logger's memory is. */
+static bool open_elsewhere(void)
+{
+    struct blockheap opened = bh_split(0, area, BLOCKHEAP_HEAP_BYTES(bh_image_t(image, image_length)));
+    uint32_t roots;
+    say_refused("  the download broke off",
+                bh_open_image(&opened, image, image_length / 2, opened_roots, sizeof opened_roots, NULL));
+    must(bh_open_image(&opened, image, image_length, opened_roots, sizeof opened_roots, &roots));
+    printf("  opened at 0x%08x, with %u root\n", (unsigned)opened.base, (unsigned)roots);
+    show(&opened);
+    read_tips(&opened);
+    bool same = writes_same_image(&opened, roots);
+    printf("  written again it is %s\n\n", same ? "the same file" : "ANOTHER FILE");
+    return same;
 }
 
 int main(int argc, char **argv)
@@ -251,9 +307,12 @@ int main(int argc, char **argv)
     puts("10. A member downloads the heap as a file, with the station's record as its root.");
     bool downloaded = download(argc > 1 ? argv[1] : NULL);
 
+    puts("11. Another host opens the file, in memory of its own, and reads on.");
+    bool opened = open_elsewhere();
+
     uint32_t count = tips();
     bool right = buffer_is_right();
     printf("%u tips, %u.%u mm of rain: %s\n", (unsigned)count, (unsigned)(count / 5),
            (unsigned)(count % 5 * 2), right ? "every tip is in the buffer." : "THE BUFFER IS WRONG.");
-    return !right || !downloaded;
+    return !right || !downloaded || !opened;
 }
