@@ -79,15 +79,25 @@ static void survey(void)
            (unsigned)bh_blocks(&heap), (unsigned)objects, (unsigned)longest);
 }
 
-/* The whole heap as a file for whoever asks for it, with the gauge as its root. */
-static void download(uint32_t gauge)
+static uint8_t image[BLOCKHEAP_FULL_IMAGE_BYTES(BLOCKHEAP_T_OF_POOL(POOL_BYTES), 1)];
+
+/* The whole heap as a file for whoever asks for it, with the gauge as its root. Answers its length. */
+static uint32_t download(uint32_t gauge)
 {
-    static uint8_t image[BLOCKHEAP_FULL_IMAGE_BYTES(BLOCKHEAP_T_OF_POOL(POOL_BYTES), 1)];
     uint8_t roots[BLOCKHEAP_LIST_BYTES(1)];
     uint32_t length;
     bh_put_word(roots, 0, bh_address(&heap, gauge));
     must(bh_write_image(&heap, roots, sizeof roots, image, sizeof image, &length));
     printf("download: an image of %u bytes\n", (unsigned)length);
+    return length;
+}
+
+/* The file makes the heap again, here or on another host. Its root is the gauge. */
+static uint32_t restore(uint32_t length)
+{
+    uint8_t roots[BLOCKHEAP_LIST_BYTES(1)];
+    must(bh_open_image(&heap, image, length, roots, sizeof roots, NULL));
+    return bh_block(&heap, bh_get_word(roots, 0));
 }
 
 int main(void)
@@ -108,6 +118,11 @@ int main(void)
     say_refused("free inside the readings", bh_free(&heap, readings_of(gauge) + 1, NULL));
     must(bh_load(&heap, readings_of(gauge), 3, &value));
     printf("reading 3 is still %u\n", (unsigned)value);
-    download(gauge);
+
+    uint32_t length = download(gauge);
+    must(bh_init(&heap)); /* all is lost */
+    gauge = restore(length);
+    must(bh_load(&heap, readings_of(gauge), 3, &value));
+    printf("restored: reading 3 is %u\n", (unsigned)value);
     return 0;
 }

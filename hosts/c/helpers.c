@@ -1,6 +1,6 @@
 /*
- * What bh.h adds to the calls, at its edges: makers, blocks and addresses, words, null pointers, lengths of
- * images, refusals.
+ * What bh.h adds to the calls, at its edges: makers, blocks and addresses, words, null pointers, images,
+ * refusals.
  */
 #include <stdbool.h>
 #include <stdio.h>
@@ -29,6 +29,8 @@ static void check_lengths(void)
               && BLOCKHEAP_TABLE_BYTES_OF_T(BLOCKHEAP_MAX_T) == BLOCKHEAP_MAX_TABLE_BYTES);
     check("the pool's length gives the table's",
           BLOCKHEAP_TABLE_BYTES(64) == 2 && BLOCKHEAP_TABLE_BYTES(128) == 2 && BLOCKHEAP_TABLE_BYTES(192) == 4);
+    check("a heap has both",
+          BLOCKHEAP_HEAP_BYTES(1) == 66 && BLOCKHEAP_HEAP_BYTES(2) == 130 && BLOCKHEAP_HEAP_BYTES(3) == 196);
     check("an image has counts, a base, a table, blocks and roots",
           BLOCKHEAP_IMAGE_BYTES(1, 1, 1) == 33 && BLOCKHEAP_IMAGE_BYTES(3, 0, 0) == 15);
     check("the longest image is that of a full heap",
@@ -49,6 +51,14 @@ static bool splits_into(uint8_t *area, size_t area_len, uint64_t t)
     return split.pool == area && split.table == area + split.pool_len && is_heap_of(&split, t);
 }
 
+static bool splits_at_every_t(uint8_t *area)
+{
+    bool all = true;
+    for (size_t t = 1; t <= BLOCKHEAP_MAX_T; t++)
+        all = all && splits_into(area, BLOCKHEAP_HEAP_BYTES(t), t);
+    return all;
+}
+
 static void check_makers(void)
 {
     static uint8_t pool[64], table[BLOCKHEAP_TABLE_BYTES(sizeof pool)], area[1025 * 65 + 1];
@@ -62,6 +72,7 @@ static void check_makers(void)
     check("a part of the area may be left over",
           splits_into(area, 129, 1) && splits_into(area, 195, 2) && splits_into(area, 196, 3));
     check("no pool is longer than 65,536 bytes", splits_into(area, sizeof area, 1024));
+    check("an area of a heap's length is split for its t", splits_at_every_t(area));
     split = bh_split(BASE, area, 65);
     check("too short an area is refused", bh_init(&split) == BLOCKHEAP_BAD_SHAPE);
     check("a struct that is all 0 is refused",
@@ -189,6 +200,55 @@ static void check_images(void)
     check("a heap that is refused has no image", bh_image_bytes(&misplaced, 0) == 0);
 }
 
+/* The t that the first 8 bytes of an image say. */
+static size_t t_of(uint8_t low_base_count, uint8_t high_base_count, uint8_t low_t, uint8_t high_t)
+{
+    const uint8_t front[8] = {low_base_count, high_base_count, 9, 9, 9, 9, low_t, high_t};
+    return bh_image_t(front, sizeof front);
+}
+
+static void check_image_t(void)
+{
+    static const uint8_t front[9] = {1, 0, 9, 9, 9, 9, 3, 0, 9};
+    bool short_ones = true;
+    for (size_t length = 0; length < 8; length++)
+        short_ones = short_ones && bh_image_t(front, length) == 0;
+    check("the first 8 bytes of an image give its t", bh_image_t(front, 8) == 3 && bh_image_t(front, 9) == 3);
+    check("fewer give none, also a null pointer", short_ones && bh_image_t(NULL, 0) == 0);
+    check("t has two bytes and a limit",
+          t_of(1, 0, 1, 0) == 1 && t_of(1, 0, 0, 4) == 1024 && t_of(1, 0, 1, 4) == 0 && t_of(1, 0, 0, 0) == 0);
+    check("another count of bases is no image's",
+          t_of(0, 0, 1, 0) == 0 && t_of(2, 0, 1, 0) == 0 && t_of(1, 1, 1, 0) == 0);
+}
+
+/* A heap with an object in block 0, and its address as the root, is opened in an area of another. */
+static void check_openings(void)
+{
+    static uint8_t area[BLOCKHEAP_HEAP_BYTES(3)], roots[BLOCKHEAP_LIST_BYTES(2)];
+    static uint8_t image[BLOCKHEAP_FULL_IMAGE_BYTES(2, 1)];
+    struct blockheap opened = bh_split(0, area, BLOCKHEAP_HEAP_BYTES(2)), larger = bh_split(16, area, sizeof area);
+    uint32_t block, length, count = 99;
+    bh_put_word(roots, 0, BASE);
+    bh_put_word(roots, 1, 7);
+    check("an image is made", !bh_init(&heap) && !bh_allocate(&heap, 1, &block, NULL) && !bh_store(&heap, block, 2, 55)
+                                  && !bh_write_image(&heap, roots, 4, image, sizeof image, &length));
+    bh_put_word(roots, 0, 0);
+    check("it is opened, and the struct gets its base",
+          !bh_open_image(&opened, image, length, roots, sizeof roots, &count) && opened.base == BASE && count == 1);
+    check("the list has its roots, and what it had behind them",
+          bh_get_word(roots, 0) == BASE && bh_get_word(roots, 1) == 7);
+    check("the heap is the same", entries_are(&opened, "h.......") && bh_get_word(bh_pointer(&opened, 0), 2) == 55);
+    check("a count that is not wanted is left out", !bh_open_image(&opened, image, length, roots, 4, NULL));
+    check("memory of another size is refused, and the base stays",
+          bh_open_image(&larger, image, length, roots, 4, &count) == BLOCKHEAP_BAD_SHAPE && larger.base == 16
+              && count == 0);
+    check("a null pointer is a list of no entries",
+          bh_open_image(&opened, image, length, NULL, 0, NULL) == BLOCKHEAP_ROOTS_TOO_SHORT);
+    check("or a file of no bytes", bh_open_image(&opened, NULL, 0, NULL, 0, NULL) == BLOCKHEAP_IMAGE_TRUNCATED);
+    opened.t = 0;
+    check("a struct may leave t to the pool's length here too", !bh_open_image(&opened, image, length, roots, 4, NULL));
+}
+
 static bool has_name_and_text(uint32_t refusal)
 {
     return strcmp(bh_refusal_name(refusal), "UNKNOWN") != 0
@@ -198,10 +258,12 @@ static bool has_name_and_text(uint32_t refusal)
 static void check_refusals(void)
 {
     bool all = true;
-    for (uint32_t refusal = BLOCKHEAP_OK; refusal <= BLOCKHEAP_OUTPUT_TOO_SHORT; refusal++)
-        all = all && has_name_and_text(refusal);
+    for (uint32_t refusal = BLOCKHEAP_OK; refusal <= BLOCKHEAP_ROOTS_TOO_SHORT; refusal++) {
+        bool unused = refusal > BLOCKHEAP_OUTPUT_TOO_SHORT && refusal < BLOCKHEAP_IMAGE_TRUNCATED;
+        all = all && has_name_and_text(refusal) != unused;
+    }
     check("every refusal has a name and a sentence", all);
-    check("any other number has a sentence too", strlen(bh_refusal_text(BLOCKHEAP_OUTPUT_TOO_SHORT + 1)) > 0);
+    check("any other number has a sentence too", strlen(bh_refusal_text(BLOCKHEAP_ROOTS_TOO_SHORT + 1)) > 0);
 }
 
 static void check_version(void)
@@ -223,6 +285,8 @@ int main(void)
     check_objects();
     check_lists();
     check_images();
+    check_image_t();
+    check_openings();
     check_refusals();
     check_version();
     return failed != 0;
