@@ -320,6 +320,24 @@ static void image_of_all_blocks(void)
     write_image();
 }
 
+static void image_of_every_second_block(void)
+{
+    every_second_block_used();
+    write_image();
+}
+
+/* Over the heap that the image is of. */
+static void open_image(void)
+{
+    uint32_t base, count;
+    must(blockheap_open_image(image, image_length, t, pool, BLOCKHEAP_POOL_BYTES(t), table, TABLE_BYTES, roots,
+                              sizeof roots, &base, &count));
+    add(base);
+    add(count);
+    add(pool[random_below((uint32_t)BLOCKHEAP_POOL_BYTES(t))]);
+    add(roots[random_below(sizeof roots)]);
+}
+
 static void copy_image(void)
 {
     memcpy(copy_of_image, image, image_length);
@@ -367,6 +385,8 @@ static const struct work {
      write_image},
     {"image, every second block", "the same with an object in every second block", every_second_block_used,
      write_image},
+    {"open, all blocks used", "open that first image, in memory of its size", image_of_all_blocks, open_image},
+    {"open, every second block", "the same with the second image", image_of_every_second_block, open_image},
     {"copy of an image", "memcpy of the image with all blocks used, by this program and not by the library",
      image_of_all_blocks, copy_image},
     {"check of the table", "allocate 0 bytes in the same heap, which is refused once its table is checked",

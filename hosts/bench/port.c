@@ -376,6 +376,77 @@ uint32_t blockheap_write_image(uint64_t base, uint64_t t, const uint8_t *pool, s
     return BLOCKHEAP_OK;
 }
 
+typedef struct {
+    const uint8_t *at;
+    size_t left;
+} file;
+
+/* The count and the items of the next section; the count is tested before the items. */
+static uint32_t read_section(file *f, size_t item_bytes, size_t fewest, size_t most, uint32_t wrong,
+                             size_t *count, const uint8_t **items)
+{
+    if (f->left < 2)
+        return BLOCKHEAP_IMAGE_TRUNCATED;
+    *count = f->at[0] | (size_t)f->at[1] << 8;
+    if (*count < fewest || *count > most)
+        return wrong;
+    if (f->left - 2 < item_bytes * *count)
+        return BLOCKHEAP_IMAGE_TRUNCATED;
+    *items = f->at + 2;
+    f->at += 2 + item_bytes * *count;
+    f->left -= 2 + item_bytes * *count;
+    return BLOCKHEAP_OK;
+}
+
+static void put_blocks(uint8_t *pool, const uint8_t *table, size_t blocks, const uint8_t *items)
+{
+    for (size_t block = 0; block < blocks; block++) {
+        if (entry_at(table, block) == BLOCKHEAP_FREE) {
+            clear(pool, block, block + 1);
+            continue;
+        }
+        memcpy(pool + BLOCKHEAP_BLOCK_BYTES * block, items, BLOCKHEAP_BLOCK_BYTES);
+        items += BLOCKHEAP_BLOCK_BYTES;
+    }
+}
+
+uint32_t blockheap_open_image(const uint8_t *image, size_t image_len, uint64_t t, uint8_t *pool, size_t pool_len,
+                              uint8_t *table, size_t table_len, uint8_t *roots, size_t roots_len, uint32_t *base,
+                              uint32_t *count)
+{
+    file f = {image, image_len};
+    size_t bases, size, used, root_count;
+    const uint8_t *base_word, *entries, *items, *words;
+    *base = *count = 0;
+    uint32_t refusal = read_section(&f, BLOCKHEAP_WORD_BYTES, 1, 1, BLOCKHEAP_BAD_COUNT, &bases, &base_word);
+    if (!refusal)
+        refusal = read_section(&f, 1, 1, BLOCKHEAP_MAX_T, BLOCKHEAP_BAD_COUNT, &size, &entries);
+    if (refusal)
+        return refusal;
+    size_t wanted = count_used(entries, 4 * size);
+    refusal = read_section(&f, BLOCKHEAP_BLOCK_BYTES, wanted, wanted, BLOCKHEAP_BAD_COUNT, &used, &items);
+    if (!refusal)
+        refusal = read_section(&f, BLOCKHEAP_WORD_BYTES, 0, BLOCKHEAP_MAX_ROOTS, BLOCKHEAP_TOO_MANY_ROOTS,
+                               &root_count, &words);
+    if (refusal)
+        return refusal;
+    if (f.left > 0)
+        return BLOCKHEAP_TRAILING_BYTES;
+    if (t != size || roots_len % BLOCKHEAP_WORD_BYTES != 0)
+        return BLOCKHEAP_BAD_SHAPE;
+    refusal = check_heap(word_at(base_word), t, pool_len, entries, table_len);
+    if (refusal)
+        return refusal;
+    if (roots_len / BLOCKHEAP_WORD_BYTES < root_count)
+        return BLOCKHEAP_ROOTS_TOO_SHORT;
+    memcpy(table, entries, size);
+    put_blocks(pool, entries, 4 * size, items);
+    memcpy(roots, words, BLOCKHEAP_WORD_BYTES * root_count);
+    *base = word_at(base_word);
+    *count = (uint32_t)root_count;
+    return BLOCKHEAP_OK;
+}
+
 uint32_t blockheap_survey(uint64_t base, uint64_t t, const uint8_t *pool, size_t pool_len,
                           const uint8_t *table, size_t table_len, uint32_t *used, uint32_t *objects,
                           uint32_t *longest)
