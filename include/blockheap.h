@@ -233,7 +233,7 @@ enum blockheap_refusal {
     BLOCKHEAP_NO_SUCH_WORD = 8,      /* the word is not inside the object */
     BLOCKHEAP_NO_ROOM = 9,           /* no long enough run of free blocks that is aligned */
     BLOCKHEAP_OUTPUT_TOO_SHORT = 10, /* the buffer for an image is shorter than the image */
-    /* 11 to 13 are no call's. */
+    /* 11 to 13 are not in use */
     BLOCKHEAP_IMAGE_TRUNCATED = 14,  /* the image ends inside a count or inside a section's items */
     BLOCKHEAP_BAD_COUNT = 15,        /* a count in the image is not what it must be */
     BLOCKHEAP_TRAILING_BYTES = 16,   /* bytes behind the image's last section */
@@ -399,8 +399,8 @@ uint32_t blockheap_write_image(uint64_t base, uint64_t t, const uint8_t *pool, s
  *   MARK counts);
  * - TOO_MANY_ROOTS: the count of the roots is more than 4,096;
  * - TRAILING_BYTES: it goes on behind the roots.
- * A count is looked at before its items: a wrong one is told from a file that
- * ends. Then:
+ * A count is tested before its items: a wrong one is BAD_COUNT even if the file
+ * ends right behind it. Then:
  * - BAD_SHAPE: the image's base breaks the rules above; or t, pool_len or
  *   table_len is not that of a heap of the image's t; or roots_len is not
  *   divisible by 4;
