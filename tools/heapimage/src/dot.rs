@@ -1,0 +1,65 @@
+//! The objects of an image as a graph, in the language of Graphviz.
+
+use crate::text::{count, hex, offset};
+use crate::{Image, Object};
+use std::collections::BTreeMap;
+
+/// The graph: the roots that lead to objects, the objects, and edges from each to what it leads to.
+pub fn graph(image: &Image) -> String {
+    let roots = || image.pointers(&image.roots);
+    let mut lines = vec!["rankdir=LR;".into(), "node [shape=box, fontname=monospace];".into()];
+    lines.extend(roots().map(|(root, _)| format!("{} [shape=plain];", root_name(root))));
+    lines.extend(image.objects.iter().map(node));
+    lines.extend(roots().map(|(root, target)| {
+        let edge = format!("{} -> {}", root_name(root), name(&image.objects[target.object]));
+        statement(&edge, &offset(target), true)
+    }));
+    lines.extend(image.objects.iter().flat_map(|object| edges(image, object)));
+    format!("digraph heap {{\n  {}\n}}\n", lines.join("\n  "))
+}
+
+fn root_name(root: usize) -> String {
+    format!("\"root {root}\"")
+}
+
+fn name(object: &Object) -> String {
+    format!("\"{}\"", hex(object.address))
+}
+
+fn node(object: &Object) -> String {
+    let (address, blocks) = (hex(object.address), count(object.blocks(), "block"));
+    let label = format!("{address}\\n{blocks}, {} bytes", object.bytes());
+    statement(&name(object), &label, object.reachable)
+}
+
+/// The edges from an object, one to each that it leads to: the label lists the words that lead there.
+fn edges(image: &Image, object: &Object) -> Vec<String> {
+    let mut labels = BTreeMap::<usize, Vec<String>>::new();
+    for (word, target) in image.pointers(&object.words) {
+        let label = match offset(target) {
+            head if head.is_empty() => word.to_string(),
+            tail => format!("{word} ({tail})"),
+        };
+        labels.entry(target.object).or_default().push(label);
+    }
+    let edge = |(target, words): (usize, Vec<String>)| {
+        let edge = format!("{} -> {}", name(object), name(&image.objects[target]));
+        statement(&edge, &words.join(", "), object.reachable)
+    };
+    labels.into_iter().map(edge).collect()
+}
+
+/// A statement, with its label if it has one. What is not reachable is grey.
+fn statement(what: &str, label: &str, reachable: bool) -> String {
+    let mut attributes = Vec::new();
+    if !label.is_empty() {
+        attributes.push(format!("label=\"{label}\""));
+    }
+    if !reachable {
+        attributes.push("color=grey, fontcolor=grey".into());
+    }
+    match &attributes[..] {
+        [] => format!("{what};"),
+        some => format!("{what} [{}];", some.join(", ")),
+    }
+}
