@@ -200,7 +200,7 @@ module _ (image : List ℕ) where
     roots-step : First (when 17 (room < 4 * rootCount image) ∷ []) (firstOf (shortRoots room (rootsOf f) ∷ []))
     roots-step =
         let long : length (rootsOf f) ≡ 4 * rootCount image =
-            ap length (root-body one right) ∙ length-take-le (4 * rootCount image) (drop (rootPlace image + 2) image) (omega (arith, end, length-drop (rootPlace image + 2) image)) in
+        ap length (root-body one right) ∙ length-take-le (4 * rootCount image) (drop (rootPlace image + 2) image) (omega (arith, end, length-drop (rootPlace image + 2) image)) in
         first-step (shortRoots room (rootsOf f)) [] (when 17 (room < 4 * rootCount image)) [] refl (λ e. omega (arith, ltb-true room (length (rootsOf f)) e, long))
         (λ e l. omega (arith, ltb-false room (length (rootsOf f)) e, long)) (λ _. first-end)
 
@@ -285,7 +285,7 @@ module _ (h : Heap) (image : List ℕ) (room : ℕ) (accepted : Accepted (openIm
       let n : ℕ = used (take k (fileEntries image)) in
       let place : blockPlace image + 2 + (16 * n + j) ≡ 10 + tableCount image + 16 * n + j = omega arith in
       let block : blockBytes (poolOf (fileEntries image) bytes) k ≡ blockBytes bytes n =
-          rw (ne-eqb (entryAt (fileEntries image) k) FREE some) at (pool-block (fileEntries image) bytes k (omega (arith, bytes-long)) (entry-inside (fileEntries image) k some)) in
+      rw (ne-eqb (entryAt (fileEntries image) k) FREE some) at (pool-block (fileEntries image) bytes k (omega (arith, bytes-long)) (entry-inside (fileEntries image) k some)) in
       ap (λ (p : List ℕ). getD p (16 * k + j) 0) pool-is ∙ sym (block-at (poolOf (fileEntries image) bytes) k j l) ∙ ap (λ (b : List ℕ). getD b j 0) block ∙ block-at bytes n j l
       ∙ getD-take (16 * usedCount image) (drop (blockPlace image + 2) image) (16 * n + j) 0 (omega (arith, l, used-before (fileEntries image) k some))
       ∙ getD-drop (blockPlace image + 2) image (16 * n + j) 0 ∙ ap (λ (i : ℕ). getD image i 0) place

@@ -59,7 +59,7 @@ module _ (h : Heap) (image : List ℕ) (room : ℕ) where
   open-passes o =
       let good : goodTarget f h room ≡ true = rw (shape-of (baseOf f) h (o .shape), eq-eqb _ _ (o .long), eq-eqb _ _ (o .words)) in
       let a = first-more (fileTests image) next refl (no-fault image (o .faultless))
-          ∙ first-no (badShape (goodTarget f h room)) (illFormed (heapOfFile f) ∷ []) (ap not good) ∙ first-last (illFormed (heapOfFile f)) (ap not (o .well)) in
+      ∙ first-no (badShape (goodTarget f h room)) (illFormed (heapOfFile f) ∷ []) (ap not good) ∙ first-last (illFormed (heapOfFile f)) (ap not (o .well)) in
       first-more (fileTests image ++ next) (last ∷ []) refl a ∙ first-last last (le-ltb room (length (rootsOf f)) (o .enough))
 
 -- the heap that is opened has a good shape and is well-formed

@@ -172,9 +172,13 @@ module _ (base : ℕ) (h : Heap) (roots : List ℕ) (s : Shape base h) (small : 
   pub image-file : fileOf (imageOf base h roots) ≡ written
   unfolding fileOf
   image-file =
-      rw
-      (in-order, read-section oneBase 1 (bytesOf base) behind-base (omega arith) base-long, read-section tableBytes t (tableOf (h .entries)) behind-table (omega (arith, s .few)) table-long,
-      read-section (usedIn (written .table)) u blocks behind-blocks (omega (arith, few-used)) blocks-long, read-last rootWords (length roots / 4) roots (omega (arith, few)) roots-long)
+      rw (
+        in-order,
+        read-section oneBase 1 (bytesOf base) behind-base (omega arith) base-long,
+        read-section tableBytes t (tableOf (h .entries)) behind-table (omega (arith, s .few)) table-long,
+        read-section (usedIn (written .table)) u blocks behind-blocks (omega (arith, few-used)) blocks-long,
+        read-last rootWords (length roots / 4) roots (omega (arith, few)) roots-long,
+      )
 
   pub image-entries : entriesFor (written .table) ≡ h .entries
   image-entries = entriesOf-tableOf (h .entries) fours small
