@@ -11,6 +11,7 @@ use Rattle.blockheap.proofs.blockheap_survey.Met as survey
 use Rattle.blockheap.proofs.blockheap_load.Met as load
 use Rattle.blockheap.proofs.blockheap_store.Met as store
 use Rattle.blockheap.proofs.blockheap_write_image.Met as write-image
+use Rattle.blockheap.proofs.blockheap_open_image.Met as open-image
 
 pub entry-points : EntryPoints
 entry-points = record {
@@ -41,4 +42,7 @@ entry-points = record {
   write-image-meets = write-image.met;
   write-image-asks-nothing = λ M 𝓤 H A mem run κs a. (tt, refl);
   write-image-says = λ M 𝓤 H A mem run κs a g r. refl;
+  open-image-meets = open-image.met;
+  open-image-asks-nothing = λ M 𝓤 H A mem run κs a. (tt, refl);
+  open-image-says = λ M 𝓤 H A mem run κs a g r. refl;
 }

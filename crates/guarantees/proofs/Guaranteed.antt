@@ -4,9 +4,11 @@ use Rattle.rules.specs.Examples.{examples-hold, examples-number, words-hold}
 use Rattle.rules.specs.Orders.{orders-hold, orders-number}
 use Rattle.rules.specs.PlaneExamples.{plane-examples-hold, plane-examples-number, plane-refusals}
 use Rattle.rules.specs.ImageExamples.{image-examples-hold, image-examples-number}
+use Rattle.rules.specs.FileExamples.{file-examples-hold, file-examples-number, prefixes-cut-short}
 use Rattle.keeping.proofs.Collections.{keeps-exactly, any-stack}
 use Rattle.promises.proofs.Bytes.{on-bytes, as-packed}
 use Rattle.promises.proofs.Images.{image-says-all}
+use Rattle.promises.proofs.RoundTrips.{write-then-open, open-then-write, opens-exactly, one-file}
 use Rattle.promises.proofs.Promised.{promises}
 use Rattle.promises.proofs.Determined.{determined}
 use Rattle.promises.proofs.Whole.{whole}
@@ -32,6 +34,9 @@ guarantees = record {
   plane-refusals = plane-refusals;
   image-examples-hold = image-examples-hold;
   image-examples-number = image-examples-number;
+  file-examples-hold = file-examples-hold;
+  file-examples-number = file-examples-number;
+  prefixes-cut-short = prefixes-cut-short;
   entry-points = entry-points;
   on-bytes = on-bytes;
   as-packed = as-packed;
@@ -40,6 +45,10 @@ guarantees = record {
   determined = determined;
   whole = whole;
   image-says-all = image-says-all;
+  write-then-open = write-then-open;
+  open-then-write = open-then-write;
+  opens-exactly = opens-exactly;
+  one-file = one-file;
   new-objects-aligned = new-objects-aligned;
   aligned-from-init = aligned-from-init;
   keeps-exactly = keeps-exactly;

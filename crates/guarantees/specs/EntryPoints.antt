@@ -22,8 +22,8 @@ use denote.Triple.Clauses.{Ended}
 use denote.Triple.End.{Kepts, Outs}
 use denote.Triple.Entry.{Args, Res}
 use denote.Triple.Spec.{Spec, exits}
-use Rattle.rules.specs.Outcomes.{onlyRefusal, placement, collection, findings, reading, writing}
-use Rattle.rules.specs.Runs.{Init, Allocate, Free, Reallocate, Collect, Survey, Load, Store, WriteImage}
+use Rattle.rules.specs.Outcomes.{onlyRefusal, placement, collection, findings, reading, writing, opening}
+use Rattle.rules.specs.Runs.{Init, Allocate, Free, Reallocate, Collect, Survey, Load, Store, WriteImage, OpenImage}
 use Rattle.rules.specs.Planes.{planes}
 use Rattle.rules.specs.Memory.{memory, result, filling, withBuffer, perform}
 use Rattle.blockheap.proofs.blockheap_init as init
@@ -44,6 +44,8 @@ use Rattle.blockheap.proofs.blockheap_store as store
 use Rattle.blockheap.proofs.blockheap_store.Statement as store-statement
 use Rattle.blockheap.proofs.blockheap_write_image as write-image
 use Rattle.blockheap.proofs.blockheap_write_image.Statement as write-image-statement
+use Rattle.blockheap.proofs.blockheap_open_image as open-image
+use Rattle.blockheap.proofs.blockheap_open_image.Statement as open-image-statement
 
 -- a function's contract, as the toolchain makes it of its `requires` and `ensures`
 abbrev pub Contract : Signature → Type 2
@@ -120,3 +122,9 @@ pub record EntryPoints : Type 2 where
       filling (writing r (now (length .exit))) (memory (now (pool .entry)) (now (table .entry))) (now (image .exit))
       ≡ withBuffer (now (image .entry))
       (perform (planes (t .entry)) (WriteImage (base .entry) (now (roots .entry)) (lengthOf (now (image .entry)))) [] (memory (now (pool .entry)) (now (table .entry)))))
+  pub open-image-meets : {M : Type 1} → open-image-statement.statement M
+  pub open-image-asks-nothing : AsksNothing open-image.signature (λ M. open-image.spec {M = M})
+  pub open-image-says : Says open-image.ended (λ M. open-image.spec {M = M}) (λ κs image t pool table roots base count r.
+      filling (opening r (now (base .exit)) (now (count .exit))) (memory (now (pool .exit)) (now (table .exit))) (now (roots .exit))
+      ≡ withBuffer (now (roots .entry))
+      (perform (planes (t .entry)) (OpenImage (now (image .entry)) (lengthOf (now (roots .entry)))) [] (memory (now (pool .entry)) (now (table .entry)))))

@@ -9,9 +9,11 @@ use Rattle.rules.specs.Examples.{Example, examples}
 use Rattle.rules.specs.Orders.{orders}
 use Rattle.rules.specs.PlaneExamples.{PlaneExample, planeExamples, PlaneRefusals}
 use Rattle.rules.specs.ImageExamples.{ImageExample, imageExamples}
+use Rattle.rules.specs.FileExamples.{FileExample, fileExamples, PrefixesCutShort}
 use Rattle.keeping.specs.Keeping.{KeepsExactly, AnyStack}
 use Rattle.promises.specs.Bytes.{OnBytes, AsPacked}
 use Rattle.promises.specs.Images.{ImageSaysAll}
+use Rattle.promises.specs.Files.{WriteThenOpen, OpenThenWrite, OpensExactly, OneFile}
 use Rattle.promises.specs.Promises.{Promises}
 use Rattle.promises.specs.Determined.{Determined, Whole}
 use Rattle.promises.specs.Alignment.{NewObjectsAligned, AlignedFromInit}
@@ -35,13 +37,17 @@ pub record Guarantees : Type 2 where
   -- Images of heaps come out byte by byte, with what is behind them in the buffer, and where they are refused.
   pub image-examples-hold : map (λ (x : ImageExample). x .is) imageExamples ≡ map (λ (x : ImageExample). x .ought) imageExamples
   pub image-examples-number : length imageExamples ≡ 11
+  -- Files come out byte by byte, with what is behind their roots in the root list, and where they are refused; each beginning of an image is cut short.
+  pub file-examples-hold : map (λ (x : FileExample). x .is) fileExamples ≡ map (λ (x : FileExample). x .ought) fileExamples
+  pub file-examples-number : length fileExamples ≡ 28
+  pub prefixes-cut-short : PrefixesCutShort
   -- The code follows the rules: each function that C calls does to lent memory, for every input, what the rules say.
   pub entry-points : EntryPoints
   -- Of lent memory a refused call leaves every byte, and an accepted one the bytes of the heap that the call leaves; what that means of two planes, and of their spare bits.
   pub on-bytes : OnBytes
   -- Every call answers as it does on a packed table, and leaves the same entries.
   pub as-packed : AsPacked
-  -- A call that is given another t than the heap's is refused by 1 and leaves every byte, and in a list of calls the others are answered as if it were not there: so the
+  -- A call that is given another t than the heap's is refused, by 1 or by the fault of its file, and leaves every byte, and in a list of calls the others are answered as if it were not there: so the
   -- statements over lists of calls at one t hold of lists in which calls are given any t.
   pub other-t-is-refused : OtherTIsRefused
   -- Each call of the rules: by which number it is refused, that it then changes nothing, and what it does otherwise.
@@ -51,7 +57,13 @@ pub record Guarantees : Type 2 where
   pub whole : Whole
   -- An image says exactly what is allocated in the heap, reachable or not: two are the same if and only if t, the base, the roots, the entries and the bytes of used blocks are.
   pub image-says-all : ImageSaysAll
-  -- An object of four blocks or more that is made or gets more blocks starts at a block divisible by four, and from an accepted init on every such object does.
+  -- A heap that is written and opened elsewhere is the same, but for its FREE blocks, which are zero. A file that is opened and written is the same file. A file can be opened exactly if it is the
+  -- image of a heap that is not refused, and no two files open alike.
+  pub write-then-open : WriteThenOpen
+  pub open-then-write : OpenThenWrite
+  pub opens-exactly : OpensExactly
+  pub one-file : OneFile
+  -- An object of four blocks or more that is made or gets more blocks starts at a block divisible by four, and from an accepted init on every such object does, if those of the files that are opened do.
   pub new-objects-aligned : NewObjectsAligned
   pub aligned-from-init : AlignedFromInit
   -- A collection keeps exactly the reachable objects, and the mark stack has no influence on it.
