@@ -6,11 +6,10 @@ use mathlib.Core.Bool.{Bool, true, false, not}
 use mathlib.Core.List.{List, [], _∷_, List·Memᴰ, List·Memᴰ·head, List·Memᴰ·tail}
 use mathlib.Core.Option.{Option, some, none}
 use Prim.Native.Nat.{ℕ, _≤_, _<_, _/_}
-use native.Mathlib.Decide.{decLt}
 use native.Mathlib.Omega.{arith}
-use lib.Dec.{T, ltb, ltb→lt}
+use lib.Dec.{T, ltb}
 use lib.IntN.{ℤ, pos}
-use lib.ListN.{length, getD, List·getD-eq-default}
+use lib.ListN.{length}
 use Rattle.rules.specs.Tests.{pick, both, isNone, orElse}
 use Rattle.rules.specs.Words.{wordsOf}
 use Rattle.rules.specs.Pointers.{goodBase}
@@ -22,7 +21,7 @@ use Rattle.rules.specs.Refusals.{wholeWords}
 use Rattle.rules.specs.Runs.{Call, Collect, fileIn, Turn, EveryFile}
 use Rattle.rules.specs.Runs as runs
 use Rattle.rules.specs.Memory.{Memory, heapIn, AcceptedIn, perform, turnIn, afterIn, answersIn, filledIn}
-use Rattle.rules.proofs.Below.{allBelow, below}
+use Rattle.rules.proofs.Below.{allBytes, bytes-below}
 use Rattle.rules.proofs.Refusals.{true-not-false}
 use Rattle.rules.proofs.Memory.{passes-in}
 use Rattle.plain.specs.Objects.{Object, Plain, end, Rising, done, next}
@@ -194,15 +193,11 @@ module _ (base : ℕ) (os : List Object) (roots : List ℕ) (s : Object → Bool
 -- computed: every element of the file that a call reads is a byte
 abbrev pub bytesIn : Option (List ℕ) → Bool
 bytesIn none = true
-bytesIn (some image) = allBelow (length image) (λ (i : ℕ). ltb (getD image i 0) 256)
+bytesIn (some image) = allBytes image
 
 bytes-in : (x : Option (List ℕ)) → T (bytesIn x) → (image : List ℕ) → x ≡ some image → AllBytes image
 bytes-in none t image e = absurd (true-not-false (sym (ap isNone e)) refl)
-bytes-in (some bs) t image e = subst AllBytes (ap (λ (x : Option (List ℕ)). orElse x []) e) (λ i. go i (decLt i (length bs)))
-  where
-    go : (i : ℕ) → Dec (i < length bs) → getD bs i 0 < 256
-    go i (yes l) = ltb→lt (getD bs i 0) 256 (below (length bs) (λ (k : ℕ). ltb (getD bs k 0) 256) t i l)
-    go i (no l) = let z : getD bs i 0 ≡ 0 = List·getD-eq-default bs 0 (omega arith) in omega arith
+bytes-in (some bs) t image e = subst AllBytes (ap (λ (x : Option (List ℕ)). orElse x []) e) (bytes-below bs t)
 
 -- so are all files that the calls read
 pub files-of : (ts : List Turn) → T (allOf (λ (t : Turn). bytesIn (fileIn (t .call))) ts) → EveryFile AllBytes ts

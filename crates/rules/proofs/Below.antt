@@ -3,10 +3,15 @@
 use mathlib.Core.Path.{_≡_, refl, sym, subst}
 use mathlib.Core.Logic.{⊎-elim}
 use mathlib.Core.Bool.{Bool, true, false, not}
+use mathlib.Core.List.{List}
 use Prim.Native.Nat.{ℕ, zero, suc, _<_}
+use native.Mathlib.Decide.{decLt}
+use native.Mathlib.Omega.{arith}
 use native.Mathlib.Nat.{le-of-suc-le-suc, not-suc-le-zero, eq-or-lt-of-le}
-use lib.Dec.{T, eqb, eqb→eq}
+use lib.Dec.{T, eqb, eqb→eq, ltb, ltb→lt}
+use lib.ListN.{length, getD, List·getD-eq-default}
 use Rattle.rules.specs.Tests.{both}
+use Rattle.rules.specs.Meaning.{AllBytes}
 
 both-left : (a b : Bool) → T (both a b) → T a
 both-left true b t = tt
@@ -46,3 +51,15 @@ alike-same false false t = refl
 
 pub alike-below : (n : ℕ) (f g : ℕ → Bool) → T (allBelow n (λ (k : ℕ). alike (f k) (g k))) → (k : ℕ) → k < n → f k ≡ g k
 alike-below n f g all k h = alike-same (f k) (g k) (below n (λ (k : ℕ). alike (f k) (g k)) all k h)
+
+-- ---- that all elements are bytes
+
+abbrev pub allBytes : List ℕ → Bool
+allBytes bs = allBelow (length bs) (λ (i : ℕ). ltb (getD bs i 0) 256)
+
+pub bytes-below : (bs : List ℕ) → T (allBytes bs) → AllBytes bs
+bytes-below bs t i = go (decLt i (length bs))
+  where
+    go : Dec (i < length bs) → getD bs i 0 < 256
+    go (yes l) = ltb→lt (getD bs i 0) 256 (below (length bs) (λ (k : ℕ). ltb (getD bs k 0) 256) t i l)
+    go (no l) = let z : getD bs i 0 ≡ 0 = List·getD-eq-default bs 0 (omega arith) in omega arith
