@@ -21,3 +21,4 @@ pub mod Observed
 pub mod Alignment
 pub mod Large
 pub mod Samples
+pub mod Elsewhere

@@ -19,7 +19,7 @@ use Rattle.rules.specs.Pointers.{targetOf, leadsTo}
 use Rattle.rules.specs.Meaning.{Points, Leads, Longest, ShapeInBytes, Passed, Accepted}
 use Rattle.rules.specs.Outcomes.{Heap, Answer, Outcome, placement, collection, findings, onlyRefusal, placedAt, collectedTo, surveyed, loaded}
 use Rattle.rules.specs.Reach.{Reachable}
-use Rattle.rules.specs.Calls.{blocksFor, init, allocate, free, reallocate, collect, survey, load, store, writeImage}
+use Rattle.rules.specs.Calls.{blocksFor, init, allocate, free, reallocate, collect, survey, load, store, writeImage, openImage}
 use Rattle.rules.specs.Runs.{Call, Init, Allocate, Free, Reallocate, Collect, Survey, Load, Store, WriteImage, step}
 use Rattle.rules.specs.Forms.{Form, Faithful}
 use Rattle.rules.specs.Planes.{entriesIn, spareFree, planes, heapAt}
@@ -30,7 +30,7 @@ use Rattle.rules.proofs.Tables.{entry-inside, well-says, run-shorter}
 use Rattle.rules.proofs.Pointers.{points-one, leads-one}
 use Rattle.rules.proofs.Twice.{twin-load}
 use Rattle.keeping.proofs.Owners.{reachable-head}
-use Rattle.promises.specs.Conditions.{when, First, RoomAfter, NoFit, ofInit, ofAllocate, ofFree, ofReallocate, ofCollect, ofSurvey, ofWord, ofWriteImage}
+use Rattle.promises.specs.Conditions.{when, First, RoomAfter, NoFit, ofInit, ofAllocate, ofFree, ofReallocate, ofCollect, ofSurvey, ofWord, ofWriteImage, ofOpenImage}
 use Rattle.promises.specs.Promises.{Object, blocksOf, Same, Counts, Surveyed}
 use Rattle.promises.specs.Determined.{partsOf}
 use Rattle.promises.proofs.Promised.{promises}
@@ -68,6 +68,9 @@ module _ (base : ℕ) (h : Heap) where
 
   pub image-number : (roots : List ℕ) (room n : ℕ) → First (ofWriteImage base h roots room) n → writeImage base h roots room .answer .refusal ≡ n
   image-number roots room n = first-one (ofWriteImage base h roots room) _ n (promises .image-refusal base h roots room)
+
+  pub open-number : (image : List ℕ) (room n : ℕ) → First (ofOpenImage h image room) n → openImage h image room .answer .refusal ≡ n
+  open-number image room n = first-one (ofOpenImage h image room) _ n (promises .open-refusal h image room)
 
 -- a refusal tells nothing but its number: two refused calls with one number answer alike, and leave the heap and a buffer alike
 pub refusals-alike : (c c' : Call) (stack stack' : List ℕ) (h : Heap) → ¬ Accepted (step c stack h) → step c stack h .answer .refusal ≡ step c' stack' h .answer .refusal
