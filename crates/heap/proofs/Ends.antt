@@ -25,7 +25,7 @@ use Rattle.rules.proofs.Tables.{first-fits, extent-of}
 use Rattle.checks.proofs.FirstTests.{sized-by}
 use Rattle.rules.proofs.Refusals.{refusal-is, true-not-false, both-false, both-left, both-right, not-false, not-true, numbered, first-yes, first-last, first-more, first-none, first-rest, accepts, passed, asked, named-object, after-names}
 use Rattle.rules.proofs.Calls.{blocks-some, allocate-change, free-change}
-use Rattle.rules.proofs.Memory.{Ended, accepted, refused as refusedBy, step-ended, tests-own, sound-of, refused-first-in, left-in, acted-in}
+use Rattle.rules.proofs.Memory.{Ended, accepted, refused as refusedBy, step-ended, fault-refuses, tests-own, sound-of, refused-first-in, left-in, acted-in}
 use Rattle.checks.specs.Refusal.{refusalBy}
 use Rattle.heap.specs.Answers.{status, placeOf, placed, placedIn, unplacedBy, freed, surveyed, loaded}
 use Rattle.heap.specs.declared.Placed.{Placed}
@@ -77,7 +77,7 @@ module _ (t base : ℕ) (pool table : List ℕ) where
   -- the tests of the heap do, and not the form
   refused-own : (c : Call) (r : ℕ) → Sound (planes t) m → step c [] h .answer .refusal ≡ r → 0 < r
       → result (onlyRefusal r) m (stackFor c []) ≡ perform (planes t) c [] m
-  refused-own c r s own p = refused c own (sym (tests-own (planes t) c m r (s .fits) (rw (s .clean) (both-false (readsTable c))))) (λ z. omega arith)
+  refused-own c r s own p = refused c own (sym (tests-own (planes t) c m r (λ ne. sym own ∙ fault-refuses c [] h ne) (s .fits) (rw (s .clean) (both-false (readsTable c))))) (λ z. omega arith)
 
   -- it acts, and leaves a table
   acts : (c : Call) (pool′ table′ : List ℕ) (a : Answer) → Sound (planes t) m → AllBytes table′ → IsTable t table′ → a .refusal ≡ 0
@@ -102,7 +102,7 @@ module _ (t base : ℕ) (pool table : List ℕ) where
 
   module _ {g : Bool} (test : g ≡ both (goodShape base h) (planes t .fits table)) where
     pub init-refused : not g ≡ true → status 1 pool table ≡ perform (planes t) (Init base) [] m
-    unfolding step init
+    unfolding step init firstOf
     init-refused n =
         refused (Init base) (refusal-is (firstOf (initTests base h)) h [] _ (λ _. refl))
         (sym (init-number (goodShape base h) (planes t .fits table) (sym test ∙ not-true _ n))) (λ z. omega arith)
