@@ -3,8 +3,8 @@
 ghost use mathlib.Core.Path.{_≡_};
 ghost use mathlib.Core.List.{[]};
 ghost use lib.ListN.{length as lengthOf};
-ghost use Rattle.rules.specs.Outcomes.{onlyRefusal, placement, collection, findings, reading, writing};
-ghost use Rattle.rules.specs.Runs.{Init, Allocate, Free, Reallocate, Collect, Survey, Load, Store, WriteImage};
+ghost use Rattle.rules.specs.Outcomes.{onlyRefusal, placement, collection, findings, reading, writing, opening};
+ghost use Rattle.rules.specs.Runs.{Init, Allocate, Free, Reallocate, Collect, Survey, Load, Store, WriteImage, OpenImage};
 ghost use Rattle.rules.specs.Planes.{planes};
 ghost use Rattle.rules.specs.Memory.{memory, result, filling, withBuffer, perform};
 use numbers::Address;
@@ -220,4 +220,24 @@ pub extern "C" fn blockheap_write_image(
     );
     *length = w.length;
     w.refusal
+}
+
+#[no_mangle]
+pub extern "C" fn blockheap_open_image(
+    image: &[u8],
+    t: u64,
+    pool: &mut [u8],
+    table: &mut [u8],
+    roots: &mut [u8],
+    base: &mut u32,
+    count: &mut u32,
+) -> u32
+    ensures { λ r. ⌜ filling (opening r (now (base .exit)) (now (count .exit))) (memory (now (pool .exit)) (now (table .exit))) (now (roots .exit))
+        ≡ withBuffer (now (roots .entry))
+        (perform (planes t) (OpenImage (now (image .entry)) (lengthOf (now (roots .entry)))) [] (memory (now (pool .entry)) (now (table .entry)))) ⌝ }
+{
+    let o = opener::open_image(image, t as usize, pool, table, roots);
+    *base = o.base;
+    *count = o.roots;
+    o.refusal
 }
