@@ -39,7 +39,7 @@ pub record Guarantees : Type 2 where
   pub image-examples-number : length imageExamples ≡ 11
   -- Files come out byte by byte, with what is behind their roots in the root list, and where they are refused; each beginning of an image is cut short.
   pub file-examples-hold : map (λ (x : FileExample). x .is) fileExamples ≡ map (λ (x : FileExample). x .ought) fileExamples
-  pub file-examples-number : length fileExamples ≡ 28
+  pub file-examples-number : length fileExamples ≡ 35
   pub prefixes-cut-short : PrefixesCutShort
   -- The code follows the rules: each function that C calls does to lent memory, for every input, what the rules say.
   pub entry-points : EntryPoints

@@ -87,8 +87,13 @@ fileExamples =
     ∷ opens (fourWith (sevens 16388)) oneImage 4096 (zeros 64) (1 ∷ 0 ∷ []) (0 ∷ 16 ∷ 0 ∷ 0 ∷ []) (sevens 16384) 1
     -- no object and no root; an object of blocks 1 and 2, with a FREE block before it and one behind it; t odd
     ∷ opens four (file 0 (0 ∷ 0 ∷ 0 ∷ 0 ∷ [])) 4096 (zeros 64) (0 ∷ 0 ∷ []) [] (sevens 12) 0
-    ∷ opens four (file 36 ((2 ∷ 0 ∷ []) ++ fives 32 ++ (2 ∷ 0 ∷ []) ++ fives 8)) 4096 (zeros 16 ++ fives 32 ++ zeros 16) (2 ∷ 4 ∷ []) (fives 8) (sevens 4) 2
+    ∷ opens four (file 36 ((2 ∷ 0 ∷ []) ++ fives 16 ++ sevens 16 ++ (2 ∷ 0 ∷ []) ++ fives 8)) 4096 (zeros 16 ++ fives 16 ++ sevens 16 ++ zeros 16) (2 ∷ 4 ∷ []) (fives 8) (sevens 4) 2
     ∷ opens twelve ((1 ∷ 0 ∷ 16 ∷ 0 ∷ 0 ∷ 32 ∷ 3 ∷ 0 ∷ 101 ∷ 100 ∷ 165 ∷ 11 ∷ 0 ∷ []) ++ fives 176 ++ (0 ∷ 0 ∷ [])) 536870928 (fives 64 ++ zeros 16 ++ fives 112) (171 ∷ 3 ∷ 68 ∷ 12 ∷ []) [] (sevens 4) 0
+    -- a count of one byte, whatever that is
+    ∷ refuses four (2 ∷ []) 14
+    ∷ refuses four (1 ∷ 0 ∷ 0 ∷ 16 ∷ 0 ∷ 0 ∷ 0 ∷ []) 14
+    ∷ refuses four (file 1 (2 ∷ [])) 14
+    ∷ refuses four (file 0 (0 ∷ 0 ∷ 0 ∷ [])) 14
     -- a byte is left over
     ∷ refuses four (oneImage ++ 0 ∷ []) 16
     -- two bases, of which there are one, a half and none; no byte of a table, or 1,025
@@ -105,12 +110,15 @@ fileExamples =
     -- 4,097 roots, of which there is none; 4,096, of which there is none
     ∷ refuses four (file 0 (0 ∷ 0 ∷ 1 ∷ 16 ∷ [])) 3
     ∷ refuses four (file 0 (0 ∷ 0 ∷ 0 ∷ 16 ∷ [])) 14
-    -- the base is not a multiple of 16, is 0, or leaves no room for the blocks; t is another; the pool is shorter; the root list is not whole words
+    -- the base is not a multiple of 16, is 0, or leaves no room for the blocks; t is another; the pool is shorter or longer, or the table is; the root list is not whole words
     ∷ refuses four (fileAt (8 ∷ 16 ∷ 0 ∷ 0 ∷ []) 0 (0 ∷ 0 ∷ 0 ∷ 0 ∷ [])) 1
     ∷ refuses four (fileAt (0 ∷ 0 ∷ 0 ∷ 0 ∷ []) 0 (0 ∷ 0 ∷ 0 ∷ 0 ∷ [])) 1
     ∷ refuses four (fileAt (208 ∷ 255 ∷ 255 ∷ 255 ∷ []) 0 (0 ∷ 0 ∷ 0 ∷ 0 ∷ [])) 1
     ∷ refuses eight oneImage 1
     ∷ refuses (record { t = 1; memory = memory (sevens 63) (255 ∷ 254 ∷ []); roots = sevens 12 }) oneImage 1
+    ∷ refuses (record { t = 1; memory = memory (sevens 128) (255 ∷ 254 ∷ []); roots = sevens 12 }) oneImage 1
+    ∷ refuses (record { t = 1; memory = memory (sevens 64) (255 ∷ []); roots = sevens 12 }) oneImage 1
+    ∷ refuses (record { t = 1; memory = memory (sevens 64) (255 ∷ 254 ∷ 0 ∷ []); roots = sevens 12 }) oneImage 1
     ∷ refuses (fourWith (sevens 5)) oneImage 1
     -- a fault of the file comes before 1, which comes before 2, which comes before a short root list
     ∷ refuses (fourWith (sevens 5)) (oneImage ++ 0 ∷ []) 16
@@ -120,7 +128,7 @@ fileExamples =
     ∷ []
 
 -- there are so many
-pub file-examples-number : length fileExamples ≡ 28
+pub file-examples-number : length fileExamples ≡ 35
 unfolding fileExamples
 file-examples-number = refl
 
