@@ -6,7 +6,7 @@ use mathlib.Core.List.{List, [], _∷_, _++_}
 use Prim.Native.Nat.{ℕ, _+_}
 use native.Mathlib.Omega.{arith}
 use lib.Dec.{T}
-use lib.ListN.{length, getD, take, replicate}
+use lib.ListN.{length, getD, take, drop, replicate}
 use Rattle.rules.specs.Tests.{count, tabulate}
 use Rattle.rules.specs.Bits.{bitOf, bitAt, byteOf}
 use Rattle.rules.specs.Words.{number, bytesOf, twoBytesOf, firstTwo, wordAt, withWord}
@@ -17,13 +17,14 @@ use Rattle.rules.specs.Meaning.{AllBytes}
 use Rattle.rules.specs.Outcomes.{Answer, openedAt, writtenTo, unlessRefused}
 use Rattle.rules.specs.Refusals.{firstOf, goodShape, wholeWords}
 use Rattle.rules.specs.Images.{section, sections, blockBytes, usedFrom, imageOf}
-use Rattle.rules.specs.Files.{sectionIn, sectionTests, fileOf, fileTests, faultOf}
+use Rattle.rules.specs.Files.{sectionIn, sectionTests, fileOf, fileTests, faultOf, rootsOf}
 use Rattle.rules.specs.Calls.{writeImage, openImage}
 use Rattle.rules.specs.Planes.{planeBytes, entryIn, entriesIn, spare, spareFree, plane, planesOf, planes}
 use Rattle.rules.specs.Runs.{WriteImage, OpenImage, step}
 use Rattle.rules.specs.Memory.{Memory, memory, Result, filling, withBuffer, AcceptedIn, orRefused, perform}
 use Rattle.rules.proofs.Below.{allBytes, bytes-below}
 use Rattle.promises.specs.Files.{BroughtOver, IsImage}
+use Rattle.promises.proofs.Bytes.{on-bytes}
 use Rattle.promises.specs.Samples.{sampleBase, sampleTable, samplePool, sampleMemory, sampleRoots}
 use Rattle.promises.proofs.RoundTrips.{write-then-open, open-then-write, opens-exactly, one-file}
 
@@ -33,6 +34,9 @@ wrote = perform (planes 3) (WriteImage sampleBase sampleRoots 131) [] sampleMemo
 
 abbrev image : List ℕ
 image = wrote .filled
+
+abbrev longer : List ℕ
+longer = image ++ 0 ∷ []
 
 -- memory of those lengths in which every block is MARK and every spare bit is set, and a list with room for three roots
 abbrev ones : Memory
@@ -52,12 +56,12 @@ record Computed : Type 0 where
   held : entryAt (entriesIn 3 sampleTable) 4 ≡ 2
   word : number (getD samplePool 76 0) (getD samplePool 77 0) (getD samplePool 78 0) (getD samplePool 79 0) ≡ 305419896
   -- with one byte more it is refused
-  longer : perform (planes 3) (OpenImage (image ++ 0 ∷ []) 12) [] ones .answer .refusal ≡ 16
-  longer-bytes : T (allBytes (image ++ 0 ∷ []))
+  longer-refused : perform (planes 3) (OpenImage longer 12) [] ones .answer .refusal ≡ 16
+  longer-bytes : T (allBytes longer)
 
 computed : Computed
 unfolding count tabulate bitOf bitAt byteOf number bytesOf twoBytesOf firstTwo wordAt withWord entryOf entriesOf tableOf planeBytes entryIn entriesIn spare spareFree plane planesOf mayFollow wellAfter wellFormed used addressOf goodBase unlessRefused firstOf goodShape wholeWords section sections blockBytes usedFrom imageOf sectionIn sectionTests fileOf fileTests faultOf writeImage openImage step orRefused perform
-computed = record { writes = refl; long = refl; pool-long = refl; roots-long = refl; bytes = tt; table-bytes = tt; free = refl; held = refl; word = refl; longer = refl; longer-bytes = tt }
+computed = record { writes = refl; long = refl; pool-long = refl; roots-long = refl; bytes = tt; table-bytes = tt; free = refl; held = refl; word = refl; longer-refused = refl; longer-bytes = tt }
 
 -- ---- written, and opened elsewhere
 
@@ -68,6 +72,12 @@ pub brought : BroughtOver 3 sampleBase sampleRoots sampleMemory list (withBuffer
 brought =
     write-then-open 3 sampleBase 131 sampleRoots list sampleMemory ones (bytes-below sampleTable (computed .table-bytes)) (sym (computed .pool-long)) refl refl (omega (arith, computed .roots-long))
     (computed .writes)
+
+-- a list that has just room for the root will do
+pub brought-exactly : BroughtOver 3 sampleBase sampleRoots sampleMemory (replicate 4 7) (withBuffer (replicate 4 7) (perform (planes 3) (OpenImage image 4) [] ones))
+brought-exactly =
+    write-then-open 3 sampleBase 131 sampleRoots (replicate 4 7) sampleMemory ones (bytes-below sampleTable (computed .table-bytes)) (sym (computed .pool-long)) refl refl
+    (omega (arith, computed .roots-long)) (computed .writes)
 
 -- it answers the base and one root; behind this the list is as it was
 pub brought-answer : opened .answer ≡ openedAt sampleBase 1
@@ -99,25 +109,50 @@ written-again =
 
 -- ---- what can be opened
 
--- the image, since it is one
-pub opens : AcceptedIn opened
+-- the image, since it is one, with a list that has just room for its root
+pub opens : AcceptedIn (perform (planes 3) (OpenImage image 4) [] ones)
 unfolding planeBytes
 opens =
-    opens-exactly 3 (length list) image ones (bytes-below image (computed .bytes)) refl refl refl .1
-    (record {
-      base = sampleBase;
-      roots = sampleRoots;
-      memory = sampleMemory;
-      accepted = rw (computed .long) (computed .writes);
-      bytes = rw (computed .long) refl;
-      enough = omega (arith, computed .roots-long);
-    })
+    opens-exactly 3 4 image ones (bytes-below image (computed .bytes)) .1 (
+      record {
+        base = sampleBase;
+        roots = sampleRoots;
+        memory = sampleMemory;
+        accepted = rw (computed .long) (computed .writes);
+        bytes = rw (computed .long) refl;
+        enough = omega (arith, computed .roots-long);
+      },
+      record { pool = refl; table = refl; words = refl },
+    )
 
 -- no heap has the image with one byte more
-pub no-image : IsImage 3 12 (image ++ 0 ∷ []) → ⊥
+pub no-image : IsImage 3 12 longer → ⊥
 unfolding planeBytes
-no-image x = let z = opens-exactly 3 12 (image ++ 0 ∷ []) ones (bytes-below (image ++ 0 ∷ []) (computed .longer-bytes)) refl refl refl .1 x in omega (arith, z, computed .longer)
+no-image x =
+    let z = opens-exactly 3 12 longer ones (bytes-below longer (computed .longer-bytes)) .1 (x, record { pool = refl; table = refl; words = refl }) in
+    omega (arith, z, computed .longer-refused)
+
+-- where the image can be opened there are 192 bytes of a pool
+pub pool-lent : (m : Memory) → AcceptedIn (perform (planes 3) (OpenImage image 4) [] m) → length (m .pool) ≡ 192
+pool-lent m z = opens-exactly 3 4 image m (bytes-below image (computed .bytes)) .0 z .1 .pool
 
 -- a file that opens as the image does is the image
 pub same-file : (file : List ℕ) → AllBytes file → opened ≡ perform (planes 3) (OpenImage file 4) [] ones → image ≡ file
 same-file file bytes same = one-file 3 3 (length list) 4 image file ones ones (bytes-below image (computed .bytes)) bytes accepted same
+
+-- ---- in bytes
+
+-- what was lent does not matter: zeros do as well
+pub opened-in-zeros : perform (planes 3) (OpenImage image (length list)) [] (memory (replicate 192 0) (replicate 4 0)) ≡ opened
+opened-in-zeros = on-bytes .open-anywhere 3 image (length list) ones (memory (replicate 192 0) (replicate 4 0)) refl refl accepted
+
+-- the list begins with the file's roots, and from place 4 on it is as it was
+pub list-front : withBuffer list opened .filled ≡ rootsOf (fileOf image) ++ drop (length (rootsOf (fileOf image))) list
+list-front = on-bytes .open-front (planes 3) image list ones accepted
+
+pub list-behind : (length (withBuffer list opened .filled) ≡ 12) × (getD (withBuffer list opened .filled) 4 0 ≡ 7)
+list-behind = let b = on-bytes .open-behind (planes 3) image list ones in (b .0, b .1 4 (rw (ap (λ (a : Answer). a .roots) brought-answer) (omega arith)))
+
+-- all of it is, where the file is refused
+pub list-left : withBuffer list (perform (planes 3) (OpenImage longer (length list)) [] ones) .filled ≡ list
+list-left = on-bytes .open-refused (planes 3) longer list ones (λ z. omega (arith, z, computed .longer-refused))

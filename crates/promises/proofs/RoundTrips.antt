@@ -26,10 +26,10 @@ use Rattle.rules.proofs.Memory.{perform-accepted, passes-in, accepted-sound, fo
 use Rattle.rules.proofs.Planes.{length-entriesIn, planes-faithful}
 use Rattle.rules.proofs.Images.{block-at, length-used}
 use Rattle.rules.proofs.Files.{length-pool, pool-used, pool-zero}
-use Rattle.rules.proofs.Faults.{length-body}
+use Rattle.rules.proofs.Faults.{length-body, no-fault}
 use Rattle.rules.proofs.Opening.{Opens, open-passed, open-passes, opened-passed}
 use Rattle.rules.proofs.RoundTrips.{file-image, written, image-file, image-entries, image-base, image-faultless}
-use Rattle.promises.specs.Files.{WriteThenOpen, OpenThenWrite, IsImage, OpensExactly, OneFile}
+use Rattle.promises.specs.Files.{WriteThenOpen, OpenThenWrite, IsImage, Lends, OpensExactly, OneFile}
 use Rattle.promises.proofs.Checked.{number, acts, no-refusal, image-checked, open-checked}
 use Rattle.promises.proofs.Imaging.{passed, filled-is}
 use Rattle.promises.proofs.Bytes.{on-bytes, pool-of}
@@ -230,16 +230,26 @@ pub open-then-write : OpenThenWrite
 open-then-write t room image list m bytes accepted long =
     rw (roots-front t (length list) image m bytes accepted list, base-answered t (length list) image m bytes accepted) (writes t (length list) image m bytes accepted room long)
 
+-- what was lent for it has the lengths that t asks for
+lends : (t room : ℕ) (image : List ℕ) (m : Memory) → AllBytes image → AcceptedIn (perform (planes t) (OpenImage image room) [] m) → Lends t room m
+lends t room image m bytes accepted =
+    let o = opening t room image m bytes accepted in
+    record {
+      pool = pool-of t (OpenImage image room) [] m (no-fault image (o .faultless)) (λ e. omega (arith, e, accepted));
+      table = eqb-true _ _ (passes-in (planes t) (OpenImage image room) [] m accepted .fits);
+      words = o .words;
+    }
+
 pub opens-exactly : OpensExactly
-opens-exactly t room image m bytes pools tables words = (is-image t room image m bytes, opens-again)
+opens-exactly t room image m bytes = (λ accepted. (is-image t room image m bytes accepted, lends t room image m bytes accepted), λ given. opens-again (given .0) (given .1))
   where
-    opens-again : IsImage t room image → AcceptedIn (perform (planes t) (OpenImage image room) [] m)
-    opens-again x =
+    opens-again : IsImage t room image → Lends t room m → AcceptedIn (perform (planes t) (OpenImage image room) [] m)
+    opens-again x lent =
         let size = pool-of t (WriteImage (x .base) (x .roots) (length image)) [] (x .memory) refl (λ e. omega (arith, e, x .accepted)) in
         let fits = eqb-true _ _ (passes-in (planes t) (WriteImage (x .base) (x .roots) (length image)) [] (x .memory) (x .accepted) .fits) in
         let e = sym (filled-image t (x .base) (length image) (x .roots) (x .memory) (x .accepted)) ∙ x .bytes in
         subst (λ (file : List ℕ). AcceptedIn (perform (planes t) (OpenImage file room) [] m)) e
-        (ap (λ (r : Result). r .answer .refusal) (opened-there t (x .base) (length image) (x .roots) (x .memory) (x .accepted) m (pools ∙ sym size) (tables ∙ sym fits) room words (x .enough)))
+        (ap (λ (r : Result). r .answer .refusal) (opened-there t (x .base) (length image) (x .roots) (x .memory) (x .accepted) m (lent .pool ∙ sym size) (lent .table ∙ sym fits) room (lent .words) (x .enough)))
 
 -- the memory, base and roots of a result, written
 abbrev written-from : ℕ → ℕ → Result → Result

@@ -53,11 +53,17 @@ pub record IsImage (t room : ℕ) (image : List ℕ) : Type 0 where
   pub bytes : perform (planes t) (WriteImage base roots (length image)) [] memory .filled ≡ image
   pub enough : length roots ≤ room
 
--- A file can be opened, in memory of the lengths that t asks for and with a root list of whole words, exactly if it is an image.
+-- what is lent has the lengths that t asks for, and the root list is whole words
+pub record Lends (t room : ℕ) (m : Memory) : Type 0 where
+  pub pool : length (m .pool) ≡ 64 * t
+  pub table : length (m .table) ≡ 2 * planeBytes t
+  pub words : room % 4 ≡ 0
+
+-- A file can be opened exactly if it is an image and such is lent.
 abbrev pub OpensExactly : Type 0
 OpensExactly =
-    (t room : ℕ) (image : List ℕ) (m : Memory) → AllBytes image → length (m .pool) ≡ 64 * t → length (m .table) ≡ 2 * planeBytes t → room % 4 ≡ 0
-    → AcceptedIn (perform (planes t) (OpenImage image room) [] m) ↔ IsImage t room image
+    (t room : ℕ) (image : List ℕ) (m : Memory) → AllBytes image
+    → AcceptedIn (perform (planes t) (OpenImage image room) [] m) ↔ (IsImage t room image × Lends t room m)
 
 -- No two files open alike.
 abbrev pub OneFile : Type 0
