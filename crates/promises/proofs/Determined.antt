@@ -273,7 +273,7 @@ pub opened-one : (image : List ℕ) (h : Heap) (r r' : Outcome) → Opened image
 opened-one image h r r' a a' = record {
   base = a .base ∙ sym (a' .base);
   roots = a .roots ∙ sym (a' .roots);
-  heap = record { entries = λ i. ap (λ (es : List ℕ). entryAt es i) (a .entries ∙ sym (a' .entries)); bytes = bytes };
+  left = record { entries = λ i. ap (λ (es : List ℕ). entryAt es i) (a .entries ∙ sym (a' .entries)); bytes = bytes };
   filled = ext-getD 0 (r .filled) (r' .filled) (a .long ∙ sym (a' .long)) (λ i l. let m : i < 4 * rootCount image = omega (arith, l, a .long) in a .root-bytes i m ∙ sym (a' .root-bytes i m));
 }
   where

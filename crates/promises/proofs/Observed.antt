@@ -17,10 +17,10 @@ use Rattle.rules.specs.Entries.{FREE}
 use Rattle.rules.specs.Tables.{entryAt, used, objects}
 use Rattle.rules.specs.Pointers.{targetOf, leadsTo}
 use Rattle.rules.specs.Meaning.{Points, Leads, Longest, ShapeInBytes, Passed, Accepted}
-use Rattle.rules.specs.Outcomes.{Heap, Answer, Outcome, placement, collection, findings, onlyRefusal, placedAt, collectedTo, surveyed, loaded}
+use Rattle.rules.specs.Outcomes.{Heap, Answer, Outcome, placement, collection, findings, onlyRefusal, placedAt, collectedTo, surveyed, loaded, opening, openedAt}
 use Rattle.rules.specs.Reach.{Reachable}
 use Rattle.rules.specs.Calls.{blocksFor, init, allocate, free, reallocate, collect, survey, load, store, writeImage, openImage}
-use Rattle.rules.specs.Runs.{Call, Init, Allocate, Free, Reallocate, Collect, Survey, Load, Store, WriteImage, step}
+use Rattle.rules.specs.Runs.{Call, Init, Allocate, Free, Reallocate, Collect, Survey, Load, Store, WriteImage, OpenImage, step}
 use Rattle.rules.specs.Forms.{Form, Faithful}
 use Rattle.rules.specs.Planes.{entriesIn, spareFree, planes, heapAt}
 use Rattle.rules.specs.Memory.{Memory, memory, heapIn, lengthsFit, Result, AcceptedIn, readsTable, faultIn, perform}
@@ -30,7 +30,7 @@ use Rattle.rules.proofs.Tables.{entry-inside, well-says, run-shorter}
 use Rattle.rules.proofs.Pointers.{points-one, leads-one}
 use Rattle.rules.proofs.Twice.{twin-load}
 use Rattle.keeping.proofs.Owners.{reachable-head}
-use Rattle.promises.specs.Conditions.{when, First, RoomAfter, NoFit, ofInit, ofAllocate, ofFree, ofReallocate, ofCollect, ofSurvey, ofWord, ofWriteImage, ofOpenImage}
+use Rattle.promises.specs.Conditions.{when, First, RoomAfter, NoFit, ofInit, ofAllocate, ofFree, ofReallocate, ofCollect, ofSurvey, ofWord, ofWriteImage, baseIn, rootCount, ofOpenImage}
 use Rattle.promises.specs.Promises.{Object, blocksOf, Same, Counts, Surveyed}
 use Rattle.promises.specs.Determined.{partsOf}
 use Rattle.promises.proofs.Promised.{promises}
@@ -441,6 +441,15 @@ module _ (base : ℕ) (h : Heap) where
   pub store-answer : (k i w : ℕ) → Accepted (store base h k i w) → store base h k i w .answer ≡ onlyRefusal 0
   unfolding step partsOf
   store-answer k i w accepted = whole .only-parts (Store base k i w) [] h ∙ ap onlyRefusal accepted
+
+-- an opening answers the base and the number of roots, and nothing else
+pub open-answer : (h : Heap) (image : List ℕ) (room : ℕ) → Accepted (openImage h image room) → openImage h image room .answer ≡ openedAt (baseIn image) (rootCount image)
+unfolding step partsOf
+open-answer h image room accepted =
+    let o = promises .opened h image room accepted in
+    let a : Answer = openImage h image room .answer in
+    let e : a ≡ opening (a .refusal) (a .base) (a .roots) = whole .only-parts (OpenImage image room) [] h in
+    e ∙ rw (accepted, o .base, o .roots)
 
 -- ---- images
 

@@ -38,7 +38,7 @@ pub record SameFindings (r r' : Outcome) : Type 0 where
 pub record SameOpening (r r' : Outcome) : Type 0 where
   pub base : r .answer .base ≡ r' .answer .base
   pub roots : r .answer .roots ≡ r' .answer .roots
-  pub heap : SameHeap (r .heap) (r' .heap)
+  pub left : SameHeap (r .heap) (r' .heap)
   pub filled : r .filled ≡ r' .filled
 
 pub record Determined : Type 1 where
