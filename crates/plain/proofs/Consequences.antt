@@ -18,7 +18,7 @@ use Rattle.rules.specs.Forms.{Form, Faithful}
 use Rattle.rules.specs.Meaning.{AllBytes}
 use Rattle.rules.specs.Outcomes.{Answer}
 use Rattle.rules.specs.Refusals.{wholeWords}
-use Rattle.rules.specs.Runs.{Call, Collect, fileIn, Turn, EveryFile}
+use Rattle.rules.specs.Runs.{Call, Collect, fileIn, startsAnew, Turn, EveryFile}
 use Rattle.rules.specs.Runs as runs
 use Rattle.rules.specs.Memory.{Memory, heapIn, AcceptedIn, perform, turnIn, afterIn, answersIn, filledIn}
 use Rattle.rules.proofs.Below.{allBytes, bytes-below}
@@ -28,7 +28,7 @@ use Rattle.plain.specs.Objects.{Object, Plain, end, Rising, done, next}
 use Rattle.plain.specs.Tracing.{isIn, ledTo, trace, among}
 use Rattle.plain.specs.Reaching.{Reachable, root, edge, Keeps}
 use Rattle.plain.specs.Replies.{Reply, refuseIf, collectedBy, reply, left}
-use Rattle.plain.specs.Refines.{startsAnew, from, AnswersAsList, ImagesAsList, ListKeepsReachable, counted, changes, UsedIsSum}
+use Rattle.plain.specs.Refines.{from, AnswersAsList, ImagesAsList, ListKeepsReachable, counted, changes, UsedIsSum}
 use Rattle.plain.proofs.Laid as lie
 use Rattle.plain.proofs.Inits.{anew, anew-few}
 use Rattle.plain.proofs.Sums.{used-is-sum}

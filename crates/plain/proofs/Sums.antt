@@ -5,25 +5,23 @@ use mathlib.Core.Path.{_≡_, refl, sym, ap, _∙_}
 use mathlib.Core.Bool.{Bool, true, false}
 use mathlib.Core.List.{List, [], _∷_}
 use Prim.Native.Nat.{ℕ, zero, suc}
-use lib.Dec.{eqb}
 use lib.IntN.{ℤ, pos, _+ℤ_, +ℤ-idr}
 use lib.ListN.{length, replicate}
 use native.Mathlib.Omega.{arith}
-use borrow.Author.Tests.{eq-eqb, ne-eqb}
-use Rattle.rules.specs.Tests.{pick, both}
+use borrow.Author.Tests.{ne-eqb}
 use Rattle.rules.specs.Tables.{used, isUsed}
 use Rattle.rules.specs.Entries.{FREE}
 use Rattle.rules.specs.Forms.{Form, Faithful}
 use Rattle.rules.specs.Outcomes.{Heap, Answer, Outcome, onlyRefusal, changeFrom, unlessRefused}
 use Rattle.rules.specs.Calls.{Way, stay, shrink, grow, move, noWay, placing, allocate, free, along, reallocate, collecting, collect, survey, load, store, writeImage, openImage}
-use Rattle.rules.specs.Runs.{Call, Init, Allocate, Free, Reallocate, Collect, Survey, Load, Store, WriteImage, OpenImage, Turn, step}
+use Rattle.rules.specs.Runs.{Call, Init, Allocate, Free, Reallocate, Collect, Survey, Load, Store, WriteImage, OpenImage, startsAnew, Turn, step}
 use Rattle.rules.specs.Memory.{Memory, Sound, heapIn, AcceptedIn, stackFor, perform, turnIn, afterIn}
 use Rattle.rules.proofs.Lists.{count-none}
 use Rattle.rules.proofs.Calls.{sub-add}
 use Rattle.rules.proofs.Refusals.{true-not-false, both-false, accepts}
 use Rattle.rules.proofs.Opening.{open-passes}
 use Rattle.rules.proofs.Memory.{Ended, accepted, refused, step-ended, Follows, follows-sound, kept-by, passes-in, follows-accepted}
-use Rattle.plain.specs.Refines.{startsAnew, usedAtStart, counted, changes, UsedIsSum}
+use Rattle.plain.specs.Refines.{usedAtStart, counted, changes, UsedIsSum}
 use Rattle.plain.proofs.Inits.{init-accepted, Anew, inits, opened, anew}
 
 -- ---- one call
@@ -84,15 +82,15 @@ step-anew stack h (opened image room o) = rw (accepts h [] _ (open-passes h imag
 module _ (c : Call) (d : ℤ) where
   counted-refused : (r : ℕ) → counted c (onlyRefusal (suc r)) d ≡ d
   unfolding counted
-  counted-refused r = ap (λ (b : Bool). pick b (pos (usedAtStart c)) (d +ℤ pos 0)) (ap (both (startsAnew c)) (ne-eqb (suc r) 0 (λ e. omega arith)) ∙ both-false (startsAnew c)) ∙ +ℤ-idr d
+  counted-refused r = rw (ne-eqb (suc r) 0 (λ e. omega arith), both-false _) (+ℤ-idr d)
 
   counted-change : (a : Answer) → startsAnew c ≡ false → counted c a d ≡ d +ℤ a .change
   unfolding counted
-  counted-change a e = ap (λ (b : Bool). pick (both b (eqb (a .refusal) 0)) (pos (usedAtStart c)) (d +ℤ a .change)) e
+  counted-change a e = rw e
 
   counted-anew : (a : Answer) → startsAnew c ≡ true → a .refusal ≡ 0 → counted c a d ≡ pos (usedAtStart c)
   unfolding counted
-  counted-anew a e z = ap (λ (b : Bool). pick b (pos (usedAtStart c)) (d +ℤ a .change)) (ap (λ (t : Bool). both t (eqb (a .refusal) 0)) e ∙ eq-eqb (a .refusal) 0 z)
+  counted-anew a e z = rw (e, z)
 
 -- each call
 step-sums : (c : Call) (stack : List ℕ) (h : Heap) (d : ℤ) → Sums h d → Sums (step c stack h .heap) (counted c (step c stack h .answer) d)

@@ -3,7 +3,7 @@
 -- and the sum of the changes that were answered since. How the table's bytes hold entries does not matter: any form will do that is faithful.
 -- Assumes nothing.
 use mathlib.Core.Path.{_≡_}
-use mathlib.Core.Bool.{Bool, true, false}
+use mathlib.Core.Bool.{true}
 use mathlib.Core.List.{List, [], _∷_}
 use mathlib.Core.Option.{Option, some, none}
 use Prim.Native.Nat.{ℕ, _≤_}
@@ -16,25 +16,12 @@ use Rattle.rules.specs.Forms.{Form, Faithful}
 use Rattle.rules.specs.Meaning.{AllBytes}
 use Rattle.rules.specs.Outcomes.{Answer}
 use Rattle.rules.specs.Files.{entriesFor, fileOf}
-use Rattle.rules.specs.Runs.{Call, Init, Allocate, Free, Reallocate, Collect, Survey, Load, Store, WriteImage, OpenImage, fileIn, Turn, EveryFile}
+use Rattle.rules.specs.Runs.{Call, fileIn, startsAnew, Turn, EveryFile}
 use Rattle.rules.specs.Memory.{Memory, AcceptedIn, perform, turnIn, afterIn, answersIn, filledIn}
 use Rattle.plain.specs.Objects.{Object, Plain}
 use Rattle.plain.specs.Tracing.{trace, among}
 use Rattle.plain.specs.Reaching.{Keeps}
 use Rattle.plain.specs.Replies.{replies, fillings, left}
-
--- whether the call fills a whole heap, whatever was there: such a call is a beginning, of the list and of the sum of changes
-abbrev pub startsAnew : Call → Bool
-startsAnew (Init base) = true
-startsAnew (Allocate base bytes) = false
-startsAnew (Free base k) = false
-startsAnew (Reallocate base k bytes) = false
-startsAnew (Collect base roots) = false
-startsAnew (Survey base) = false
-startsAnew (Load base k i) = false
-startsAnew (Store base k i w) = false
-startsAnew (WriteImage base roots room) = false
-startsAnew (OpenImage image room) = true
 
 -- a call, and then the calls
 abbrev pub from : Call → List Turn → List Turn

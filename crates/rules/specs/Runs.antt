@@ -1,6 +1,7 @@
 -- Lists of calls: each gets the heap as the one before left it.
 -- Assumes nothing.
 use mathlib.Core.Path.{_≡_}
+use mathlib.Core.Bool.{Bool, true, false}
 use mathlib.Core.List.{List, [], _∷_}
 use mathlib.Core.Option.{Option, some, none}
 use Prim.Native.Nat.{ℕ}
@@ -57,6 +58,19 @@ fileIn (OpenImage image room) = some image
 -- that file, if there is one, has this property
 abbrev pub FileIs : (List ℕ → Type 0) → Call → Type 0
 FileIs P c = (image : List ℕ) → fileIn c ≡ some image → P image
+
+-- whether the call fills a whole heap, whatever was there
+abbrev pub startsAnew : Call → Bool
+startsAnew (Init base) = true
+startsAnew (Allocate base bytes) = false
+startsAnew (Free base k) = false
+startsAnew (Reallocate base k bytes) = false
+startsAnew (Collect base roots) = false
+startsAnew (Survey base) = false
+startsAnew (Load base k i) = false
+startsAnew (Store base k i w) = false
+startsAnew (WriteImage base roots room) = false
+startsAnew (OpenImage image room) = true
 
 -- a call and the mark stack that is lent to it
 pub record Turn : Type 0 where
