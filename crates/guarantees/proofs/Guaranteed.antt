@@ -12,7 +12,7 @@ use Rattle.promises.proofs.RoundTrips.{write-then-open, open-then-write, opens-
 use Rattle.promises.proofs.Promised.{promises}
 use Rattle.promises.proofs.Determined.{determined}
 use Rattle.promises.proofs.Whole.{whole}
-use Rattle.promises.proofs.Alignment.{new-objects-aligned, aligned-from-init}
+use Rattle.promises.proofs.Alignment.{new-objects-aligned, aligned-from-start}
 use Rattle.promises.proofs.OtherT.{other-t-is-refused}
 use Rattle.algebra.proofs.Algebra.{frees-commute, roots-are-a-set, roots-join, collect-idempotent}
 use Rattle.runs.proofs.Noninterference.{noninterference}
@@ -50,7 +50,7 @@ guarantees = record {
   opens-exactly = opens-exactly;
   one-file = one-file;
   new-objects-aligned = new-objects-aligned;
-  aligned-from-init = aligned-from-init;
+  aligned-from-start = aligned-from-start;
   keeps-exactly = keeps-exactly;
   any-stack = any-stack;
   frees-commute = frees-commute;

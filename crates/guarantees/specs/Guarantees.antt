@@ -16,7 +16,7 @@ use Rattle.promises.specs.Images.{ImageSaysAll}
 use Rattle.promises.specs.Files.{WriteThenOpen, OpenThenWrite, OpensExactly, OneFile}
 use Rattle.promises.specs.Promises.{Promises}
 use Rattle.promises.specs.Determined.{Determined, Whole}
-use Rattle.promises.specs.Alignment.{NewObjectsAligned, AlignedFromInit}
+use Rattle.promises.specs.Alignment.{NewObjectsAligned, AlignedFromStart}
 use Rattle.promises.specs.OtherT.{OtherTIsRefused}
 use Rattle.algebra.specs.Algebra.{FreesCommute, RootsAreASet, RootsJoin, CollectIdempotent}
 use Rattle.runs.specs.Noninterference.{Noninterference}
@@ -63,9 +63,9 @@ pub record Guarantees : Type 2 where
   pub open-then-write : OpenThenWrite
   pub opens-exactly : OpensExactly
   pub one-file : OneFile
-  -- An object of four blocks or more that is made or gets more blocks starts at a block divisible by four, and from an accepted init on every such object does, if those of the files that are opened do.
+  -- An object of four blocks or more that is made or gets more blocks starts at a block divisible by four, and from an accepted init or opening on every such object does, if those of the files that are opened do.
   pub new-objects-aligned : NewObjectsAligned
-  pub aligned-from-init : AlignedFromInit
+  pub aligned-from-start : AlignedFromStart
   -- A collection keeps exactly the reachable objects, and the mark stack has no influence on it.
   pub keeps-exactly : KeepsExactly
   pub any-stack : AnyStack

@@ -3,6 +3,7 @@
 -- Assumes nothing.
 use mathlib.Core.Path.{_≡_, refl, ap, sym, subst, _∙_}
 use mathlib.Core.Logic.{_≢_, _⊎_, inl, inr, ⊎-elim}
+use mathlib.Core.Bool.{true}
 use mathlib.Core.List.{List, [], _∷_}
 use Prim.Native.Nat.{ℕ, _+_, _-_, _≤_, _<_}
 use native.Mathlib.Decide.{ℕ-discrete, decLt}
@@ -13,9 +14,9 @@ use Rattle.rules.specs.Meaning.{Aligned, Accepted}
 use Rattle.rules.specs.Outcomes.{Heap}
 use Rattle.rules.specs.Forms.{Form, Faithful, Small}
 use Rattle.rules.specs.Calls.{blocksFor, allocate, free, reallocate, collect, openImage}
-use Rattle.rules.specs.Runs.{Call, Init, Allocate, Free, Reallocate, Collect, Survey, Load, Store, WriteImage, OpenImage, Turn, step, FileIs, EveryFile, done, next}
+use Rattle.rules.specs.Runs.{Call, Init, Allocate, Free, Reallocate, Collect, Survey, Load, Store, WriteImage, OpenImage, Turn, step, FileIs, EveryFile, done, next, startsAnew}
 use Rattle.rules.specs.Memory.{Memory, heapIn, AcceptedIn, perform, turnIn, afterIn}
-use Rattle.rules.proofs.Refusals.{named-resize}
+use Rattle.rules.proofs.Refusals.{true-not-false, named-resize}
 use Rattle.rules.proofs.Tables.{entry-inside, extent-of}
 use Rattle.rules.proofs.Faults.{no-fault}
 use Rattle.rules.proofs.Opening.{open-passed}
@@ -23,7 +24,7 @@ use Rattle.rules.proofs.Memory.{kept-by, passes-in, follows-accepted}
 use Rattle.keeping.proofs.Owners.{reachable-head}
 use Rattle.keeping.proofs.Collections.{collect-keeps, collect-well}
 use Rattle.promises.specs.Promises.{Object, blocksOf, Among, Same, Allocated, Freed, Reallocated}
-use Rattle.promises.specs.Alignment.{AllAligned, Older, NewAligned, FileAligned, NewObjectsAligned, AlignedFromInit}
+use Rattle.promises.specs.Alignment.{AllAligned, Older, NewAligned, FileAligned, NewObjectsAligned, AlignedFromStart}
 use Rattle.promises.proofs.Checked.{reallocate-checked, open-checked, acts, no-refusal}
 use Rattle.promises.proofs.Promised.{promises}
 
@@ -140,15 +141,21 @@ module _ (base : ℕ) (h : Heap) where
       let reached = keeps .only o head in
       inr (record { head = reachable-head base h _ (collect-well base h roots stack accepted) o reached; blocks = omega (arith, keeps .count o reached) })
 
+-- there is no object after init
+init-aligned : (base : ℕ) (h : Heap) (stack : List ℕ) → Accepted (step (Init base) stack h) → AllAligned (step (Init base) stack h .heap)
+unfolding step
+init-aligned base h stack accepted o head = absurd (omega (arith, promises .initialised base h accepted .free o))
+
 -- every object that a file brings is aligned
-new-opened : (h : Heap) (image : List ℕ) (room : ℕ) → FileAligned image → Accepted (openImage h image room) → NewAligned h (openImage h image room .heap)
-new-opened h image room file accepted =
+open-aligned : (h : Heap) (image : List ℕ) (room : ℕ) (stack : List ℕ) → FileAligned image → Accepted (step (OpenImage image room) stack h) → AllAligned (step (OpenImage image room) stack h .heap)
+unfolding step
+open-aligned h image room stack file accepted =
     let o = open-passed h image room (no-refusal (open-checked h image room) accepted) in
-    rw (acts (open-checked h image room) accepted) (λ k head. inl (file (no-fault image (o .faultless)) (o .well) k head))
+    rw (acts (open-checked h image room) accepted) (file (no-fault image (o .faultless)) (o .well))
 
 new-accepted : (c : Call) (stack : List ℕ) (h : Heap) → FileIs FileAligned c → Small (h .entries) → Accepted (step c stack h) → NewAligned h (step c stack h .heap)
 unfolding step
-new-accepted (Init base) stack h file small accepted = λ o head. absurd (omega (arith, promises .initialised base h accepted .free o))
+new-accepted (Init base) stack h file small accepted = λ o head. inl (init-aligned base h stack accepted o head)
 new-accepted (Allocate base bytes) stack h file small accepted = new-allocated base h bytes accepted
 new-accepted (Free base k) stack h file small accepted = new-freed base h k accepted
 new-accepted (Reallocate base k bytes) stack h file small accepted = new-reallocated base h k bytes accepted
@@ -157,7 +164,7 @@ new-accepted (Survey base) stack h file small accepted = same-table h _ (ap (λ 
 new-accepted (Load base k i) stack h file small accepted = same-table h _ (ap (λ (g : Heap). g .entries) (promises .load-leaves base h k i))
 new-accepted (Store base k i w) stack h file small accepted = same-table h _ (promises .stored base h k i w accepted .table)
 new-accepted (WriteImage base roots room) stack h file small accepted = same-table h _ (ap (λ (g : Heap). g .entries) (promises .image-leaves base h roots room))
-new-accepted (OpenImage image room) stack h file small accepted = new-opened h image room (file image refl) accepted
+new-accepted (OpenImage image room) stack h file small accepted = λ o head. inl (open-aligned h image room stack (file image refl) accepted o head)
 
 -- ---- lists of calls on lent memory
 
@@ -179,14 +186,25 @@ module _ (f : Form) (faithful : Faithful f) where
   all-after ts files m all o head =
       ⊎-elim (λ a. a) (λ p. fewer-aligned (blocksOf (heapIn f m) o) (blocksOf (heapIn f (afterIn f ts m)) o) o (p .blocks) (all o (p .head))) (new-after ts files m o head)
 
-  all-from-init : (base : ℕ) (stack : List ℕ) (m : Memory) → AcceptedIn (perform f (Init base) stack m) → AllAligned (heapIn f (perform f (Init base) stack m .memory))
-  unfolding step
-  all-from-init base stack m z =
-      subst AllAligned (sym (follows-accepted f faithful (Init base) stack m z .heap))
-      (λ o head. absurd (omega (arith, promises .initialised base (heapIn f m) (passes-in f (Init base) stack m z .own) .free o)))
+  -- after an accepted init there is none, and after an accepted opening those of the file
+  all-from-start : (c : Call) (stack : List ℕ) → startsAnew c ≡ true → FileIs FileAligned c → (m : Memory) → AcceptedIn (perform f c stack m) → AllAligned (heapIn f (perform f c stack m .memory))
+  all-from-start c stack anew file m z = subst AllAligned (sym (follows-accepted f faithful c stack m z .heap)) (go c anew file (passes-in f c stack m z .own))
+    where
+      go : (c : Call) → startsAnew c ≡ true → FileIs FileAligned c → Accepted (step c stack (heapIn f m)) → AllAligned (step c stack (heapIn f m) .heap)
+      go (Init base) e file accepted = init-aligned base (heapIn f m) stack accepted
+      go (Allocate base bytes) e file accepted = absurd (true-not-false e refl)
+      go (Free base k) e file accepted = absurd (true-not-false e refl)
+      go (Reallocate base k bytes) e file accepted = absurd (true-not-false e refl)
+      go (Collect base roots) e file accepted = absurd (true-not-false e refl)
+      go (Survey base) e file accepted = absurd (true-not-false e refl)
+      go (Load base k i) e file accepted = absurd (true-not-false e refl)
+      go (Store base k i w) e file accepted = absurd (true-not-false e refl)
+      go (WriteImage base roots room) e file accepted = absurd (true-not-false e refl)
+      go (OpenImage image room) e file accepted = open-aligned (heapIn f m) image room stack (file image refl) accepted
 
 pub new-objects-aligned : NewObjectsAligned
 new-objects-aligned f faithful ts files m = new-after f faithful ts files m
 
-pub aligned-from-init : AlignedFromInit
-aligned-from-init f faithful base stack ts files m z = all-after f faithful ts files (perform f (Init base) stack m .memory) (all-from-init f faithful base stack m z)
+pub aligned-from-start : AlignedFromStart
+unfolding afterIn
+aligned-from-start f faithful first ts anew (next file files) m z = all-after f faithful ts files (turnIn f first m .memory) (all-from-start f faithful (first .call) (first .stack) anew file m z)

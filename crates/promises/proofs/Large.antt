@@ -1,28 +1,39 @@
 -- The promises on large objects, in bytes and block numbers, and each used at its exact bound: 48 bytes are three blocks, 49 are four.
 -- Assumes nothing.
-use mathlib.Core.Path.{_≡_, refl}
+use mathlib.Core.Path.{_≡_, refl, ap, subst}
 use mathlib.Core.Logic.{_≢_, _⊎_, inl, inr, ⊎-elim}
-use mathlib.Core.List.{List, []}
+use mathlib.Core.Bool.{Bool, true, false, not}
+use mathlib.Core.List.{List, [], _∷_, _++_}
+use mathlib.Core.Option.{Option}
 use Prim.Native.Nat.{ℕ, _+_, _-_, _*_, _%_, _≤_, _<_}
 use native.Mathlib.Omega.{arith}
-use Rattle.rules.specs.Tests.{count, leading, tabulate}
+use lib.Dec.{T}
+use lib.ListN.{length, replicate}
+use Rattle.rules.specs.Tests.{either, orElse, count, leading, tabulate}
+use Rattle.rules.specs.Bits.{bitOf, bitAt, byteOf}
+use Rattle.rules.specs.Words.{number, firstTwo, wordAt}
 use Rattle.rules.specs.Entries.{entryOf, entriesOf}
-use Rattle.rules.specs.Tables.{mayFollow, wellAfter, wellFormed, blockCount, freeFrom, aligned, fits, firstFrom, firstFit, placed, released, used, objects, longest}
+use Rattle.rules.specs.Tables.{entryAt, isHead, mayFollow, wellAfter, wellFormed, blockCount, freeFrom, aligned, fits, firstFrom, firstFit, placed, released, used, objects, longest}
 use Rattle.rules.specs.Pointers.{addressOf, goodBase}
 use Rattle.rules.specs.Meaning.{Run, Accepted}
 use Rattle.rules.specs.Outcomes.{Heap, changeFrom, unlessRefused, clearedBlocks}
 use Rattle.rules.specs.Refusals.{firstOf, goodShape, wholeWords, heapTests}
-use Rattle.rules.specs.Calls.{blocksFor, taken, placing, allocate, freed, free, reallocate, survey}
-use Rattle.rules.specs.Runs.{Init, Turn, EveryFile}
+use Rattle.rules.specs.Calls.{blocksFor, taken, placing, allocate, freed, free, reallocate, survey, goodTarget, openImage}
+use Rattle.rules.specs.Files.{sectionIn, sectionTests, fileOf, fileTests, faultOf, heapOfFile}
+use Rattle.rules.specs.Planes.{planeBytes, entryIn, entriesIn, spare, spareFree, plane, planesOf, planes}
+use Rattle.rules.specs.Runs.{OpenImage, step, FileIs, Turn, EveryFile, next, startsAnew}
 use Rattle.rules.specs.Forms.{Form, Faithful}
-use Rattle.rules.specs.Memory.{Memory, heapIn, AcceptedIn, perform, afterIn}
+use Rattle.rules.specs.Memory.{Memory, memory, heapIn, AcceptedIn, orRefused, perform, turnIn, afterIn}
 use Rattle.rules.specs.Examples.{small, medium}
+use Rattle.rules.proofs.Below.{allBelow, below}
 use Rattle.rules.proofs.Refusals.{passed}
+use Rattle.rules.proofs.Tables.{entry-inside, aligned-says}
+use Rattle.rules.proofs.Planes.{planes-faithful}
 use Rattle.promises.specs.Promises.{Object, blocksOf}
 use Rattle.promises.proofs.Promised.{promises}
 use Rattle.promises.proofs.Observed.{free-again, allocate-spare}
-use Rattle.promises.specs.Alignment.{FileAligned}
-use Rattle.promises.proofs.Alignment.{new-objects-aligned, aligned-from-init}
+use Rattle.promises.specs.Alignment.{AllAligned, FileAligned}
+use Rattle.promises.proofs.Alignment.{new-objects-aligned, aligned-from-start}
 
 -- ---- one call
 
@@ -57,12 +68,12 @@ reallocated-stays base h k bytes accepted few = promises .reallocated base h k b
 
 -- ---- lists of calls, in every form of the table
 
--- from an accepted init on, an object of four blocks or more starts at a block divisible by four
-pub large-from-init : (f : Form) → Faithful f → (base : ℕ) (stack : List ℕ) (ts : List Turn) → EveryFile FileAligned ts → (m : Memory) → AcceptedIn (perform f (Init base) stack m)
-    → let h = heapIn f (afterIn f ts (perform f (Init base) stack m .memory)) in
+-- from an accepted init or opening on, an object of four blocks or more starts at a block divisible by four
+pub large-from-start : (f : Form) → Faithful f → (first : Turn) (ts : List Turn) → startsAnew (first .call) ≡ true → EveryFile FileAligned (first ∷ ts) → (m : Memory) → AcceptedIn (turnIn f first m)
+    → let h = heapIn f (afterIn f (first ∷ ts) m) in
     (o : ℕ) → Object h o → 4 ≤ blocksOf h o → o % 4 ≡ 0
-large-from-init f faithful base stack ts files m accepted o head large =
-    ⊎-elim (λ few. absurd (omega arith)) (λ e. e) (aligned-from-init f faithful base stack ts files m accepted o head)
+large-from-start f faithful first ts anew files m accepted o head large =
+    ⊎-elim (λ few. absurd (omega arith)) (λ e. e) (aligned-from-start f faithful first ts anew files m accepted o head)
 
 -- one that starts elsewhere was there before the calls, with as many blocks or more
 pub large-elsewhere : (f : Form) → Faithful f → (ts : List Turn) → EveryFile FileAligned ts → (m : Memory)
@@ -73,6 +84,52 @@ large-elsewhere f faithful ts files m o head large other =
     (λ placed. absurd (⊎-elim (λ few. omega arith) other placed))
     (λ older. (older .head, older .blocks))
     (new-objects-aligned f faithful ts files m o head)
+
+-- ---- a file that is opened
+
+-- that a heap's objects are aligned, by a test of each block
+alignedTest : Heap → Bool
+alignedTest h = allBelow (length (h .entries)) (λ (o : ℕ). either (not (isHead (entryAt (h .entries) o))) (aligned (blockCount (h .entries) o) o))
+
+all-tested : (h : Heap) → T (alignedTest h) → AllAligned h
+unfolding alignedTest
+all-tested h t o head =
+    let es = h .entries in
+    let a : T (either (not (isHead (entryAt es o))) (aligned (blockCount es o) o)) = below _ _ t o (entry-inside es o (λ f. omega arith)) in
+    let b : T (aligned (blockCount es o) o) = rw head at a in
+    aligned-says (blockCount es o) o (holds (aligned (blockCount es o) o) b)
+  where
+    holds : (b : Bool) → T b → b ≡ true
+    holds true t = refl
+    holds false t = absurd t
+
+-- an object of four blocks at block 0, and four FREE blocks
+abbrev file : List ℕ
+file = 1 ∷ 0 ∷ 0 ∷ 16 ∷ 0 ∷ 0 ∷ 2 ∷ 0 ∷ 169 ∷ 0 ∷ 4 ∷ 0 ∷ replicate 64 5 ++ 0 ∷ 0 ∷ []
+
+abbrev opening : Turn
+opening = record { call = OpenImage file 0; stack = [] }
+
+-- memory full of ones
+abbrev ones : Memory
+ones = memory (replicate 128 255) (replicate 2 255)
+
+record Opens : Type 0 where
+  accepted : AcceptedIn (turnIn (planes 2) opening ones)
+  all : T (alignedTest (heapOfFile (fileOf file)))
+
+opens : Opens
+unfolding alignedTest count leading tabulate bitOf bitAt byteOf number firstTwo wordAt entryOf entriesOf planeBytes entryIn entriesIn spare spareFree plane planesOf mayFollow wellAfter wellFormed blockCount aligned used addressOf goodBase unlessRefused firstOf goodShape sectionIn sectionTests fileOf fileTests faultOf goodTarget openImage step orRefused perform
+opens = record { accepted = refl; all = tt }
+
+-- the file's objects are aligned, so from its opening on all are, whatever calls follow that open nothing else
+pub large-from-file : (ts : List Turn) → EveryFile FileAligned ts
+    → let h = heapIn (planes 2) (afterIn (planes 2) (opening ∷ ts) ones) in
+    (o : ℕ) → Object h o → 4 ≤ blocksOf h o → o % 4 ≡ 0
+large-from-file ts files = large-from-start (planes 2) (planes-faithful 2) opening ts refl (next one files) ones (opens .accepted)
+  where
+    one : FileIs FileAligned (OpenImage file 0)
+    one image e = subst FileAligned (ap (λ (x : Option (List ℕ)). orElse x []) e) (λ _ _. all-tested (heapOfFile (fileOf file)) (opens .all))
 
 -- ---- at the exact bounds, in heaps of 8 and 12 blocks at base 4,096
 

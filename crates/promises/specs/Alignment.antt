@@ -1,18 +1,18 @@
 -- Where large objects start. No call makes an object of four blocks or more at a block that is not divisible by four, and none lets an object there grow to so many; so
--- from init on there is none. Tables of old heaps and files may have some: they are left where they are until they grow.
+-- from init on, or from the opening of a file without one, there is none. Tables of old heaps and files may have some: they are left where they are until they grow.
 -- Assumes nothing.
 use mathlib.Core.Path.{_≡_}
 use mathlib.Core.Logic.{_⊎_}
 use mathlib.Core.Bool.{true}
-use mathlib.Core.List.{List}
+use mathlib.Core.List.{List, _∷_}
 use Prim.Native.Nat.{ℕ, _≤_}
 use Rattle.rules.specs.Meaning.{Aligned}
 use Rattle.rules.specs.Outcomes.{Heap}
 use Rattle.rules.specs.Forms.{Form, Faithful}
 use Rattle.rules.specs.Tables.{wellFormed}
 use Rattle.rules.specs.Files.{faultOf, fileOf, heapOfFile}
-use Rattle.rules.specs.Runs.{Init, Turn, EveryFile}
-use Rattle.rules.specs.Memory.{Memory, heapIn, AcceptedIn, perform, afterIn}
+use Rattle.rules.specs.Runs.{Turn, EveryFile, startsAnew}
+use Rattle.rules.specs.Memory.{Memory, heapIn, AcceptedIn, turnIn, afterIn}
 use Rattle.promises.specs.Promises.{Object, blocksOf}
 
 -- every object is aligned: it has fewer than four blocks, or starts at a block divisible by four
@@ -36,8 +36,8 @@ FileAligned image = faultOf image ≡ 0 → wellFormed (heapOfFile (fileOf image
 abbrev pub NewObjectsAligned : Type 0
 NewObjectsAligned = (f : Form) → Faithful f → (ts : List Turn) → EveryFile FileAligned ts → (m : Memory) → NewAligned (heapIn f m) (heapIn f (afterIn f ts m))
 
--- From an accepted init on, every object is aligned after every list of calls.
-abbrev pub AlignedFromInit : Type 0
-AlignedFromInit =
-    (f : Form) → Faithful f → (base : ℕ) (stack : List ℕ) (ts : List Turn) → EveryFile FileAligned ts → (m : Memory) → AcceptedIn (perform f (Init base) stack m)
-    → AllAligned (heapIn f (afterIn f ts (perform f (Init base) stack m .memory)))
+-- From an accepted init or opening on, every object is aligned after every list of calls, if the files that are opened have only such objects.
+abbrev pub AlignedFromStart : Type 0
+AlignedFromStart =
+    (f : Form) → Faithful f → (first : Turn) (ts : List Turn) → startsAnew (first .call) ≡ true → EveryFile FileAligned (first ∷ ts) → (m : Memory) → AcceptedIn (turnIn f first m)
+    → AllAligned (heapIn f (afterIn f (first ∷ ts) m))
