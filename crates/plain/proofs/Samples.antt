@@ -7,27 +7,30 @@ use mathlib.Core.List.{List, [], _∷_, _++_, List·Memᴰ, List·Memᴰ·head, 
 use native.Mathlib.Omega.{arith}
 use lib.Dec.{eqb}
 use lib.IntN.{pos}
-use lib.ListN.{replicate, set}
-use Rattle.rules.specs.Tests.{count, tabulate}
-use Rattle.rules.specs.Words.{firstTwo}
-use Rattle.rules.specs.Entries.{entryOf, entriesOf}
-use Rattle.rules.specs.Tables.{used}
+use lib.ListN.{drop, replicate, set}
+use Rattle.rules.specs.Tests.{count, leading, tabulate}
+use Rattle.rules.specs.Words.{number, bytesOf, twoBytesOf, firstTwo, wordAt, wordsOf}
+use Rattle.rules.specs.Entries.{entryOf, entriesOf, tableOf}
+use Rattle.rules.specs.Tables.{mayFollow, wellAfter, wellFormed, used}
+use Rattle.rules.specs.Images.{section, sections}
 use Rattle.rules.specs.Pointers.{addressOf, goodBase}
 use Rattle.rules.specs.Planes.{entriesIn, planes}
 use Rattle.rules.specs.Meaning.{AllBytes}
 use Rattle.rules.specs.Calls.{blocksFor}
 use Rattle.rules.specs.Outcomes.{onlyRefusal, placedAt}
-use Rattle.rules.specs.Files.{sectionIn, fileOf}
+use Rattle.rules.specs.Refusals.{firstOf, wholeWords}
+use Rattle.rules.specs.Files.{sectionIn, sectionTests, fileOf, fileTests, faultOf}
 use Rattle.rules.specs.Runs.{Init, Allocate, OpenImage, Turn, EveryFile}
 use Rattle.rules.specs.Memory.{afterIn, answersIn, filledIn}
 use Rattle.rules.proofs.Lists.{bounded-replicate}
 use Rattle.rules.proofs.Planes.{length-entriesIn, planes-faithful}
-use Rattle.plain.specs.Objects.{Object, object, total, find, placeFrom, lowestGap, insert, replace}
-use Rattle.plain.specs.Tracing.{isIn, ledTo, trace, among}
+use Rattle.plain.specs.Objects.{Object, object, total, find, placeFrom, lowestGap, insert, remove, replace}
+use Rattle.plain.specs.Tracing.{isIn, ledTo, followTo, follow, followAll, emptyFor, empty, subtree, fromRootTo, fromRoots, againFor, trace, among}
 use Rattle.plain.specs.Reaching.{Reachable, root, edge, Keeps}
-use Rattle.plain.specs.Replies.{places, allocatedAt, onObject, named, loadedFrom, storedIn, reply, left}
+use Rattle.plain.specs.Images.{entriesFrom, bytesOfAll, contents, imageOfList, objectsFrom}
+use Rattle.plain.specs.Replies.{places, allocatedAt, onObject, named, loadedFrom, storedIn, imageIn, openedIn, reply, left}
 use Rattle.plain.specs.Refines.{AnswersAsList, ImagesAsList, ListKeepsReachable, counted}
-use Rattle.plain.specs.Examples.{zeros, runBase, bare, filling, ending, runRoots, run, garbage, run-accepted, twelve, runAnswers, run-answers, imaging, imageRun, imageAnswers, imageFillings, image-run, strewn, reopened, openRun, initRun, openAnswers, openFillings, four, open-run, init-run, spent, spent-accepted}
+use Rattle.plain.specs.Examples.{blocks, zeros, runBase, bare, filling, ending, runRoots, run, garbage, run-accepted, twelve, runAnswers, run-answers, imaging, imageRun, imageAnswers, imageFillings, image-run, strewn, scraps, reopened, openRun, initRun, openAnswers, openFillings, four, open-run, init-run, spent, spent-accepted}
 use Rattle.plain.proofs.Refinement.{answers-as-list, images-as-list}
 use Rattle.plain.proofs.Reached.{of-at, list-keeps-reachable}
 use Rattle.plain.proofs.Consequences.{summed, used-answered, files-of, allOf, leadsInto, Closed, reachable-in}
@@ -165,3 +168,16 @@ all-but-f = record { roots-in = tt; words-in = tt }
 -- so f is not kept
 pub f-lost : List·Memᴰ f kept → ⊥
 f-lost m = reachable-in runBase filled runRoots _ all-but-f (run-keeps .only f m)
+
+-- of a list that came from an opening: the run leaves one object of the file
+open-left : left openRun (blocks 4 []) .objects ≡ drop 1 scraps
+unfolding reopened tabulate number bytesOf wordAt wordsOf addressOf goodBase wholeWords find remove places onObject named tableOf count used twoBytesOf section sections entriesFrom bytesOfAll contents imageOfList imageIn leading firstTwo entryOf entriesOf mayFollow wellAfter wellFormed firstOf sectionIn sectionTests fileOf fileTests faultOf objectsFrom openedIn reply left
+open-left = refl
+
+-- its address keeps it, and the root of the file does not
+pub open-keeps : Keeps 4096 (drop 1 scraps) (addressOf 4096 3 ∷ []) (drop 1 scraps) × Keeps 4096 (drop 1 scraps) (0xdead_beef ∷ []) []
+unfolding ListKeepsReachable tabulate addressOf isIn ledTo followTo follow followAll emptyFor empty subtree fromRootTo fromRoots againFor trace among
+open-keeps = (
+  rw open-left at (list-keeps-reachable 4 openRun 4096 1 (addressOf 4096 3 ∷ []) (omega arith) (omega arith)),
+  rw open-left at (list-keeps-reachable 4 openRun 4096 1 (0xdead_beef ∷ []) (omega arith) (omega arith)),
+)
