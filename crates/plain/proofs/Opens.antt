@@ -158,7 +158,7 @@ module _ (pool es : List ℕ) (long : length pool ≡ 16 * length es) (small : S
           let end : suc k + tailsAt (suc k) ≡ k + suc (tailsAt (suc k)) = omega arith in
           rw (more-tails k l t, objects-tail k (bytesAt k) l t, bytes-behind k l u) (rw end at d)
 
-  pub objects-laid : Laid pool es 0 (objectsFrom 0 es (usedFrom pool 0 es))
+  objects-laid : Laid pool es 0 (objectsFrom 0 es (usedFrom pool 0 es))
   objects-laid =
       let none : tailsAt 0 ≡ 0 = no-tails 0 (λ t. well .first (entry-inside es 0 (λ z. omega arith)) t) in
       let here : 0 + tailsAt 0 ≡ 0 = omega arith in
