@@ -92,18 +92,6 @@ oldFull = zeros 0 1 ∷ zeros 1 4 ∷ zeros 5 1 ∷ zeros 6 1 ∷ zeros 7 1 ∷ 
 abbrev pub oldFreed : List Object
 oldFreed = zeros 0 1 ∷ zeros 5 1 ∷ zeros 6 1 ∷ zeros 7 1 ∷ []
 
--- the image of an object of zeros at block 0 of four, with its address as a root: 33 bytes
-abbrev pub oneObject : List ℕ
-oneObject =
-    -- the base
-    1 ∷ 0 ∷ 0 ∷ 16 ∷ 0 ∷ 0
-    -- HEAD FREE FREE FREE
-    ∷ 1 ∷ 0 ∷ 1
-    -- one used block
-    ∷ 1 ∷ 0 ∷ replicate 16 0
-    -- one root
-    ++ 1 ∷ 0 ∷ 0 ∷ 16 ∷ 0 ∷ 0 ∷ []
-
 -- two blocks from block 1 on, with the address of block 4 as word 0, and behind a FREE block an object that holds 5
 abbrev pub apart : List Object
 apart = object 1 2 (set (set (replicate 8 0) 0 4160) 7 0x0102_0304) ∷ object 4 1 (set (replicate 4 0) 1 5) ∷ []
@@ -198,7 +186,7 @@ examples =
     ∷ example (reply (Allocate 4096 64) [] (eight oldFreed)) (onlyRefusal 9) oldFreed
     ∷ example (reply (Survey 4096) [] (eight oldFreed)) (surveyed 4 4 4) oldFreed
     -- images: into a buffer of so many bytes, and of one less; with roots that are no whole words
-    ∷ written 4 (reply (WriteImage 4096 (bytesOf 4096) 33) [] (blocks 4 (zeros 0 1 ∷ []))) oneObject (zeros 0 1 ∷ [])
+    ∷ written 4 (reply (WriteImage 4096 (bytesOf 4096) 33) [] (blocks 4 (zeros 0 1 ∷ []))) oneImage (zeros 0 1 ∷ [])
     ∷ exampleIn 4 (reply (WriteImage 4096 (bytesOf 4096) 32) [] (blocks 4 (zeros 0 1 ∷ []))) (onlyRefusal 10) (zeros 0 1 ∷ [])
     ∷ written 8 (reply (WriteImage 4096 twoRoots 70) [] (eight apart)) twoObjects apart
     ∷ example (reply (WriteImage 4096 twoRoots 69) [] (eight apart)) (onlyRefusal 10) apart
@@ -299,7 +287,7 @@ run-answers = refl
 -- ---- images in a row
 
 -- the image of the one object that is allocated after an init
-pub one-object-run : fillings (from (Init 4096) (map bare (Allocate 4096 16 ∷ WriteImage 4096 (bytesOf 4096) 33 ∷ []))) (blocks 4 []) ≡ [] ∷ [] ∷ oneObject ∷ []
+pub one-object-run : fillings (from (Init 4096) (map bare (Allocate 4096 16 ∷ WriteImage 4096 (bytesOf 4096) 33 ∷ []))) (blocks 4 []) ≡ [] ∷ [] ∷ oneImage ∷ []
 unfolding bytesOf addressOf goodBase wholeWords blocksFor total placeFrom lowestGap insert places allocatedAt tableOf count used twoBytesOf section sections entriesFrom bytesOfAll contents imageOfList imageIn reply fillings
 one-object-run = refl
 
