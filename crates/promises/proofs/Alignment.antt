@@ -13,7 +13,7 @@ use Rattle.rules.specs.Tables.{entryAt, blockCount}
 use Rattle.rules.specs.Meaning.{Aligned, Accepted}
 use Rattle.rules.specs.Outcomes.{Heap}
 use Rattle.rules.specs.Forms.{Form, Faithful, Small}
-use Rattle.rules.specs.Calls.{blocksFor, allocate, free, reallocate, collect, openImage}
+use Rattle.rules.specs.Calls.{blocksFor, allocate, free, reallocate, collect}
 use Rattle.rules.specs.Runs.{Call, Init, Allocate, Free, Reallocate, Collect, Survey, Load, Store, WriteImage, OpenImage, Turn, step, FileIs, EveryFile, done, next, startsAnew}
 use Rattle.rules.specs.Memory.{Memory, heapIn, AcceptedIn, perform, turnIn, afterIn}
 use Rattle.rules.proofs.Refusals.{true-not-false, named-resize}

@@ -20,7 +20,7 @@ use Rattle.rules.specs.Refusals.{Test, firstOf, goodShape, badShape, illFormed,
 use Rattle.rules.specs.Images.{blockBytes}
 use Rattle.rules.specs.Files.{Kind, oneBase, tableBytes, rootWords, sectionIn, cutShort, wrongCount, leftOver, sectionTests, File, entriesFor, usedIn, fileOf, fileTests, faultOf, poolOf, baseOf, heapOfFile, rootsOf}
 use Rattle.rules.specs.Calls.{goodTarget, openTests, openImage}
-use Rattle.rules.proofs.Refusals.{true-not-false, both-left, both-right, not-true, not-false, first-yes, first-more, shape-true, shape-of}
+use Rattle.rules.proofs.Refusals.{true-not-false, both-left, both-right, not-true, not-false, first-yes, first-more, shape-true, shape-of, shape-lengths}
 use Rattle.rules.proofs.Words.{wordAt-same}
 use Rattle.rules.proofs.Entries.{length-entriesOf}
 use Rattle.rules.proofs.Tables.{entry-inside}
@@ -318,20 +318,11 @@ module _ (h : Heap) (image : List ℕ) (room : ℕ) (accepted : Accepted (openIm
 -- ---- it does not matter what the heap held
 
 pub opens-elsewhere : (h h′ : Heap) (image : List ℕ) (room : ℕ) → length (h .pool) ≡ length (h′ .pool) → length (h .entries) ≡ length (h′ .entries) → Opens h image room → Opens h′ image room
-opens-elsewhere h h′ image room pools entries o =
-    let s = o .shape in
-    record {
-      faultless = o .faultless;
-      shape = record {
-        some = omega (arith, s .some, entries);
-        few = omega (arith, s .few, entries);
-        pool = omega (arith, s .pool, pools, entries);
-        aligned = s .aligned;
-        above = s .above;
-        below = omega (arith, s .below, entries);
-      };
-      long = o .long ∙ entries;
-      words = o .words;
-      well = o .well;
-      enough = o .enough;
-    }
+opens-elsewhere h h′ image room pools entries o = record {
+  faultless = o .faultless;
+  shape = shape-lengths (baseOf (fileOf image)) h h′ pools entries (o .shape);
+  long = o .long ∙ entries;
+  words = o .words;
+  well = o .well;
+  enough = o .enough;
+}

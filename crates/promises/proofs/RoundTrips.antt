@@ -21,7 +21,7 @@ use Rattle.rules.specs.Calls.{writeImage, openImage}
 use Rattle.rules.specs.Planes.{planes}
 use Rattle.rules.specs.Runs.{WriteImage, OpenImage, step}
 use Rattle.rules.specs.Memory.{Memory, memory, heapIn, lengthsFit, Result, filling, withBuffer, AcceptedIn, perform}
-use Rattle.rules.proofs.Refusals.{first-last, roots-pass}
+use Rattle.rules.proofs.Refusals.{shape-lengths, first-last, roots-pass}
 use Rattle.rules.proofs.Memory.{perform-accepted, passes-in, accepted-sound, follows-accepted}
 use Rattle.rules.proofs.Planes.{length-entriesIn, planes-faithful}
 use Rattle.rules.proofs.Images.{block-at, length-used}
@@ -88,15 +88,7 @@ module _ (t base room : ℕ) (roots : List ℕ) (m : Memory) (accepted : Accepte
       let s = good .shape in
       record {
         faultless = image-faultless base h roots s small fours whole-words few-roots;
-        shape = rw base-is
-            (record {
-              some = omega (arith, s .some, entries);
-              few = omega (arith, s .few, entries);
-              pool = omega (arith, s .pool, pools, entries);
-              aligned = s .aligned;
-              above = s .above;
-              below = omega (arith, s .below, entries);
-            });
+        shape = rw base-is (shape-lengths base h h′ (sym pools) (sym entries) s);
         long = ap length entries-are ∙ sym entries;
         words = words;
         well = ap wellFormed entries-are ∙ good .well;

@@ -1,6 +1,6 @@
 -- What the opening of an image knows once it is not refused.
 -- Assumes nothing.
-use mathlib.Core.Path.{_≡_, refl, ap, _∙_}
+use mathlib.Core.Path.{_≡_, refl, sym, ap, _∙_}
 use mathlib.Core.Bool.{true, not}
 use mathlib.Core.List.{List, [], _∷_, _++_}
 use Prim.Native.Nat.{ℕ, _%_, _≤_}
@@ -14,7 +14,7 @@ use Rattle.rules.specs.Refusals.{Test, firstOf, goodShape, firstTests, b
 use Rattle.rules.specs.Files.{File, sectionTests, fileOf, fileTests, faultOf, entriesFor, baseOf, heapOfFile, rootsOf}
 use Rattle.rules.specs.Calls.{goodTarget, openTests}
 use Rattle.rules.specs.Meaning.{Shape, Passed}
-use Rattle.rules.proofs.Refusals.{both-left, both-right, shape-true, shape-of, first-none, first-no, first-last, first-more, first-neither, first-passed}
+use Rattle.rules.proofs.Refusals.{both-left, both-right, shape-true, shape-of, shape-lengths, first-none, first-no, first-last, first-more, first-neither, first-passed}
 use Rattle.rules.proofs.Files.{length-pool}
 use Rattle.rules.proofs.Faults.{Faultless, faultless, no-fault, length-blocks}
 
@@ -65,16 +65,6 @@ module _ (h : Heap) (image : List ℕ) (room : ℕ) where
 -- the heap that is opened has a good shape and is well-formed
 pub opened-passed : (h : Heap) (image : List ℕ) (room : ℕ) → Opens h image room → Passed (baseOf (fileOf image)) (heapOfFile (fileOf image))
 opened-passed h image room o =
-    let s = o .shape in
     let f : File = fileOf image in
-    record {
-      shape = record {
-        some = omega (arith, s .some, o .long);
-        few = omega (arith, s .few, o .long);
-        pool = length-pool (entriesFor (f .table)) (f .blocks .body) (omega (arith, length-blocks image (o .faultless)));
-        aligned = s .aligned;
-        above = s .above;
-        below = omega (arith, s .below, o .long);
-      };
-      well = o .well;
-    }
+    let pool = length-pool (entriesFor (f .table)) (f .blocks .body) (omega (arith, length-blocks image (o .faultless))) in
+    record { shape = shape-lengths (baseOf f) h (heapOfFile f) (omega (arith, pool, o .long, o .shape .pool)) (sym (o .long)) (o .shape); well = o .well }

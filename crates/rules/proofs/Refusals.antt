@@ -156,6 +156,17 @@ unfolding goodShape goodBase addressOf
 shape-of base h s =
     rw (le-leb _ _ (s .some), le-leb _ _ (s .few), eq-eqb _ _ (s .pool), eq-eqb _ _ (s .aligned), le-leb _ _ (s .above), le-leb _ _ (s .below))
 
+-- it is that of the lengths
+pub shape-lengths : (base : ℕ) (h h′ : Heap) → length (h .pool) ≡ length (h′ .pool) → length (h .entries) ≡ length (h′ .entries) → Shape base h → Shape base h′
+shape-lengths base h h′ pools entries s = record {
+  some = omega (arith, s .some, entries);
+  few = omega (arith, s .few, entries);
+  pool = omega (arith, s .pool, pools, entries);
+  aligned = s .aligned;
+  above = s .above;
+  below = omega (arith, s .below, entries);
+}
+
 pub shape-not : (base : ℕ) (h : Heap) → (Shape base h → ⊥) → goodShape base h ≡ false
 shape-not base h f = not-so (goodShape base h) (λ t. f (shape-true base h t))
 
