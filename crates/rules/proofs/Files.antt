@@ -8,7 +8,7 @@ use Prim.Native.Nat.{ℕ, zero, suc, _+_, _*_, _≤_, _<_}
 use native.Mathlib.Decide.{decLt}
 use native.Mathlib.Omega.{arith}
 use lib.ListN.{length, getD, take, drop, replicate, length-append, length-drop, take-append-drop, getD-replicate, List·getD-eq-default}
-use lib.Seq.{take-all, take-add, length-take-le, drop-drop, take-at, drop-append-add, take-append-seam, drop-append-seam}
+use lib.Seq.{take-all, take-add, length-take-le, drop-drop, take-at, drop-append-add}
 use borrow.Author.Tests.{eq-eqb, ne-eqb}
 use Rattle.rules.specs.Tests.{pick, count}
 use Rattle.rules.specs.Meaning.{AllBytes}
@@ -136,10 +136,6 @@ pool-split (suc n) (e ∷ es) bs = go (pool-split n es) (isFree e) refl
         let e : 16 * suc (used (take n es)) ≡ 16 + 16 * used (take n es) = omega arith in
         rw (f, rest (drop 16 bs), e, ← drop-drop (16 * used (take n es)) 16 bs)
         (sym (append-assoc (take 16 bs) (poolOf (take n es) (drop 16 bs)) (poolOf (drop n es) (drop (16 * used (take n es)) (drop 16 bs)))))
-
--- that of two parts of the table, one after the other
-pub pool-append : (es fs bs : List ℕ) → poolOf (es ++ fs) bs ≡ poolOf es bs ++ poolOf fs (drop (16 * used es) bs)
-pool-append es fs bs = rw (take-append-seam es fs, drop-append-seam es fs) at (pool-split (length es) (es ++ fs) bs)
 
 -- that of blocks of which none is FREE is bytes alone
 pub pool-run : (es bs : List ℕ) → ((i : ℕ) → i < length es → entryAt es i ≢ FREE) → poolOf es bs ≡ take (16 * length es) bs

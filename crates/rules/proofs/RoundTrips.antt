@@ -2,7 +2,7 @@
 -- Assumes nothing.
 use mathlib.Core.Path.{_≡_, refl, sym, ap, _∙_}
 use mathlib.Core.List.{List, [], _∷_, _++_, append-assoc, append-nil}
-use Prim.Native.Nat.{ℕ, _+_, _*_, _/_, _%_, _≤_, _<_}
+use Prim.Native.Nat.{ℕ, _*_, _/_, _%_, _≤_, _<_}
 use native.Mathlib.Omega.{arith}
 use lib.ListN.{length, length-append, take-append-drop}
 use lib.Seq.{take-at, drop-at, take-all}
@@ -24,14 +24,14 @@ use Rattle.rules.proofs.Faults.{Whole, length-body, bytes-body, bytes-r
 -- ---- one section
 
 -- what was written is read: the count, the body and what is behind it
-pub read-section : (k : Kind) (n : ℕ) (body rest : List ℕ) → n < 65536 → length body ≡ k .size * n
+read-section : (k : Kind) (n : ℕ) (body rest : List ℕ) → n < 65536 → length body ≡ k .size * n
     → sectionIn k (section n body ++ rest) ≡ record { count = n; body = body; rest = rest }
 unfolding sectionIn section
 read-section k n body rest few long =
     rw (append-assoc (twoBytesOf n) body rest, firstTwo-back n (body ++ rest) few, drop-two n (body ++ rest), take-at body rest (k .size * n) long, drop-at body rest (k .size * n) long)
 
 -- and it is whole
-pub whole-read : (k : Kind) (n : ℕ) (body rest : List ℕ) → n < 65536 → length body ≡ k .size * n → k .fewest ≤ n → n ≤ k .most → Whole k (section n body ++ rest)
+whole-read : (k : Kind) (n : ℕ) (body rest : List ℕ) → n < 65536 → length body ≡ k .size * n → k .fewest ≤ n → n ≤ k .most → Whole k (section n body ++ rest)
 unfolding section
 whole-read k n body rest few long least most =
     let c = firstTwo-back n (body ++ rest) few in
@@ -46,7 +46,7 @@ whole-last : (k : Kind) (n : ℕ) (body : List ℕ) → n < 65536 → length bod
 whole-last k n body few long least most = rw (append-nil (section n body)) at (whole-read k n body [] few long least most)
 
 -- what is read was written: the section with that count and body, and what is behind it
-pub split-section : (k : Kind) (bs : List ℕ) → AllBytes bs → Whole k bs → bs ≡ section (sectionIn k bs .count) (sectionIn k bs .body) ++ sectionIn k bs .rest
+split-section : (k : Kind) (bs : List ℕ) → AllBytes bs → Whole k bs → bs ≡ section (sectionIn k bs .count) (sectionIn k bs .body) ++ sectionIn k bs .rest
 unfolding sectionIn section
 split-section k [] bytes w = absurd (omega (arith, w .long))
 split-section k (a ∷ []) bytes w = absurd (omega (arith, w .long))
@@ -110,7 +110,7 @@ module _ (image : List ℕ) (bytes : AllBytes image) (g : Faultless image) where
   unfolding fileOf sectionIn
   root-count = omega (arith, length-body rootWords (f .blocks .rest) (g .roots))
 
-  pub file-sections : image ≡ sections (baseOf f) es (f .blocks .body) (rootsOf f)
+  file-sections : image ≡ sections (baseOf f) es (f .blocks .body) (rootsOf f)
   unfolding sections
   file-sections = counted ∙ rw (base-count, base-bytes, table-count, table-bytes, block-count, root-count)
 

@@ -47,7 +47,7 @@ pub record LiesAt (k : Kind) (image : List ℕ) (at : ℕ) (s : Section) : Type 
   pub body : s .body ≡ take (k .size * s .count) (drop (at + 2) image)
   pub rest : s .rest ≡ drop (at + 2 + k .size * s .count) image
 
-pub lies-at : (k : Kind) (image : List ℕ) (at : ℕ) → 0 < k .wrong → firstOf (sectionTests k (drop at image)) ≡ 0 → LiesAt k image at (sectionIn k (drop at image))
+lies-at : (k : Kind) (image : List ℕ) (at : ℕ) → 0 < k .wrong → firstOf (sectionTests k (drop at image)) ≡ 0 → LiesAt k image at (sectionIn k (drop at image))
 unfolding sectionIn
 lies-at k image at numbered e =
     let n : ℕ = firstTwo (drop at image) in

@@ -149,16 +149,13 @@ all-used = rw all-lanes (count-all isUsed 64 1 refl)
 
 -- `bits` has a bit where one of the entry's two is set
 module _ (es : List ℕ) (i low high bits : ℕ) (g : InGroup es i low high) (either-bit : (j : ℕ) → bitOf bits j ≡ max (bitOf low j) (bitOf high j)) where
-  alike : (j : ℕ) → isFree (entryAt (groupIn es i) j) ≡ isFree (entryAt (lanes bits) j)
-  alike = group-alike [] es i low high bits g either-bit
-
   pub group-used : used (groupIn es i) ≡ used (lanes bits)
-  group-used = as-many (groupIn es i) (lanes bits) alike
+  group-used = as-many (groupIn es i) (lanes bits) (group-alike [] es i low high bits g either-bit)
 
   -- all have one
   module _ (all : bits ≡ 18446744073709551615) where
     each-used : (j : ℕ) → j < 64 → entryAt (groupIn es i) j ≢ FREE
-    each-used j l = eqb-false (entryAt (groupIn es i) j) FREE (alike j ∙ rw (all, all-lanes) (ap isFree (getD-replicate 64 j 1 FREE l)))
+    each-used j l = eqb-false (entryAt (groupIn es i) j) FREE (group-alike [] es i low high bits g either-bit j ∙ rw (all, all-lanes) (ap isFree (getD-replicate 64 j 1 FREE l)))
 
     group-full : length (groupIn es i) ≡ 64
     group-full = omega (arith, length-take 64 (drop (64 * i) es), entry-inside (groupIn es i) 63 (each-used 63 (omega arith)))
@@ -176,7 +173,7 @@ module _ (es : List ℕ) (i low high bits : ℕ) (g : InGroup es i low high) (ei
   pub group-pool : (pool bs : List ℕ) → 16 * used (groupIn es i) ≤ length bs → withUsed (sets pool (16 * (64 * i)) (replicate (16 * length (groupIn es i)) 0)) (64 * i) (lanes bits) bs ≡ sets pool (1024 * i) (poolOf (groupIn es i) bs)
   group-pool pool bs room =
       let at : 16 * (64 * i) ≡ 1024 * i = omega arith in
-      sym (with-alike (sets pool (16 * (64 * i)) (replicate (16 * length (groupIn es i)) 0)) (64 * i) (groupIn es i) (lanes bits) bs alike) ∙ with-zeros pool (64 * i) (groupIn es i) bs room ∙ rw at
+      sym (with-alike (sets pool (16 * (64 * i)) (replicate (16 * length (groupIn es i)) 0)) (64 * i) (groupIn es i) (lanes bits) bs (group-alike [] es i low high bits g either-bit)) ∙ with-zeros pool (64 * i) (groupIn es i) bs room ∙ rw at
 
 -- ---- all, 64 blocks at a time
 

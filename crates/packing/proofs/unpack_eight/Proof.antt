@@ -14,7 +14,7 @@ use Rattle.rules.specs.Planes.{planeBytes, entryIn}
 use Rattle.rules.proofs.Bits.{eight}
 use Rattle.entries.specs.Groups.{lane}
 use Rattle.entries.proofs.Holding.{both-stored, both-kept}
-use Rattle.packing.specs.Packing.{Gathered, UnpackedTo, UnpacksOn}
+use Rattle.packing.specs.Packing.{Gathered, UnpacksOn}
 use Rattle.packing.proofs.unpack_eight.Statement.{statement}
 use Rattle.packing.proofs.unpack_eight.Tie as tie
 
