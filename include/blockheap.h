@@ -4,7 +4,8 @@
  *
  * THE HEAP
  *
- * The library has no memory of its own. Every call is handed the whole heap:
+ * The library has no memory of its own. Every call is handed the whole heap
+ * (blockheap_open_image all but the base, which it answers):
  *
  *   base, t, pool, pool_len, table, table_len
  *
@@ -24,9 +25,9 @@
  *   block number divisible by 4. New objects, and those that grow or move, take
  *   aligned runs: large ones, of four blocks or more, begin at a multiple of 64
  *   bytes in the pool. If base is a multiple of 64, so are their addresses; if
- *   the pool itself lies at a multiple of 64, so do their bytes. A table that
- *   other programs made may have large objects that begin elsewhere. They are
- *   valid, and stay where they are until they grow.
+ *   the pool itself lies at a multiple of 64, so do their bytes. A table or an
+ *   image that other programs made may have large objects that begin elsewhere.
+ *   They are valid, and stay where they are until they grow.
  * - A word is 32 bits, lowest byte first on every host. An object of b blocks
  *   has words 0 to 4 * b - 1.
  * - A word is a pointer if it equals the address of a block of an object, head

@@ -480,7 +480,7 @@ static const uint8_t one_block[33] = {
     0x01, 0x00, 0, 0, 0, 0, 0, 0, 0, 0, 0, 0, 0, 0, 0, 0, 0, 0,
     0x01, 0x00, 0x00, 0x10, 0x00, 0x00};
 
-/* Whether every call on a heap but init is refused so, and writes neither pool, mark stack nor image. */
+/* Whether every call but init and an opening is refused so, and writes neither pool, mark stack nor image. */
 static bool calls_refuse(uint32_t refusal)
 {
     enum { OUTPUT = 300 };
@@ -501,8 +501,8 @@ static bool calls_refuse(uint32_t refusal)
         && all_are("image byte", image, OUTPUT, 0xEE);
 }
 
-/* A spare bit that is 1: every call on a heap but init refuses the table and leaves it as it was, and init
- * clears it. */
+/* A spare bit that is 1: every call but init and an opening refuses the table and leaves it as it was, and
+ * init clears it. */
 static bool refuses_spare_bit(size_t plane, unsigned bit)
 {
     uint8_t before[4];

@@ -52,7 +52,7 @@ again base roots stack = collectIn (planes 3) base roots stack (from rootsCE [] 
 
 pub record Computed : Type 0 where
   pub usable-lossy : Usable lossy sampleBase m
-  -- a second free of B, a free of its TAIL, one at base 0, one in a table that only init accepts, and one of B after C in the form that loses its table
+  -- a second free of B, a free of its TAIL, one at base 0, one in a table that only init and an opening accept, and one of B after C in the form that loses its table
   pub b-twice : freeIn (planes 3) sampleBase 1 (freeIn (planes 3) sampleBase 1 m .memory) .answer .refusal ≡ 7
   pub tail : freeIn (planes 3) sampleBase 2 m .answer .refusal ≡ 7
   pub base-0 : freeIn (planes 3) 0 1 m .answer .refusal ≡ 1

@@ -78,7 +78,7 @@ rootE = bytesOf (addressAt 8)
 abbrev pub torn : List ℕ → List ℕ
 torn roots = roots ++ 0 ∷ []
 
--- the same heap with a TAIL in block 0, which no call but init accepts
+-- the same heap with a TAIL in block 0, which no call but init and an opening accepts
 abbrev pub tailFirst : Memory
 tailFirst = withEntries (planes 3) (TAIL ∷ HEAD ∷ TAIL ∷ TAIL ∷ HEAD ∷ TAIL ∷ HEAD ∷ FREE ∷ HEAD ∷ TAIL ∷ HEAD ∷ TAIL ∷ [])
 

@@ -42,7 +42,7 @@ fn is_sound(t: usize, table: &[u8]) -> bool
     whole::well_formed(t, table)
 }
 
-// Refusals 1 and 2, of every call but init.
+// Refusals 1 and 2, of every call but init and an opening.
 pub fn heap(base: Address, t: usize, pool: &[u8], table: &[u8]) -> u32
     ensures { λ r. ⌜ r ≡ refusalBy t (now (pool .entry)) (now (table .entry)) (λ (h : Heap). heapTests (base .0) h) ⌝ }
 {

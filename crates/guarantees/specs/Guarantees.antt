@@ -77,9 +77,9 @@ pub record Guarantees : Type 2 where
   pub collect-idempotent : CollectIdempotent
   -- What is not reachable has no influence on any later list of calls: not on an answer, an image, the table or a used block.
   pub noninterference : Noninterference
-  -- From an accepted init on, every list of calls is answered as a plain list of objects answers it, and each image is that of the list's objects; a collection of that list keeps exactly what is reachable in it.
+  -- From an accepted init or opening on, every list of calls is answered as a plain list of objects answers it, and each image is that of the list's objects; a collection of that list keeps exactly what is reachable in it.
   pub answers-as-list : AnswersAsList
   pub images-as-list : ImagesAsList
   pub list-keeps-reachable : ListKeepsReachable
-  -- The used blocks are the sum of all answered changes since the latest accepted init.
+  -- The used blocks are those after the latest accepted init or opening and the sum of all changes answered since.
   pub used-is-sum : UsedIsSum

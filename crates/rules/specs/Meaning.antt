@@ -127,7 +127,7 @@ pub record ShapeInBytes (base t : ℕ) (pool table : List ℕ) : Type 0 where
   pub above : 16 ≤ base
   pub below : base + 64 * t ≤ 2 ^ 32
 
--- what every call but init knows of its heap once it is not refused
+-- what every call but init and an opening knows of its heap once it is not refused
 pub record Passed (base : ℕ) (h : Heap) : Type 0 where
   pub shape : Shape base h
   pub well : wellFormed (h .entries) ≡ true

@@ -32,7 +32,8 @@ pub struct Collected {
 #[derive(Clone, Copy, Debug, PartialEq, Eq)]
 #[non_exhaustive]
 pub struct Survey {
-    /// The used blocks: the sum of all changes since the last accepted init.
+    /// The used blocks: the sum of all changes since the last accepted init, or of these and the image's
+    /// used blocks since an opening.
     pub used: u32,
     /// The objects.
     pub objects: u32,

@@ -78,7 +78,7 @@ extern "C" {
     ) -> u32;
 }
 
-/// What every call is handed.
+/// What every call is handed; an opening sets the base.
 #[derive(Debug)]
 pub(crate) struct Lent<'m> {
     pub base: Address,

@@ -55,7 +55,8 @@ fn a_heap_without_spare_bits_set_is_accepted() {
     }
 }
 
-/// The calls on a heap of this t with these spare bits set: all but init are refused, and change no byte.
+/// Calls on a heap of this t with these spare bits set: all that read its table are refused, and change no
+/// byte.
 fn refuses_spare_bits(t: u64, spares: &[SpareBit]) {
     let mut lent = heap(t);
     spares.iter().for_each(|spare| lent.set_spare(*spare, 1));
@@ -70,7 +71,7 @@ fn refuses_spare_bits(t: u64, spares: &[SpareBit]) {
 }
 
 #[test]
-fn each_spare_bit_is_refused_by_every_call_but_init() {
+fn each_spare_bit_is_refused_by_every_call_that_reads_the_table() {
     for t in [1, 3, 5, 7, 9, 15, 17, 31, 33, 127, 129, 1021, 1023] {
         for spare in SpareBit::all() {
             refuses_spare_bits(t, &[spare]);
