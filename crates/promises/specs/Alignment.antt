@@ -28,7 +28,7 @@ pub record Older (before after : Heap) (o : ℕ) : Type 0 where
 abbrev pub NewAligned : Heap → Heap → Type 0
 NewAligned before after = (o : ℕ) → Object after o → Aligned (blocksOf after o) o ⊎ Older before after o
 
--- a file that can be opened has only such objects
+-- a file without a fault, whose table is well-formed, has only such objects
 abbrev pub FileAligned : List ℕ → Type 0
 FileAligned image = faultOf image ≡ 0 → wellFormed (heapOfFile (fileOf image) .entries) ≡ true → AllAligned (heapOfFile (fileOf image))
 
