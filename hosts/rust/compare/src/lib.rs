@@ -9,6 +9,7 @@ mod check;
 mod coverage;
 mod difference;
 mod draw;
+pub mod expect;
 pub mod files;
 mod guarded;
 pub mod image;

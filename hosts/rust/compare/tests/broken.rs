@@ -1096,13 +1096,18 @@ fn clears_a_spare_bit_in_a_refusal(spare: SpareBit, call: &Call, lent: &mut Lent
     reply
 }
 
-fn leaves_a_spare_bit_at_init(spare: SpareBit, call: &Call, lent: &mut Lent) -> Reply {
+/// As a right heap, but for this spare bit where one call should clear it.
+fn leaves_a_spare_bit(wrong: &Call, spare: SpareBit, call: &Call, lent: &mut Lent) -> Reply {
     let set = is_set(lent, spare);
     let reply = second(call, lent);
-    if let (0, Call::Init, true) = (reply.refusal, call, set) {
+    if reply.refusal == 0 && call == wrong && set {
         lent.set_spare(spare, 1);
     }
     reply
+}
+
+fn leaves_a_spare_bit_at_init(spare: SpareBit, call: &Call, lent: &mut Lent) -> Reply {
+    leaves_a_spare_bit(&Call::Init, spare, call, lent)
 }
 
 fn sets_a_spare_bit_at_init(spare: SpareBit, call: &Call, lent: &mut Lent) -> Reply {
@@ -1130,14 +1135,8 @@ fn refuses_a_spare_bit_at_init(spare: SpareBit, call: &Call, lent: &mut Lent) ->
     second(call, lent)
 }
 
-/// As an opening by a right heap, but for this spare bit of the lent table.
 fn leaves_a_spare_bit_at_an_opening(spare: SpareBit, call: &Call, lent: &mut Lent) -> Reply {
-    let set = is_set(lent, spare);
-    let reply = second(call, lent);
-    if let (0, Call::OpenImage, true) = (reply.refusal, call, set) {
-        lent.set_spare(spare, 1);
-    }
-    reply
+    leaves_a_spare_bit(&Call::OpenImage, spare, call, lent)
 }
 
 fn refuses_a_spare_bit_at_an_opening(spare: SpareBit, call: &Call, lent: &mut Lent) -> Reply {
@@ -1590,7 +1589,23 @@ fn answers_the_length_of_the_output(call: &Call, lent: &mut Lent) -> Reply {
     reply
 }
 
-/// A right heap that refuses an image so where the test says it, in the place of these right answers.
+/// A right heap that refuses one call so where the test says it, in the place of these right answers.
+fn refused_instead(
+    call: &Call,
+    wrong: &Call,
+    lent: &mut Lent,
+    number: u32,
+    right: &[u32],
+    test: impl Fn(&Lent) -> bool,
+) -> Reply {
+    let refusal = second(call, &mut lent.clone()).refusal;
+    if call == wrong && right.contains(&refusal) && test(lent) {
+        return Reply::refused(call, number);
+    }
+    second(call, lent)
+}
+
+/// An image is refused so.
 fn image_refused(
     call: &Call,
     lent: &mut Lent,
@@ -1598,11 +1613,7 @@ fn image_refused(
     right: &[u32],
     test: impl Fn(&Lent) -> bool,
 ) -> Reply {
-    let refusal = second(call, &mut lent.clone()).refusal;
-    if *call == Call::WriteImage && right.contains(&refusal) && test(lent) {
-        return Reply::refused(call, number);
-    }
-    second(call, lent)
+    refused_instead(call, &Call::WriteImage, lent, number, right, test)
 }
 
 fn takes_no_longer_output(call: &Call, lent: &mut Lent) -> Reply {
@@ -1678,7 +1689,7 @@ fn open_sections(call: &Call, lent: &mut Lent, change: impl Fn(&mut [Section])) 
     })
 }
 
-/// A right heap that refuses an opening so where the test says it, in the place of these right answers.
+/// The same of an opening.
 fn open_refused(
     call: &Call,
     lent: &mut Lent,
@@ -1686,11 +1697,7 @@ fn open_refused(
     right: &[u32],
     test: impl Fn(&Lent) -> bool,
 ) -> Reply {
-    let refusal = second(call, &mut lent.clone()).refusal;
-    if *call == Call::OpenImage && right.contains(&refusal) && test(lent) {
-        return Reply::refused(call, number);
-    }
-    second(call, lent)
+    refused_instead(call, &Call::OpenImage, lent, number, right, test)
 }
 
 /// A right opening, after which more is done: with what was lent before, and with the sections of the file.

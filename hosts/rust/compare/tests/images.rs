@@ -1,38 +1,15 @@
 //! Images: every length of the output, the order of the refusals, every size of heap, counts of two bytes,
 //! and used blocks at every place. What is right is read from table and pool block by block.
 
+use compare::expect::{heap, heap_in_use, refuses, roots, same_bytes};
 use compare::image::file;
 use compare::planes::{FREE, HEAD, MARK, TAIL};
-use compare::Buffer::{self, Image, Pool, Roots};
+use compare::Buffer::{Image, Pool, Roots};
 use compare::{compare, library, second, wrapper, Call, Guarded, Lent, Reply, Subject};
 
 const SUBJECTS: [Subject; 3] = [&library, &wrapper, &second];
 const MOST_ROOTS: usize = 4096;
 const LONGEST: usize = 82_956;
-
-/// A heap of this t with free blocks, in whose pool no byte is like the one before.
-fn heap(t: u64) -> Lent {
-    let mut lent = Lent::empty(0x2000_0000, t);
-    lent[Pool].iter_mut().zip((1..=251).cycle()).for_each(|(byte, value)| *byte = value);
-    lent
-}
-
-/// The same with objects of one to five blocks and gaps of up to three.
-fn heap_in_use(t: u64) -> Lent {
-    let mut lent = heap(t);
-    let (mut start, mut blocks) = (1, 1);
-    while start + blocks <= lent.blocks() {
-        lent.set_object(start..start + blocks);
-        start += blocks + blocks % 4;
-        blocks = blocks % 5 + 1;
-    }
-    lent
-}
-
-/// So many roots, which are no addresses of the heap.
-fn roots(count: usize) -> Vec<u32> {
-    (0..count as u32).map(|root| 0xA1B2_C3D4 ^ root).collect()
-}
 
 /// The image is written to an output of its length and to one that is a byte longer, and nothing beside it.
 fn has_right_image(subject: Subject, lent: &mut Lent) {
@@ -47,26 +24,11 @@ fn has_right_image(subject: Subject, lent: &mut Lent) {
     }
 }
 
-/// The call is refused by the number, and every byte stays.
-fn refuses(subject: Subject, lent: &Lent, number: u32) {
-    let mut after = lent.clone();
-    let reply = subject(&Call::WriteImage, &mut after);
-    assert_eq!(reply, Reply::refused(&Call::WriteImage, number), "{lent}");
-    same_bytes(&after, lent);
-}
-
-fn same_bytes(lent: &Lent, expected: &Lent) {
-    for buffer in Buffer::ALL {
-        assert!(lent[buffer].intact(), "beside the {buffer} of {lent}");
-        assert!(lent[buffer][..] == expected[buffer][..], "the {buffer} of {lent}");
-    }
-}
-
 /// Outputs of these lengths, which are shorter than the image, are refused by 10; one of its length is not.
 fn needs_each_byte(lent: &mut Lent, lengths: impl IntoIterator<Item = usize>) {
     for length in lengths {
         lent.set_output(length);
-        SUBJECTS.iter().for_each(|subject| refuses(subject, lent, 10));
+        SUBJECTS.iter().for_each(|subject| refuses(subject, &Call::WriteImage, lent, 10));
     }
     SUBJECTS.iter().for_each(|subject| has_right_image(subject, lent));
 }
@@ -146,7 +108,9 @@ fn the_lowest_number_is_given() {
             let numbers = [10, 3, 2, 1].into_iter().zip(0..).filter(|(_, bit)| set >> bit & 1 == 1);
             let numbers: Vec<u32> = numbers.map(|(number, _)| number).collect();
             let lowest = *numbers.last().expect("a number");
-            wrong_for(&numbers).iter().for_each(|lent| refuses(subject, lent, lowest));
+            wrong_for(&numbers)
+                .iter()
+                .for_each(|lent| refuses(subject, &Call::WriteImage, lent, lowest));
         }
         wrong_for(&[]).iter_mut().for_each(|lent| has_right_image(subject, lent));
     }

@@ -2,10 +2,11 @@
 //! every size of heap, what is lent, and a fuzzing run. Files are lent beside pages that cannot be touched,
 //! and after each refusal every lent byte is compared. BLOCKHEAP_FILES asks for more files.
 
+use compare::expect::{heap, heap_in_use, refuses, roots, same_bytes};
 use compare::files::run_files;
 use compare::image::{bytes_of, file, Section};
 use compare::planes::{entries_in, table_bytes, SpareBit, FREE, HEAD, MARK};
-use compare::Buffer::{self, Image, Pool, Roots, Table};
+use compare::Buffer::{Image, Pool, Roots, Table};
 use compare::{compare, library, noise, second, wanted, wrapper};
 use compare::{Call, Coverage, Guarded, Lent, Random, Reply, Subject};
 use std::collections::BTreeMap;
@@ -14,30 +15,11 @@ const SUBJECTS: [Subject; 3] = [&library, &wrapper, &second];
 const MOST_ROOTS: usize = 4096;
 const FILES: u64 = 300_000;
 
-/// A heap of this t with free blocks, in whose pool no byte is like the one before.
-fn heap(t: u64) -> Lent {
-    let mut lent = Lent::empty(0x2000_0000, t);
-    lent[Pool].iter_mut().zip((1..=251).cycle()).for_each(|(byte, value)| *byte = value);
+/// A heap in use, with so many roots.
+fn heap_with_roots(t: u64, count: usize) -> Lent {
+    let mut lent = heap_in_use(t);
+    lent.set_roots(&roots(count));
     lent
-}
-
-/// The same with objects of one to five blocks and gaps of up to three, and so many roots.
-fn heap_in_use(t: u64, roots: usize) -> Lent {
-    let mut lent = heap(t);
-    let (mut start, mut blocks) = (1, 1);
-    while start + blocks <= lent.blocks() {
-        lent.set_object(start..start + blocks);
-        start += blocks + blocks % 4;
-        blocks = blocks % 5 + 1;
-    }
-    set_roots(&mut lent, roots);
-    lent
-}
-
-/// So many roots, which are no addresses of the heap.
-fn set_roots(lent: &mut Lent, count: usize) {
-    let words: Vec<u32> = (0..count as u32).map(|root| 0xA1B2_C3D4 ^ root).collect();
-    lent.set_roots(&words);
 }
 
 fn image_of(heap: &Lent) -> Vec<u8> {
@@ -77,18 +59,8 @@ fn opens(subject: Subject, heap: &Lent, mut lent: Lent) {
 }
 
 /// What is lent is refused by the number, and every byte stays.
-fn refuses(subject: Subject, lent: &Lent, number: u32) {
-    let mut after = lent.clone();
-    let reply = subject(&Call::OpenImage, &mut after);
-    assert_eq!(reply, Reply::refused(&Call::OpenImage, number), "{lent}");
-    same_bytes(&after, lent);
-}
-
-fn same_bytes(lent: &Lent, expected: &Lent) {
-    for buffer in Buffer::ALL {
-        assert!(lent[buffer].intact(), "beside the {buffer} of {lent}");
-        assert!(lent[buffer][..] == expected[buffer][..], "the {buffer} of {lent}");
-    }
+fn unopened(subject: Subject, lent: &Lent, number: u32) {
+    refuses(subject, &Call::OpenImage, lent, number);
 }
 
 /// The refusal number. All else is compared with the plain-list heap, each lent byte too.
@@ -101,7 +73,7 @@ fn refusal(subject: Subject, lent: &Lent) -> u32 {
 /// Heaps of several sizes, empty and in use, without and with roots.
 fn several_heaps() -> Vec<Lent> {
     let sizes = [1, 2, 3, 8, 21];
-    let in_use = sizes.iter().flat_map(|t| [0, 1, 9].map(|roots| heap_in_use(*t, roots)));
+    let in_use = sizes.iter().flat_map(|t| [0, 1, 9].map(|roots| heap_with_roots(*t, roots)));
     sizes.iter().map(|t| heap(*t)).chain(in_use).collect()
 }
 
@@ -112,7 +84,7 @@ fn every_prefix_of_an_image_is_truncated() {
         let (image, entries) = (image_of(&heap), heap[Roots].len() / 4);
         for length in 0..image.len() {
             let lent = with_file(memory(heap.t, entries), &image[..length]);
-            SUBJECTS.iter().for_each(|subject| refuses(subject, &lent, 14));
+            SUBJECTS.iter().for_each(|subject| unopened(subject, &lent, 14));
             prefixes += 1;
         }
         SUBJECTS.iter().for_each(|subject| opens(subject, &heap, memory(heap.t, entries)));
@@ -124,7 +96,7 @@ fn every_prefix_of_an_image_is_truncated() {
 fn prefixes_of_the_longest_image_are_truncated() {
     let mut heap = heap(1024);
     heap.set_object(0..4096);
-    set_roots(&mut heap, MOST_ROOTS);
+    heap.set_roots(&roots(MOST_ROOTS));
     let image = image_of(&heap);
     assert_eq!(image.len(), blockheap::MAX_IMAGE_BYTES);
     let mut lent = memory(1024, MOST_ROOTS);
@@ -171,7 +143,7 @@ fn counts_at(heap: &Lent) -> [usize; 4] {
 /// In the whole file, and where the file ends with it: a wrong one is told before its items.
 #[test]
 fn every_count_is_read_as_the_second_heap_reads_it() {
-    let heap = heap_in_use(3, 2);
+    let heap = heap_with_roots(3, 2);
     let (image, used) = (image_of(&heap), heap.used().count() as u16);
     let sections = [(1..=1, 15), (1..=1024, 15), (used..=used, 15), (0..=4096, 3)];
     for (at, (may_be, wrong)) in counts_at(&heap).into_iter().zip(sections) {
@@ -248,7 +220,7 @@ fn extend(lent: &mut Lent, bytes: &[u8]) {
 /// In each set of faults, the first one counts.
 #[test]
 fn the_first_fault_counts() {
-    let mut heap = heap_in_use(3, 2);
+    let mut heap = heap_with_roots(3, 2);
     heap.set_object(0..1);
     let right = with_file(memory(3, 2), &image_of(&heap));
     for set in 1..1 << FAULTS.len() {
@@ -260,7 +232,7 @@ fn the_first_fault_counts() {
                 *number
             })
             .collect();
-        SUBJECTS.iter().for_each(|subject| refuses(subject, &lent, numbers[0]));
+        SUBJECTS.iter().for_each(|subject| unopened(subject, &lent, numbers[0]));
     }
     SUBJECTS.iter().for_each(|subject| opens(subject, &heap, memory(3, 2)));
 }
@@ -269,7 +241,7 @@ fn the_first_fault_counts() {
 fn every_size_of_heap_opens() {
     for t in 1..=1024 {
         opens(&library, &heap(t), memory(t, 0));
-        opens(&library, &heap_in_use(t, 3), memory(t, 3));
+        opens(&library, &heap_with_roots(t, 3), memory(t, 3));
         let mut full = heap(t);
         full.set_object(0..4 * t);
         opens(&library, &full, memory(t, 1));
@@ -286,7 +258,7 @@ fn counts_have_two_bytes() {
         for t in [255, 256, 257, 1023, 1024].into_iter().filter(|t| used <= 4 * t) {
             let mut heap = heap(t);
             heap.set_entries(4 * t - used..4 * t, HEAD);
-            set_roots(&mut heap, count);
+            heap.set_roots(&roots(count));
             opens(&library, &heap, memory(t, count));
         }
     }
@@ -317,7 +289,7 @@ fn used_blocks_are_put_at_every_place() {
 #[test]
 fn a_list_of_every_length_is_taken_or_refused() {
     for roots in [0, 1, 2, 9, MOST_ROOTS] {
-        let heap = heap_in_use(2, roots);
+        let heap = heap_with_roots(2, roots);
         let image = image_of(&heap);
         let around = roots.saturating_sub(3)..=roots + 3;
         for entries in around.chain([0, 4095, 4096, 4097, 5000, 20_000]) {
@@ -325,12 +297,12 @@ fn a_list_of_every_length_is_taken_or_refused() {
                 if entries >= roots {
                     opens(subject, &heap, memory(2, entries));
                 } else {
-                    refuses(subject, &with_file(memory(2, entries), &image), 17);
+                    unopened(subject, &with_file(memory(2, entries), &image), 17);
                 }
                 for piece in 1..4 {
                     let mut lent = with_file(memory(2, 0), &image);
                     lent[Roots] = Guarded::new(&vec![0x96; 4 * entries + piece]);
-                    refuses(subject, &lent, 1);
+                    unopened(subject, &lent, 1);
                 }
             }
         }
@@ -350,7 +322,7 @@ fn the_base_rule_is_that_of_the_calls() {
         for base in inside.chain([0, highest + 16, (1 << 32) - 16]) {
             let heap = Lent { base, ..heap(t) };
             let lent = with_file(memory(t, 0), &image_of(&heap));
-            SUBJECTS.iter().for_each(|subject| refuses(subject, &lent, 1));
+            SUBJECTS.iter().for_each(|subject| unopened(subject, &lent, 1));
         }
     }
 }
@@ -359,7 +331,7 @@ fn the_base_rule_is_that_of_the_calls() {
 #[test]
 fn memory_of_another_size_is_refused() {
     for right in (1..=9).chain([255, 256, 257, 1022, 1023, 1024]) {
-        let image = image_of(&heap_in_use(right, 1));
+        let image = image_of(&heap_with_roots(right, 1));
         let (pool, table) = (64 * right as usize, table_bytes(right));
         let check = |t: u64, pool: usize, table: usize| {
             let mut lent = Lent::new(16, t, &vec![0xC3; pool], &vec![0xF5; table]);
@@ -370,7 +342,7 @@ fn memory_of_another_size_is_refused() {
                 assert_eq!(refusal(subject, &lent), u32::from(!fits), "{lent}");
             }
             lent[Image] = Guarded::new(&image[..image.len() - 1]);
-            SUBJECTS.iter().for_each(|subject| refuses(subject, &lent, 14));
+            SUBJECTS.iter().for_each(|subject| unopened(subject, &lent, 14));
         };
         for t in (right - 1..=right + 2).chain([0, 2 * right, right + (1 << 32), u64::MAX]) {
             check(t, pool, table);
@@ -391,14 +363,14 @@ fn memory_of_another_size_is_refused() {
 #[test]
 fn the_content_of_the_memory_does_not_matter() {
     for t in [1, 2, 3] {
-        let heap = heap_in_use(t, 2);
+        let heap = heap_with_roots(t, 2);
         for byte in 0..=255 {
             let mut lent = memory(t, 4);
             [Pool, Table, Roots].into_iter().for_each(|buffer| lent[buffer].fill(byte));
             SUBJECTS.iter().for_each(|subject| opens(subject, &heap, lent.clone()));
         }
         for spare in SpareBit::all().filter(|_| t % 2 == 1) {
-            let mut lent = heap_in_use(t, 3);
+            let mut lent = heap_with_roots(t, 3);
             lent.set_spare(spare, 1);
             SUBJECTS.iter().for_each(|subject| opens(subject, &heap, lent.clone()));
         }
@@ -424,7 +396,7 @@ fn unaligned_objects_are_opened() {
 #[test]
 fn a_mark_is_counted_with_the_blocks() {
     for block in 0..12 {
-        let mut heap = heap_in_use(3, 1);
+        let mut heap = heap_with_roots(3, 1);
         heap.set_entry(block, MARK);
         let marks = with_file(memory(3, 1), &image_of(&heap));
         let mut sections = heap.sections();
@@ -432,8 +404,8 @@ fn a_mark_is_counted_with_the_blocks() {
         sections[2].items.truncate(16 * usize::from(sections[2].count));
         let uncounted = with_file(memory(3, 1), &file(&sections));
         for subject in SUBJECTS {
-            refuses(subject, &marks, 2);
-            refuses(subject, &uncounted, 15);
+            unopened(subject, &marks, 2);
+            unopened(subject, &uncounted, 15);
         }
     }
 }

@@ -93,20 +93,8 @@ impl<'f> Rest<'f> {
 #[cfg(test)]
 mod tests {
     use super::*;
+    use crate::image::tests::file;
     use crate::Object;
-
-    /// Four blocks from address 4,096 with an object in the second and third, and two roots.
-    fn file() -> Vec<u8> {
-        let blocks: Vec<u8> = (1..=8).flat_map(|word| [word, 0, 0, 0]).collect();
-        let sections = [
-            &[1, 0, 0, 16, 0, 0][..],
-            &[1, 0, 0x24],
-            &[2, 0],
-            &blocks,
-            &[2, 0, 0x10, 0x10, 0, 0, 0xFF, 0xFF, 0xFF, 0xFF],
-        ];
-        sections.concat()
-    }
 
     fn changed(at: usize, byte: u8) -> Vec<u8> {
         let mut file = file();

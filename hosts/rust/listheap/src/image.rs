@@ -49,7 +49,7 @@ fn bytes_of_words(words: &[u32]) -> Vec<u8> {
 }
 
 #[cfg(test)]
-mod tests {
+pub(crate) mod tests {
     use super::*;
     use crate::Object;
 
@@ -59,8 +59,8 @@ mod tests {
         ListHeap { objects: vec![object], ..ListHeap::empty(4096, 4) }
     }
 
-    #[test]
-    fn an_image_has_four_sections() {
+    /// Its image with two roots.
+    pub(crate) fn file() -> Vec<u8> {
         let blocks: Vec<u8> = (1..=8).flat_map(|word| [word, 0, 0, 0]).collect();
         let sections = [
             &[1, 0, 0, 16, 0, 0][..],
@@ -69,7 +69,12 @@ mod tests {
             &blocks,
             &[2, 0, 0x10, 0x10, 0, 0, 0xFF, 0xFF, 0xFF, 0xFF],
         ];
-        assert_eq!(heap().image(&[4112, u32::MAX]), sections.concat());
+        sections.concat()
+    }
+
+    #[test]
+    fn an_image_has_four_sections() {
+        assert_eq!(heap().image(&[4112, u32::MAX]), file());
     }
 
     #[test]
