@@ -77,7 +77,6 @@ module _ (image : List ℕ) where
   -- the table is behind it
   pub record Table (t : Section) : Type 0 where
     pub count : t .count ≡ f .table .count
-    pub fewest : 1 ≤ t .count
     pub most : t .count ≤ 1024
     pub end : t .end ≡ 8 + t .count
     pub room : t .end ≤ length image
@@ -93,7 +92,6 @@ module _ (image : List ℕ) where
       let place : b .end + 2 ≡ 8 = omega (arith, base .end) in
       record {
         count = s .count;
-        fewest = omega (arith, s .lies .fewest, s .count);
         most = omega (arith, s .lies .most, s .count);
         end = end;
         room = omega (arith, s .lies .room, s .end);
@@ -162,8 +160,6 @@ module _ (image : List ℕ) where
       record {
         base = is-word ∙ sym (ap (λ (bs : List ℕ). wordAt bs 0) (base .body));
         t = table .count;
-        some-bytes = table .fewest;
-        few-bytes = table .most;
         table = rw long at (table .body);
         used = is-n;
         blocks = rw is-n (blocks .body);

@@ -33,8 +33,6 @@ pub record Says (image : List ℕ) (r : File) : Type 0 where
   pub base : r .base ≡ baseOf (fileOf image)
   -- the table has t bytes, four blocks to each
   pub t : r .t ≡ fileOf image .table .count
-  pub some-bytes : 1 ≤ r .t
-  pub few-bytes : r .t ≤ 1024
   pub table : fileOf image .table .body ≡ take (r .t) (drop 8 image)
   -- then the used blocks
   pub used : r .used ≡ used (entriesFor (fileOf image .table))
