@@ -39,7 +39,7 @@ pub record Guarantees : Type 2 where
   pub image-examples-number : length imageExamples ≡ 11
   -- Files come out byte by byte, with what is behind their roots in the root list, and where they are refused; each beginning of an image is cut short.
   pub file-examples-hold : map (λ (x : FileExample). x .is) fileExamples ≡ map (λ (x : FileExample). x .ought) fileExamples
-  pub file-examples-number : length fileExamples ≡ 35
+  pub file-examples-number : length fileExamples ≡ 36
   pub prefixes-cut-short : PrefixesCutShort
   -- The code follows the rules: each function that C calls does to lent memory, for every input, what the rules say.
   pub entry-points : EntryPoints
@@ -63,7 +63,7 @@ pub record Guarantees : Type 2 where
   pub open-then-write : OpenThenWrite
   pub opens-exactly : OpensExactly
   pub one-file : OneFile
-  -- An object of four blocks or more that is made or gets more blocks starts at a block divisible by four, and from an accepted init or opening on every such object does, if those of the files that are opened do.
+  -- An object of four blocks or more that is made or gets more blocks starts at a block divisible by four, and from an accepted init or opening on every such object does, if those of the files that are to be opened do.
   pub new-objects-aligned : NewObjectsAligned
   pub aligned-from-start : AlignedFromStart
   -- A collection keeps exactly the reachable objects, and the mark stack has no influence on it.

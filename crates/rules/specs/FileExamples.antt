@@ -1,4 +1,4 @@
--- Files that are opened, byte by byte: the result of each opening, with all of the root list that was lent for it. The memory that is lent is never clean: what it held does not matter.
+-- Files that are opened, byte by byte: the result of each opening, with all of the root list that was lent for it. The table that is lent is never well-formed, and its spare bits, where it has some, are set: what it held does not matter.
 -- Assumes nothing.
 use mathlib.Core.Path.{_≡_, refl}
 use mathlib.Core.List.{List, [], _∷_, _++_, map}
@@ -122,13 +122,14 @@ fileExamples =
     ∷ refuses (fourWith (sevens 5)) oneImage 1
     -- a fault of the file comes before 1, which comes before 2, which comes before a short root list
     ∷ refuses (fourWith (sevens 5)) (oneImage ++ 0 ∷ []) 16
+    ∷ refuses (record { t = 1; memory = memory (sevens 64) (255 ∷ []); roots = sevens 12 }) (oneImage ++ 0 ∷ []) 16
     ∷ refuses (fourWith (sevens 5)) marked 1
     ∷ refuses (fourWith []) marked 2
     ∷ refuses (fourWith []) oneImage 17
     ∷ []
 
 -- there are so many
-pub file-examples-number : length fileExamples ≡ 35
+pub file-examples-number : length fileExamples ≡ 36
 unfolding fileExamples
 file-examples-number = refl
 

@@ -90,7 +90,7 @@ shortRoots room roots = test 17 (ltb room (length roots))
 abbrev pub initTests : ℕ → Heap → List Test
 initTests base h = badShape (goodShape base h) ∷ []
 
--- those that come first in every other call: 1 2
+-- those that come first in every other call, in an opening behind the faults of its file: 1 2
 abbrev pub firstTests : Bool → Heap → List Test
 firstTests good h = badShape good ∷ illFormed h ∷ []
 
