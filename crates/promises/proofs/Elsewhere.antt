@@ -1,12 +1,14 @@
--- The round trips used on the sample heap: its image is opened in memory full of ones, and written again.
+-- The round trips used: on the sample heap, whose image is opened in memory full of ones and written again, and then on every heap and every file.
 -- Assumes nothing.
-use mathlib.Core.Path.{_≡_, refl, sym, ap}
+use mathlib.Core.Path.{_≡_, refl, sym, ap, _∙_}
 use mathlib.Core.Logic.{_≢_}
+use mathlib.Core.Bool.{true}
 use mathlib.Core.List.{List, [], _∷_, _++_}
-use Prim.Native.Nat.{ℕ}
+use Prim.Native.Nat.{ℕ, suc, _*_, _/_, _%_, _≤_}
+use native.Mathlib.Decide.{ℕ-discrete}
 use native.Mathlib.Omega.{arith}
 use lib.Dec.{T}
-use lib.ListN.{length, getD, take, drop, replicate}
+use lib.ListN.{length, getD, take, drop, replicate, length-replicate}
 use Rattle.rules.specs.Tests.{count, tabulate}
 use Rattle.rules.specs.Bits.{bitOf, bitAt, byteOf}
 use Rattle.rules.specs.Words.{number, bytesOf, twoBytesOf, firstTwo, wordAt, withWord}
@@ -14,18 +16,22 @@ use Rattle.rules.specs.Entries.{FREE, entryOf, entriesOf, tableOf}
 use Rattle.rules.specs.Tables.{entryAt, mayFollow, wellAfter, wellFormed, used}
 use Rattle.rules.specs.Pointers.{addressOf, goodBase}
 use Rattle.rules.specs.Meaning.{AllBytes}
-use Rattle.rules.specs.Outcomes.{Answer, openedAt, writtenTo, unlessRefused}
+use Rattle.rules.specs.Forms.{Form}
+use Rattle.rules.specs.Outcomes.{Heap, Answer, onlyRefusal, openedAt, writtenTo, unlessRefused}
 use Rattle.rules.specs.Refusals.{firstOf, goodShape, wholeWords}
 use Rattle.rules.specs.Images.{section, sections, blockBytes, usedFrom, imageOf}
 use Rattle.rules.specs.Files.{sectionIn, sectionTests, fileOf, fileTests, faultOf, rootsOf}
 use Rattle.rules.specs.Calls.{writeImage, openImage}
 use Rattle.rules.specs.Planes.{planeBytes, entryIn, entriesIn, spare, spareFree, plane, planesOf, planes}
 use Rattle.rules.specs.Runs.{WriteImage, OpenImage, step}
-use Rattle.rules.specs.Memory.{Memory, memory, Result, filling, withBuffer, AcceptedIn, orRefused, perform}
+use Rattle.rules.specs.Memory.{Memory, memory, Result, result, filling, withBuffer, AcceptedIn, orRefused, perform}
 use Rattle.rules.proofs.Below.{allBytes, bytes-below}
-use Rattle.promises.specs.Files.{BroughtOver, IsImage}
-use Rattle.promises.proofs.Bytes.{on-bytes}
+use Rattle.promises.specs.Files.{BroughtOver, IsImage, Lends}
+use Rattle.promises.specs.Determined.{Sized}
+use Rattle.promises.proofs.Bytes.{on-bytes, first-at}
 use Rattle.promises.specs.Samples.{sampleBase, sampleTable, samplePool, sampleMemory, sampleRoots}
+use Rattle.promises.proofs.Whole.{whole}
+use Rattle.promises.proofs.OtherT.{other-t-is-refused}
 use Rattle.promises.proofs.RoundTrips.{write-then-open, open-then-write, opens-exactly, one-file}
 
 -- the image, in a buffer that is just long enough
@@ -142,10 +148,6 @@ same-file file bytes same = one-file 3 3 (length list) 4 image file ones ones (b
 
 -- ---- in bytes
 
--- what was lent does not matter: zeros do as well
-pub opened-in-zeros : perform (planes 3) (OpenImage image (length list)) [] (memory (replicate 192 0) (replicate 4 0)) ≡ opened
-opened-in-zeros = on-bytes .open-anywhere 3 image (length list) ones (memory (replicate 192 0) (replicate 4 0)) refl refl accepted
-
 -- the list begins with the file's roots, and from place 4 on it is as it was
 pub list-front : withBuffer list opened .filled ≡ rootsOf (fileOf image) ++ drop (length (rootsOf (fileOf image))) list
 list-front = on-bytes .open-front (planes 3) image list ones accepted
@@ -153,6 +155,70 @@ list-front = on-bytes .open-front (planes 3) image list ones accepted
 pub list-behind : (length (withBuffer list opened .filled) ≡ 12) × (getD (withBuffer list opened .filled) 4 0 ≡ 7)
 list-behind = let b = on-bytes .open-behind (planes 3) image list ones in (b .0, b .1 4 (rw (ap (λ (a : Answer). a .roots) brought-answer) (omega arith)))
 
--- all of it is, where the file is refused
-pub list-left : withBuffer list (perform (planes 3) (OpenImage longer (length list)) [] ones) .filled ≡ list
-list-left = on-bytes .open-refused (planes 3) longer list ones (λ z. omega (arith, z, computed .longer-refused))
+-- ---- for every heap and every file
+
+-- a heap that is written, opened elsewhere and written again is the same file
+pub written-twice : (t base room room′ : ℕ) (roots list : List ℕ) (m m′ : Memory) → AllBytes (m .table)
+    → length (m′ .pool) ≡ length (m .pool) → length (m′ .table) ≡ length (m .table) → length list % 4 ≡ 0 → length roots ≤ length list
+    → let w : Result = perform (planes t) (WriteImage base roots room) [] m in
+    let r : Result = perform (planes t) (OpenImage (w .filled) (length list)) [] m′ in
+    AcceptedIn w → AllBytes (w .filled) → length (w .filled) ≤ room′
+    → perform (planes t) (WriteImage base (take (4 * (length roots / 4)) (withBuffer list r .filled)) room′) [] (r .memory) .filled ≡ w .filled
+written-twice t base room room′ roots list m m′ table pools tables words enough accepted bytes long =
+    let w : Result = perform (planes t) (WriteImage base roots room) [] m in
+    let b = write-then-open t base room roots list m m′ table pools tables words enough accepted in
+    let e = open-then-write t room′ (w .filled) list m′ bytes (ap (λ (a : Answer). a .refusal) (b .answer)) long in
+    ap (λ (x : Result). x .filled) (rw (b .answer) at e)
+
+-- what can be opened can be opened in all memory of those lengths, with a list of whole words that is as long or longer
+pub opens-wherever : (t room room′ : ℕ) (image : List ℕ) (m m′ : Memory) → AllBytes image → room ≤ room′ → Lends t room′ m′
+    → AcceptedIn (perform (planes t) (OpenImage image room) [] m) → AcceptedIn (perform (planes t) (OpenImage image room′) [] m′)
+opens-wherever t room room′ image m m′ bytes more lends accepted =
+    let x = opens-exactly t room image m bytes .0 accepted .0 in
+    opens-exactly t room′ image m′ bytes .1
+    (record { base = x .base; roots = x .roots; memory = x .memory; accepted = x .accepted; bytes = x .bytes; enough = omega (arith, x .enough, more) }, lends)
+
+-- files that are not equally long open differently, wherever
+pub lengths-tell : (t t′ room room′ : ℕ) (image image′ : List ℕ) (m m′ : Memory) → AllBytes image → AllBytes image′
+    → AcceptedIn (perform (planes t) (OpenImage image room) [] m) → length image ≢ length image′
+    → perform (planes t) (OpenImage image room) [] m ≢ perform (planes t′) (OpenImage image′ room′) [] m′
+lengths-tell t t′ room room′ image image′ m m′ bytes bytes′ accepted other same = other (ap length (one-file t t′ room room′ image image′ m m′ bytes bytes′ accepted same))
+
+-- a file that opens somewhere opens alike where all was zero
+pub zeros-as-well : (t room : ℕ) (image : List ℕ) (m : Memory) → AcceptedIn (perform (planes t) (OpenImage image room) [] m)
+    → perform (planes t) (OpenImage image room) [] (memory (replicate (length (m .pool)) 0) (replicate (length (m .table)) 0)) ≡ perform (planes t) (OpenImage image room) [] m
+zeros-as-well t room image m accepted =
+    on-bytes .open-anywhere t image room m _ (sym (length-replicate (length (m .pool)) 0)) (sym (length-replicate (length (m .table)) 0)) accepted
+
+-- it leaves pool and table as long as they were, and no spare bit
+pub opened-sized : (image : List ℕ) (room : ℕ) (h : Heap) → Sized h (openImage h image room)
+unfolding step
+opened-sized image room h = whole .sized (OpenImage image room) [] h
+
+pub opened-clean : (t room : ℕ) (image : List ℕ) (m : Memory) → AcceptedIn (perform (planes t) (OpenImage image room) [] m)
+    → spareFree t (perform (planes t) (OpenImage image room) [] m .memory .table) ≡ true
+opened-clean t room image m accepted = on-bytes .clean-after t (OpenImage image room) [] m accepted
+
+-- what is opened has no fault
+opened-faultless : (t room : ℕ) (image : List ℕ) (m : Memory) → AcceptedIn (perform (planes t) (OpenImage image room) [] m) → faultOf image ≡ 0
+opened-faultless t room image m accepted = go (ℕ-discrete (faultOf image) 0)
+  where
+    go : Dec (faultOf image ≡ 0) → faultOf image ≡ 0
+    go (yes e) = e
+    go (no fault) = sym (first-at _ _ _ (on-bytes .number (planes t) (OpenImage image room) [] m) fault) ∙ accepted
+
+-- two files that open in one memory open by one t, and by another a file without a fault is refused by 1
+pub opened-by-one-t : (t t′ room room′ : ℕ) (image image′ : List ℕ) (m : Memory) → AcceptedIn (perform (planes t) (OpenImage image room) [] m)
+    → AcceptedIn (perform (planes t′) (OpenImage image′ room′) [] m) → t ≡ t′
+opened-by-one-t t t′ room room′ image image′ m accepted accepted′ =
+    on-bytes .one-t t t′ (OpenImage image room) (OpenImage image′ room′) [] [] m (opened-faultless t room image m accepted) (opened-faultless t′ room′ image′ m accepted′)
+    (λ e. omega (arith, e, accepted)) (λ e. omega (arith, e, accepted′))
+
+pub other-t-refuses : (t t′ room : ℕ) (image : List ℕ) (m : Memory) → length (m .pool) ≡ 64 * t → t′ ≢ t → faultOf image ≡ 0
+    → perform (planes t′) (OpenImage image room) [] m ≡ result (onlyRefusal 1) m []
+other-t-refuses t t′ room image m size other faultless = rw faultless at (other-t-is-refused .one-call t t′ (OpenImage image room) [] m size other)
+
+-- a refusal, by whichever number, leaves the list
+pub refused-list : (f : Form) (image list : List ℕ) (m : Memory) (r : ℕ) → perform f (OpenImage image (length list)) [] m .answer .refusal ≡ suc r
+    → withBuffer list (perform f (OpenImage image (length list)) [] m) .filled ≡ list
+refused-list f image list m r refused = on-bytes .open-refused f image list m (λ z. omega (arith, z, refused))

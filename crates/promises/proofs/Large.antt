@@ -26,7 +26,7 @@ use Rattle.rules.specs.Forms.{Form, Faithful}
 use Rattle.rules.specs.Memory.{Memory, memory, heapIn, AcceptedIn, orRefused, perform, turnIn, afterIn}
 use Rattle.rules.specs.Examples.{small, medium}
 use Rattle.rules.proofs.Below.{allBelow, below}
-use Rattle.rules.proofs.Refusals.{passed}
+use Rattle.rules.proofs.Refusals.{true-not-false, passed}
 use Rattle.rules.proofs.Tables.{entry-inside, aligned-says}
 use Rattle.rules.proofs.Planes.{planes-faithful}
 use Rattle.promises.specs.Promises.{Object, blocksOf}
@@ -87,6 +87,10 @@ large-elsewhere f faithful ts files m o head large other =
 
 -- ---- a file that is opened
 
+-- one with a fault, or with an ill-formed table, may be handed in whatever its objects are
+pub nothing-asked : (image : List ℕ) → (faultOf image ≢ 0) ⊎ (wellFormed (heapOfFile (fileOf image) .entries) ≡ false) → FileAligned image
+nothing-asked image refused none well = ⊎-elim (λ fault. absurd (fault none)) (λ ill. absurd (true-not-false well ill)) refused
+
 -- that a heap's objects are aligned, by a test of each block
 alignedTest : Heap → Bool
 alignedTest h = allBelow (length (h .entries)) (λ (o : ℕ). either (not (isHead (entryAt (h .entries) o))) (aligned (blockCount (h .entries) o) o))
@@ -122,7 +126,7 @@ opens : Opens
 unfolding alignedTest count leading tabulate bitOf bitAt byteOf number firstTwo wordAt entryOf entriesOf planeBytes entryIn entriesIn spare spareFree plane planesOf mayFollow wellAfter wellFormed blockCount aligned used addressOf goodBase unlessRefused firstOf goodShape sectionIn sectionTests fileOf fileTests faultOf goodTarget openImage step orRefused perform
 opens = record { accepted = refl; all = tt }
 
--- the file's objects are aligned, so from its opening on all are, whatever calls follow that open nothing else
+-- the file's objects are aligned, so from its opening on all are, whatever calls follow, if the files that they are to open have only such objects
 pub large-from-file : (ts : List Turn) → EveryFile FileAligned ts
     → let h = heapIn (planes 2) (afterIn (planes 2) (opening ∷ ts) ones) in
     (o : ℕ) → Object h o → 4 ≤ blocksOf h o → o % 4 ≡ 0
