@@ -24,11 +24,29 @@ fn read_front(source: impl Read) -> io::Result<Vec<u8>> {
     Ok(bytes)
 }
 
-/// What a file is called in messages.
+/// What a file is called in messages. Control characters are spelled out: a name may come with the file.
 pub fn name(path: &Path) -> String {
     if path == Path::new(STANDARD_INPUT) {
-        "standard input".into()
-    } else {
-        path.display().to_string()
+        return "standard input".into();
+    }
+    let mut name = String::new();
+    for letter in path.display().to_string().chars() {
+        match letter.is_control() {
+            true => name.extend(letter.escape_default()),
+            false => name.push(letter),
+        }
+    }
+    name
+}
+
+#[cfg(test)]
+mod tests {
+    use super::*;
+
+    #[test]
+    fn a_name_is_one_line_of_plain_letters() {
+        assert_eq!(name(Path::new("rain gauge é.image")), "rain gauge é.image");
+        assert_eq!(name(Path::new("a\u{1b}[2Jb\nc")), "a\\u{1b}[2Jb\\nc");
+        assert_eq!(name(Path::new("-")), "standard input");
     }
 }

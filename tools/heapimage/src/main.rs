@@ -11,7 +11,8 @@ fn main() -> ExitCode {
         Ok(answer.status)
     });
     ExitCode::from(status.unwrap_or_else(|failure| {
-        eprintln!("heapimage: {}", failure.message);
+        // Where the message cannot be written either, the status still says what happened.
+        let _ = writeln!(io::stderr(), "heapimage: {}", failure.message);
         failure.status
     }))
 }

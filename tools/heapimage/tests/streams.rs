@@ -21,6 +21,11 @@ fn run_on(name: &str, bytes: &[u8], arguments: &[&str]) -> Output {
     program(arguments).arg(&path).output().expect("the program")
 }
 
+/// A device to which nothing can be written.
+fn full() -> File {
+    File::create("/dev/full").expect("a device that is full")
+}
+
 fn lines(output: &Output) -> Vec<&str> {
     std::str::from_utf8(&output.stdout).expect("text").lines().collect()
 }
@@ -64,11 +69,16 @@ fn standard_input_may_come_in_pieces() {
 
 #[test]
 fn an_output_that_cannot_be_written_is_a_failure() {
-    let full = File::create("/dev/full").expect("a device that is full");
-    let output = program(&["--help"]).stdout(full).output().expect("the program");
+    let output = program(&["--help"]).stdout(full()).output().expect("the program");
     assert_eq!(output.status.code(), Some(74));
     let message = String::from_utf8(output.stderr).expect("text");
     assert!(message.starts_with("heapimage: standard output: "), "{message}");
+}
+
+#[test]
+fn a_message_that_cannot_be_written_leaves_the_status() {
+    let output = program(&["show", "nowhere"]).stderr(full()).output().expect("the program");
+    assert_eq!(output.status.code(), Some(66));
 }
 
 /// As in `heapimage show --objects FILE | head -1`.
