@@ -28,13 +28,18 @@ fn differs<T: PartialEq + Display>(what: &str, a: T, b: T) -> String {
     }
 }
 
-fn roots(a: &Image, b: &Image) -> String {
-    let line = |index: usize| match (a.roots.get(index), b.roots.get(index)) {
-        (Some(x), Some(y)) => differs(&format!("root {index}"), hex(*x), hex(*y)),
-        (Some(x), None) => format!("root {index}: {} in A alone\n", hex(*x)),
-        (None, Some(y)) => format!("root {index}: {} in B alone\n", hex(*y)),
+/// A line for a word that is not the same in both, or that one of them has alone.
+fn word(name: &str, a: Option<&u32>, b: Option<&u32>) -> String {
+    match (a, b) {
+        (Some(x), Some(y)) => differs(name, hex(*x), hex(*y)),
+        (Some(x), None) => format!("{name}: {} in A alone\n", hex(*x)),
+        (None, Some(y)) => format!("{name}: {} in B alone\n", hex(*y)),
         (None, None) => String::new(),
-    };
+    }
+}
+
+fn roots(a: &Image, b: &Image) -> String {
+    let line = |index| word(&format!("root {index}"), a.roots.get(index), b.roots.get(index));
     (0..a.roots.len().max(b.roots.len())).map(line).collect()
 }
 
@@ -60,7 +65,7 @@ fn alone(object: &Object, image: &str) -> String {
 
 /// The differences between an object of A and the same one of B.
 fn changes(a: &Object, b: &Object) -> String {
-    let words = words(a, b);
+    let words = changed_words(a, b);
     let mut changes = Vec::new();
     if a.block != b.block {
         changes.push(format!("moved to {}", hex(b.address)));
@@ -77,17 +82,35 @@ fn changes(a: &Object, b: &Object) -> String {
     if changes.is_empty() {
         return String::new();
     }
-    format!("{}: {}\n{}", hex(a.address), changes.join(", "), words.concat())
+    let lines = words.concat() + &words_of_one(a, b);
+    format!("{}: {}\n{lines}", hex(a.address), changes.join(", "))
 }
 
-fn words(a: &Object, b: &Object) -> Vec<String> {
-    let pairs = a.words.iter().zip(&b.words).enumerate().filter(|(_, (x, y))| x != y);
-    pairs.map(|(word, (x, y))| differs(&format!("  word {word}"), hex(*x), hex(*y))).collect()
+/// A line for each word that both have and that is not the same.
+fn changed_words(a: &Object, b: &Object) -> Vec<String> {
+    let lines = (0..shared_words(a, b)).map(|index| word_line(a, b, index));
+    lines.filter(|line| !line.is_empty()).collect()
+}
+
+/// A line for each word that the larger one has alone, but for those that are 0, as new blocks are.
+fn words_of_one(a: &Object, b: &Object) -> String {
+    let larger = if a.words.len() > b.words.len() { a } else { b };
+    let indices =
+        (shared_words(a, b)..larger.words.len()).filter(|index| larger.words[*index] != 0);
+    indices.map(|index| word_line(a, b, index)).collect()
+}
+
+fn shared_words(a: &Object, b: &Object) -> usize {
+    a.words.len().min(b.words.len())
+}
+
+fn word_line(a: &Object, b: &Object, index: usize) -> String {
+    word(&format!("  word {index}"), a.words.get(index), b.words.get(index))
 }
 
 const LEGEND: &str = "\
 o is the same in both, ~ differs, - is used in A alone, + in B alone, . is free in both;
-lines without a difference are left out";
+addresses are those of A, and lines without a difference are left out";
 
 fn map_of_blocks(a: &Image, b: &Image) -> String {
     let letter = |block| match (a.used_block(block), b.used_block(block)) {

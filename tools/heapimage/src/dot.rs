@@ -44,9 +44,19 @@ fn edges(image: &Image, object: &Object) -> Vec<String> {
     }
     let edge = |(target, words): (usize, Vec<String>)| {
         let edge = format!("{} -> {}", name(object), name(&image.objects[target]));
-        statement(&edge, &words.join(", "), object.reachable)
+        statement(&edge, &label(&words), object.reachable)
     };
     labels.into_iter().map(edge).collect()
+}
+
+/// Up to eight words by name, and how many more there are: a longer label would hide the graph.
+fn label(words: &[String]) -> String {
+    match words.split_at_checked(8) {
+        Some((first, more)) if !more.is_empty() => {
+            format!("{} and {} more", first.join(", "), more.len())
+        }
+        _ => words.join(", "),
+    }
 }
 
 /// A statement, with its label if it has one. What is not reachable is grey.
@@ -61,5 +71,18 @@ fn statement(what: &str, label: &str, reachable: bool) -> String {
     match &attributes[..] {
         [] => format!("{what};"),
         some => format!("{what} [{}];", some.join(", ")),
+    }
+}
+
+#[cfg(test)]
+mod tests {
+    use super::*;
+
+    #[test]
+    fn a_label_has_eight_words_at_most() {
+        let words: Vec<String> = (0..10).map(|word| word.to_string()).collect();
+        assert_eq!(label(&words[..1]), "0");
+        assert_eq!(label(&words[..8]), "0, 1, 2, 3, 4, 5, 6, 7");
+        assert_eq!(label(&words), "0, 1, 2, 3, 4, 5, 6, 7 and 2 more");
     }
 }

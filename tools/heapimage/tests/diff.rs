@@ -90,6 +90,23 @@ fn an_object_may_grow_or_become_garbage_where_it_is() {
     assert_eq!(lines(&a, &c), ["root 0: 0x00001000 in A, 0x00000000 in B", garbage]);
 }
 
+/// New blocks are zero until a program writes them, so zeros say nothing.
+#[test]
+fn words_that_one_image_has_alone_are_listed_but_for_zeros() {
+    let a = file("h...", &[[1; 4]], &[BASE]);
+    let b = file("h==.", &[[1; 4], [0, 7, 0, 0], [0, 0, 0, 8]], &[BASE]);
+    let words = |image| {
+        [
+            format!("  word 5: 0x00000007 in {image} alone"),
+            format!("  word 11: 0x00000008 in {image} alone"),
+        ]
+    };
+    assert_eq!(lines(&a, &b)[0], "0x00001000: resized from 1 to 3 blocks");
+    assert_eq!(lines(&a, &b)[1..], words("B"));
+    assert_eq!(lines(&b, &a)[0], "0x00001000: resized from 3 to 1 block");
+    assert_eq!(lines(&b, &a)[1..], words("A"));
+}
+
 /// At another base the same words lead to the same objects, by other addresses.
 #[test]
 fn a_heap_may_lie_at_another_base() {
