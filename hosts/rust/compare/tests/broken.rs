@@ -268,7 +268,7 @@ each! { must_be_noticed:
     takes_files_with_more_roots
     takes_4096_entries_at_most
     takes_a_piece_of_an_entry
-    takes_an_image_at_any_base
+    takes_an_image_at_base_0
     takes_t_from_an_image
     tests_the_lent_table
     tests_a_files_table_before_its_base
@@ -1605,7 +1605,7 @@ fn refused_instead(
     second(call, lent)
 }
 
-/// An image is refused so.
+/// An image is refused as by `refused_instead`.
 fn image_refused(
     call: &Call,
     lent: &mut Lent,
@@ -1689,7 +1689,7 @@ fn open_sections(call: &Call, lent: &mut Lent, change: impl Fn(&mut [Section])) 
     })
 }
 
-/// The same of an opening.
+/// An opening is refused as by `refused_instead`.
 fn open_refused(
     call: &Call,
     lent: &mut Lent,
@@ -1823,7 +1823,7 @@ fn takes_a_piece_of_an_entry(call: &Call, lent: &mut Lent) -> Reply {
     reply
 }
 
-fn takes_an_image_at_any_base(call: &Call, lent: &mut Lent) -> Reply {
+fn takes_an_image_at_base_0(call: &Call, lent: &mut Lent) -> Reply {
     open_sections(call, lent, |sections| {
         let base = listheap::words_of(&sections[0].items)[0];
         if base == 0 {

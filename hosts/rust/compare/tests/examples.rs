@@ -472,7 +472,11 @@ fn example_33_the_order_of_an_openings_refusals() {
     on_every_heap(|heap| {
         let mut piece = rubbish(1, 3);
         piece[Roots] = Guarded::new(&[0x55; 5]);
-        heap.refuses_file(&piece, &[&one_block()[..], &[0]].concat(), 16);
+        let mut short = rubbish(1, 3);
+        short[Table] = Guarded::new(&[0x55]);
+        for lent in [&piece, &short] {
+            heap.refuses_file(lent, &[&one_block()[..], &[0]].concat(), 16);
+        }
         heap.refuses_file(&piece, &marked(), 1);
         heap.refuses_file(&rubbish(1, 0), &marked(), 2);
     });
