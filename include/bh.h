@@ -75,7 +75,7 @@ static inline struct blockheap bh_split(uint64_t base, uint8_t *area, size_t are
     size_t t = area_len / (BLOCKHEAP_POOL_BYTES(1) + 1);
     if (t > BLOCKHEAP_MAX_T)
         t = BLOCKHEAP_MAX_T;
-    if (BLOCKHEAP_POOL_BYTES(t) + BLOCKHEAP_TABLE_BYTES_OF_T(t) > area_len)
+    if (BLOCKHEAP_HEAP_BYTES(t) > area_len)
         t--;
     heap.base = base;
     heap.t = t;
@@ -172,7 +172,7 @@ static inline uint32_t bh_write_image(const struct blockheap *heap, const uint8_
                                  length ? length : &no_length);
 }
 
-/* The t of an image, by its first 8 bytes; 0 if they are none of an image, which bh_open_image then refuses. */
+/* The t of an image, by its first 8 bytes; 0 if no image begins so: bh_open_image then refuses it. */
 static inline size_t bh_image_t(const uint8_t *image, size_t image_len)
 {
     size_t t;

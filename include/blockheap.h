@@ -219,11 +219,13 @@ enum blockheap_entry {
     BLOCKHEAP_MARK = 3
 };
 
-/* What a call returns. Of several reasons, the lowest number is given, but by blockheap_open_image. */
+/* What a call returns. Of several reasons, the lowest number is given, except by blockheap_open_image, which has an
+   order of its own. */
 enum blockheap_refusal {
     BLOCKHEAP_OK = 0,
-    BLOCKHEAP_BAD_SHAPE = 1,         /* t, table_len, pool_len or base breaks the rules above, or the
-                                        roots' or stack's length is not divisible by 4 */
+    BLOCKHEAP_BAD_SHAPE = 1,         /* t, table_len, pool_len or base breaks the rules above or is not
+                                        that of the image, or the roots' or stack's length is not
+                                        divisible by 4 */
     BLOCKHEAP_BAD_TABLE = 2,         /* a MARK, a tail at block 0 or after a free block, or a spare
                                         bit that is 1 */
     BLOCKHEAP_TOO_MANY_ROOTS = 3,    /* more than 4,096 root words */
@@ -238,7 +240,7 @@ enum blockheap_refusal {
     BLOCKHEAP_IMAGE_TRUNCATED = 14,  /* the image ends inside a count or inside a section's items */
     BLOCKHEAP_BAD_COUNT = 15,        /* a count in the image is not what it must be */
     BLOCKHEAP_TRAILING_BYTES = 16,   /* bytes behind the image's last section */
-    BLOCKHEAP_ROOTS_TOO_SHORT = 17   /* the lent list of roots has fewer entries than the image */
+    BLOCKHEAP_ROOTS_TOO_SHORT = 17   /* the lent list has fewer entries than the image has roots */
 };
 
 /*

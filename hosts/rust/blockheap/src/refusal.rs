@@ -1,6 +1,6 @@
 use core::fmt;
 
-/// Why a call was refused: of several reasons, the one with the lowest number, but by
+/// Why a call was refused: of several reasons, the one with the lowest number, except by
 /// [`Heap::open_image`](crate::Heap::open_image), which reads a file from its front. After a refusal all
 /// that is lent holds what it held before.
 #[derive(Clone, Copy, Debug, PartialEq, Eq, Hash)]
@@ -33,7 +33,7 @@ pub enum Refusal {
     BadCount = 15,
     /// Bytes follow behind the image's last section.
     TrailingBytes = 16,
-    /// The lent list of roots has fewer entries than the image.
+    /// The lent list of roots has fewer entries than the image has roots.
     RootsTooShort = 17,
 }
 
