@@ -38,8 +38,10 @@ int main(void)
     static const unsigned char entries[4] = {1, 0, 0, 0}, pool[64];
     static const uint32_t roots[1] = {4096};
     FILE *file = fopen("heap.image", "wb");
+    int failed;
     if (!file)
         return 1;
     write_image(file, 4096, 1, entries, pool, 1, roots);
-    return fclose(file) != 0;
+    failed = ferror(file);
+    return fclose(file) || failed;
 }
