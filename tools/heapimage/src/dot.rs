@@ -4,10 +4,13 @@ use crate::text::{count, hex, offset};
 use crate::{Image, Object};
 use std::collections::BTreeMap;
 
+const STYLE: [&str; 3] =
+    ["rankdir=LR;", "node [shape=box, fontname=monospace];", "edge [fontname=monospace];"];
+
 /// The graph: the roots that lead to objects, the objects, and edges from each to what it leads to.
 pub fn graph(image: &Image) -> String {
     let roots = || image.pointers(&image.roots);
-    let mut lines = vec!["rankdir=LR;".into(), "node [shape=box, fontname=monospace];".into()];
+    let mut lines = Vec::from(STYLE.map(String::from));
     lines.extend(roots().map(|(root, _)| format!("{} [shape=plain];", root_name(root))));
     lines.extend(image.objects.iter().map(node));
     lines.extend(roots().map(|(root, target)| {
