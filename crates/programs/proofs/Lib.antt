@@ -1,0 +1,7 @@
+pub mod Laws
+pub mod OnHeaps
+pub mod Stacks
+pub mod Unseen
+pub mod AsList
+pub mod Consequences
+pub mod Samples
