@@ -1,0 +1,13 @@
+pub mod Chaining
+pub mod Distinct
+pub mod Lasting
+pub mod LastingUses
+pub mod Following
+pub mod Finding
+pub mod Entering
+pub mod Calling
+pub mod Checking
+pub mod Ending
+pub mod Reading
+pub mod Appending
+pub mod Promised
