@@ -37,7 +37,7 @@ use Rattle.logs.proofs.Ending.{written-same, written-of, declined-run, 
 -- ---- the tests of the lists
 
 -- both lists are whole words, or not
-whole-words : (xs ys : List ℕ) → both (wholeWords xs) (wholeWords ys) ≡ true → (length xs % 4 ≡ 0) × (length ys % 4 ≡ 0)
+pub whole-words : (xs ys : List ℕ) → both (wholeWords xs) (wholeWords ys) ≡ true → (length xs % 4 ≡ 0) × (length ys % 4 ≡ 0)
 unfolding wholeWords
 whole-words xs ys = go (eqb (length xs % 4) 0) (eqb (length ys % 4) 0) refl refl
   where
@@ -46,7 +46,7 @@ whole-words xs ys = go (eqb (length xs % 4) 0) (eqb (length ys % 4) 0) refl refl
     go true false p q e = absurd (true-not-false e refl)
     go false b p q e = absurd (true-not-false e refl)
 
-torn-words : (xs ys : List ℕ) → both (wholeWords xs) (wholeWords ys) ≡ false → ¬ ((length xs % 4 ≡ 0) × (length ys % 4 ≡ 0))
+pub torn-words : (xs ys : List ℕ) → both (wholeWords xs) (wholeWords ys) ≡ false → ¬ ((length xs % 4 ≡ 0) × (length ys % 4 ≡ 0))
 unfolding wholeWords
 torn-words xs ys e x = true-not-false (rw (x .0, x .1) refl) e
 

@@ -235,7 +235,7 @@ module _ (f : Form) (faithful : Faithful f) (base first time tips : ℕ) (roots 
   first-small (leads {k = k} head two c) = omega (arith, entry-inside (h .entries) k (λ free. omega (arith, free, head)), good .shape .below)
 
   -- and among the roots
-  first-among : {es : List Entry} → Chain base h first es → List·Memᴰ first (wordsOf lists)
+  pub first-among : {es : List Entry} → Chain base h first es → List·Memᴰ first (wordsOf lists)
   first-among chain =
       let words = wordsOf-append (bytesOf first) roots (ap (λ (n : ℕ). n % 4) (length-bytesOf first)) in
       subst (List·Memᴰ first) (sym (words ∙ ap (λ (ws : List ℕ). ws ++ wordsOf roots) (one-word first (first-small chain)))) (List·Memᴰ·head refl)

@@ -11,3 +11,6 @@ pub mod Ending
 pub mod Reading
 pub mod Appending
 pub mod Promised
+pub mod Paired
+pub mod Cycle
+pub mod CycleUses

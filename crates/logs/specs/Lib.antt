@@ -3,3 +3,4 @@ pub mod Chains
 pub mod Pairs
 pub mod Lasting
 pub mod Promises
+pub mod Cycle

@@ -8,7 +8,9 @@ use Rattle.rules.specs.Outcomes.{Answer}
 use Rattle.rules.specs.Runs.{Call, Turn}
 use Rattle.rules.specs.Memory.{Memory, perform, afterIn, answersIn}
 use Rattle.keeping.specs.Keeping.{butRescans}
-use Rattle.programs.specs.Programs.{ran, stackAfter, run, Lent, lent, repliesIn, leftIn, single}
+use Rattle.plain.specs.Objects.{Plain}
+use Rattle.programs.specs.Programs.{Program, give, ask, Ran, ran, stackAfter, run, Lent, lent, repliesIn, leftIn, single, mapped}
+use Rattle.programs.specs.AsList.{RanList, runList}
 
 -- ---- lists
 
@@ -47,3 +49,20 @@ pub singles-leave : (f : Form) (ts : List Turn) (m : Memory) → leftIn f (singl
 unfolding singles leftIn afterIn run
 singles-leave f [] m = refl
 singles-leave f (t ∷ ts) m = singles-leave f ts (perform f (t .call) (t .stack) m .memory)
+
+-- ---- replies that are put another way
+
+-- nothing else is changed
+pub mapped-run : {A B : Type 0} (f : Form) (k : A → B) (p : Program A) (stack : List ℕ) (m : Memory)
+    → let r : Ran A = run f p stack m in
+    run f (mapped k p) stack m ≡ ran (k (r .reply)) (r .memory) (r .stack)
+unfolding mapped run
+mapped-run f k (give a) stack m = refl
+mapped-run f k (ask c go) stack m = mapped-run f k (go _) _ _
+
+pub mapped-list : {A B : Type 0} (k : A → B) (p : Program A) (stack : List ℕ) (l : Plain)
+    → let x : RanList A = runList p stack l in
+    runList (mapped k p) stack l ≡ record { reply = k (x .reply); heap = x .heap }
+unfolding mapped runList
+mapped-list k (give a) stack l = refl
+mapped-list k (ask c go) stack l = mapped-list k (go _) _ _

@@ -35,7 +35,7 @@ module _ (f : Form) {c : Call} {stack stack′ : List ℕ} {ts us : List Turn} {
   first-same = answer-but-rescans (first-answer (x .same-answers) .0)
 
   -- and the calls after it do not tell apart what it leaves
-  later-same : CallsIndistinct f ts us (perform f c stack m .memory) (perform f c stack′ m′ .memory)
+  pub later-same : CallsIndistinct f ts us (perform f c stack m .memory) (perform f c stack′ m′ .memory)
   unfolding afterIn answersIn filledIn
   later-same = record {
     same-answers = first-answer (x .same-answers) .1;

@@ -61,3 +61,8 @@ leftIn f (p ∷ ps) m = leftIn f ps (ranIn f p m .memory)
 -- a call as a program: it gives the answer
 abbrev pub single : Call → Program Answer
 single c = ask c give
+
+-- a program whose reply is put another way
+unfoldable pub mapped : {A B : Type 0} → (A → B) → Program A → Program B
+mapped k (give a) = give (k a)
+mapped k (ask c go) = ask c (λ a. mapped k (go a))

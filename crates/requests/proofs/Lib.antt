@@ -1,0 +1,7 @@
+pub mod Laws
+pub mod Unseen
+pub mod AsList
+pub mod Balance
+pub mod Sums
+pub mod Consequences
+pub mod Samples

@@ -1,0 +1,4 @@
+pub mod Requests
+pub mod Unseen
+pub mod AsList
+pub mod Sums
