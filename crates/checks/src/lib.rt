@@ -1,11 +1,13 @@
 // Each call's refusal, found before anything is written: the number of the first test that holds, or 0.
 ghost use mathlib.Core.Path.{_≡_};
-ghost use mathlib.Core.List.{[]};
+ghost use mathlib.Core.List.{List, [], _∷_, _++_};
+ghost use Prim.Native.Nat.{ℕ};
+ghost use lib.ListN.{length};
 ghost use Rattle.rules.specs.Tests.{both};
 ghost use Rattle.rules.specs.Tables.{wellFormed};
 ghost use Rattle.rules.specs.Planes.{entriesIn, spareFree, planes, Sized, IsTable, heapAt};
 ghost use Rattle.rules.specs.Outcomes.{Heap};
-ghost use Rattle.rules.specs.Refusals.{firstOf, goodShape, heapTests, requestTests, nameTests, objectTests, resizeTests, wordTests, rootTests, collectionTests};
+ghost use Rattle.rules.specs.Refusals.{firstOf, goodShape, heapTests, requestTests, nameTests, noWord, objectTests, resizeTests, wordTests, rootTests, collectionTests};
 ghost use Rattle.checks.specs.Refusal.{refusalBy};
 use numbers::Address;
 use numbers::Block;
@@ -105,11 +107,12 @@ fn named(t: usize, table: &[u8], k: Block) -> u32
     0
 }
 
-// Refusals 1, 2, 6, 7 and 8, of a word of an object.
-pub fn word(base: Address, t: usize, pool: &[u8], table: &[u8], k: Block, i: usize) -> u32
-    ensures { λ r. ⌜ r ≡ refusalBy t (now (pool .entry)) (now (table .entry)) (λ (h : Heap). wordTests (base .0) h (k .0) i) ⌝ }
+// Refusals 6, 7 and 8, of a word of an object, where 1 and 2 are passed.
+pub fn object_word(t: usize, table: &[u8], k: Block, i: usize) -> u32
+    requires { ⌜ IsTable t (now table) ⌝ }
+    ensures { λ r. ⌜ r ≡ firstOf (nameTests (heapAt t [] (now (table .entry))) (k .0) ++ noWord (heapAt t [] (now (table .entry))) (k .0) i ∷ []) ⌝ }
 {
-    let r = object(base, t, pool, table, k);
+    let r = named(t, table, k);
     if r != 0 {
         return r;
     }
@@ -119,38 +122,50 @@ pub fn word(base: Address, t: usize, pool: &[u8], table: &[u8], k: Block, i: usi
     0
 }
 
-// Refusals 1, 2 and 3, of a root list.
-pub fn root_list(base: Address, t: usize, pool: &[u8], table: &[u8], roots: &[u8]) -> u32
-    ensures { λ r. ⌜ r ≡ refusalBy t (now (pool .entry)) (now (table .entry)) (λ (h : Heap). rootTests (base .0) h (now (roots .entry))) ⌝ }
+// Refusals 1, 2, 6, 7 and 8, of a word of an object.
+pub fn word(base: Address, t: usize, pool: &[u8], table: &[u8], k: Block, i: usize) -> u32
+    ensures { λ r. ⌜ r ≡ refusalBy t (now (pool .entry)) (now (table .entry)) (λ (h : Heap). wordTests (base .0) h (k .0) i) ⌝ }
 {
-    if roots.len() % 4 != 0 {
+    let r = heap(base, t, pool, table);
+    if r != 0 {
+        return r;
+    }
+    object_word(t, table, k, i)
+}
+
+// Refusals 1, 2 and 3, of a root list of so many bytes: the tests depend on its length alone.
+pub fn root_list(base: Address, t: usize, pool: &[u8], table: &[u8], bytes: usize) -> u32
+    ensures { λ r. ⌜ ((roots : List ℕ) → length roots ≡ bytes → r ≡ refusalBy t (now (pool .entry)) (now (table .entry)) (λ (h : Heap). rootTests (base .0) h roots)) ⌝ }
+{
+    if bytes % 4 != 0 {
         return 1;
     }
     let r = heap(base, t, pool, table);
     if r != 0 {
         return r;
     }
-    if 4096 < roots.len() / 4 {
+    if 4096 < bytes / 4 {
         return 3;
     }
     0
 }
 
-// Refusals 1 to 4, of a collection.
+// Refusals 1 to 4, of a collection with so many bytes of roots.
 pub fn collection(
     base: Address,
     t: usize,
     pool: &[u8],
     table: &[u8],
-    roots: &[u8],
+    bytes: usize,
     stack: &[u8],
 ) -> u32
-    ensures { λ r. ⌜ r ≡ refusalBy t (now (pool .entry)) (now (table .entry)) (λ (h : Heap). collectionTests (base .0) h (now (roots .entry)) (now (stack .entry))) ⌝ }
+    ensures { λ r. ⌜ ((roots : List ℕ) → length roots ≡ bytes
+        → r ≡ refusalBy t (now (pool .entry)) (now (table .entry)) (λ (h : Heap). collectionTests (base .0) h roots (now (stack .entry)))) ⌝ }
 {
     if stack.len() % 4 != 0 {
         return 1;
     }
-    let r = root_list(base, t, pool, table, roots);
+    let r = root_list(base, t, pool, table, bytes);
     if r != 0 {
         return r;
     }

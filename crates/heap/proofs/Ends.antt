@@ -4,7 +4,7 @@ use mathlib.Core.Path.{_≡_, refl, sym, ap, _∙_}
 use mathlib.Core.Bool.{Bool, true, false, not}
 use mathlib.Core.List.{List, [], _∷_, _++_}
 use mathlib.Core.Option.{some, none}
-use Prim.Native.Nat.{ℕ, suc, _+_, _-_, _*_, _≤_, _<_}
+use Prim.Native.Nat.{ℕ, zero, suc, _+_, _-_, _*_, _≤_, _<_}
 use native.Mathlib.Omega.{arith}
 use lib.Dec.{eqb, ltb}
 use borrow.Author.Tests.{ltb-true, leb-false, le-ltb}
@@ -19,13 +19,13 @@ use Rattle.rules.specs.Refusals.{Test, test, firstOf, goodShape, badShape, noBy
 use Rattle.rules.specs.Planes.{planesOf, planes, entriesIn, Sized, IsTable, Holds, heapAt}
 use Rattle.rules.specs.Calls.{init, blocksFor, taken, placing, allocate, allocateTests, free, freed as freedHeap, Way, stay, shrink, grow, move, noWay, isNoWay, wayOf, along, reallocate, reallocateTests, survey, load, store}
 use Rattle.rules.specs.Runs.{Call, Init, Allocate, Free, Reallocate, Survey, Load, Store, step}
-use Rattle.rules.specs.Memory.{Memory, memory, Sound, result, readsTable, stackFor, testsIn, perform}
+use Rattle.rules.specs.Memory.{Memory, memory, Sound, Result, result, AcceptedIn, readsTable, stackFor, testsIn, perform}
 use Rattle.rules.proofs.Planes.{planes-faithful, is-table, table-sound}
 use Rattle.rules.proofs.Tables.{first-fits, extent-of}
 use Rattle.checks.proofs.FirstTests.{sized-by}
 use Rattle.rules.proofs.Refusals.{refusal-is, true-not-false, both-false, both-left, both-right, not-false, not-true, numbered, first-yes, first-last, first-more, first-none, first-rest, accepts, passed, asked, named-object, after-names}
 use Rattle.rules.proofs.Calls.{blocks-some, allocate-change, free-change}
-use Rattle.rules.proofs.Memory.{Ended, accepted, refused as refusedBy, step-ended, fault-refuses, tests-own, sound-of, refused-first-in, left-in, acted-in}
+use Rattle.rules.proofs.Memory.{Ended, accepted, refused as refusedBy, step-ended, fault-refuses, tests-own, passes-in, refusal-in, sound-of, refused-first-in, refused-next-in, left-in, acted-in}
 use Rattle.checks.specs.Refusal.{refusalBy}
 use Rattle.heap.specs.Answers.{status, placeOf, placed, placedIn, unplacedBy, freed, surveyed, loaded}
 use Rattle.heap.specs.declared.Placed.{Placed}
@@ -222,10 +222,13 @@ module _ (t base : ℕ) (pool table : List ℕ) where
 
   -- ---- survey
 
+  survey-own : step (Survey base) [] h .answer .refusal ≡ firstOf (heapTests base h)
+  unfolding step survey
+  survey-own = refusal-is (firstOf (heapTests base h)) h [] _ (λ _. refl)
+
   module _ {r : ℕ} (test : r ≡ refusalBy t pool table (λ (g : Heap). heapTests base g)) where
     pub survey-refused : (r ≡ 0 → ⊥) → surveyed (record { refusal = r; used = 0; objects = 0; longest = 0 }) pool table ≡ perform (planes t) (Survey base) [] m
-    unfolding step survey
-    survey-refused ne = refused (Survey base) (refusal-is (firstOf (heapTests base h)) h [] _ (λ _. refl)) test ne
+    survey-refused ne = refused (Survey base) survey-own test ne
 
     pub survey-checked : r ≡ 0 → Checked []
     survey-checked ok = checked [] test ok
@@ -237,7 +240,29 @@ module _ (t base : ℕ) (pool table : List ℕ) where
         let p = survey-checked ok in
         acts (Survey base) pool table (findings 0 u n l) (p .sound) all (p .is) refl (rw (eu, en, el) (sym (accepts _ _ _ (p .passes))))
 
+    -- the check alone gives its number
+    pub survey-number : r ≡ perform (planes t) (Survey base) [] m .answer .refusal
+    survey-number = go r refl
+      where
+        go : (n : ℕ) → r ≡ n → r ≡ perform (planes t) (Survey base) [] m .answer .refusal
+        go zero z = let p = survey-checked z in z ∙ sym (refusal-in (planes t) (planes-faithful t) (Survey base) [] m (p .sound) ∙ survey-own ∙ p .passes)
+        go (suc n) q = ap (λ (x : Result). x .answer .refusal) (survey-refused (λ z. omega arith))
+
+  -- one that is accepted has passed the check
+  pub survey-accepted : AcceptedIn (perform (planes t) (Survey base) [] m) → 0 ≡ refusalBy t pool table (λ (g : Heap). heapTests base g)
+  survey-accepted x =
+      let p = passes-in (planes t) (Survey base) [] m x in
+      sym (tests-own (planes t) (Survey 0) m _ (λ ne. absurd (ne refl)) (p .fits) (p .clean) ∙ sym survey-own ∙ p .own)
+
   -- ---- load and store
+
+  -- the check of a word in two steps: the heap, and then the object's word
+  module _ (k i : ℕ) {r : ℕ} (test : r ≡ refusalBy t pool table (λ (g : Heap). heapTests base g)) where
+    pub word-first : (r ≡ 0 → ⊥) → r ≡ refusalBy t pool table (λ (g : Heap). wordTests base g k i)
+    word-first ne = refused-first-in (planes t) m (heapTests base h) (nameTests h k ++ noWord h k i ∷ []) refl refl test ne
+
+    pub word-next : {n : ℕ} → r ≡ 0 → n ≡ firstOf (nameTests h k ++ noWord h k i ∷ []) → n ≡ refusalBy t pool table (λ (g : Heap). wordTests base g k i)
+    word-next ok e = refused-next-in (planes t) m (heapTests base h) (nameTests h k ++ noWord h k i ∷ []) refl test ok e
 
   module _ (k i : ℕ) {r : ℕ} (test : r ≡ refusalBy t pool table (λ (g : Heap). wordTests base g k i)) where
     word-checked : r ≡ 0 → Checked (outside h k ∷ noHead h k ∷ noWord h k i ∷ [])

@@ -1,5 +1,5 @@
 // The calls on a heap: init, allocate, free, reallocate, survey, load and store. Each checks its arguments first and then acts:
-// a refused call has written nothing.
+// a refused call has written nothing. `check` and then `load_checked` are a load in two steps.
 ghost use mathlib.Core.Path.{_≡_};
 ghost use mathlib.Core.List.{[]};
 ghost use Prim.Native.Nat.{_+_, _-_, _*_, _≤_, _<_};
@@ -11,7 +11,7 @@ ghost use Rattle.rules.specs.Outcomes.{clearedBlocks};
 ghost use Rattle.rules.specs.Planes.{planes, entriesIn, IsTable, Holds, heapAt};
 ghost use Rattle.rules.specs.Calls.{taken, placing, shrunk, grown, movesTo, along};
 ghost use Rattle.rules.specs.Runs.{Init, Allocate, Free, Reallocate, Survey, Load, Store};
-ghost use Rattle.rules.specs.Memory.{memory, perform};
+ghost use Rattle.rules.specs.Memory.{memory, AcceptedIn, perform};
 ghost use Rattle.heap.specs.Held.{Held};
 ghost use Rattle.heap.specs.Answers.{status, placed, placedIn, unplacedBy, freed, surveyed, loaded};
 use numbers::Address;
@@ -242,11 +242,40 @@ pub fn survey(base: Address, t: usize, pool: &[u8], table: &[u8]) -> Surveyed
     }
 }
 
+// Refusals 1 and 2, by which every call that reads the table is refused first.
+pub fn check(base: Address, t: usize, pool: &[u8], table: &[u8]) -> u32
+    ensures { λ r. ⌜ r ≡ perform (planes t) (Survey (base .0)) [] (memory (now (pool .entry)) (now (table .entry))) .answer .refusal ⌝ }
+{
+    checks::heap(base, t, pool, table)
+}
+
 // Word i of the object with head k.
 pub fn load(base: Address, t: usize, pool: &[u8], table: &[u8], k: Block, i: usize) -> Loaded
     ensures { λ r. ⌜ loaded r (now (pool .entry)) (now (table .entry)) ≡ perform (planes t) (Load (base .0) (k .0) i) [] (memory (now (pool .entry)) (now (table .entry))) ⌝ }
 {
-    let r = checks::word(base, t, pool, table, k, i);
+    let r = checks::heap(base, t, pool, table);
+    if r != 0 {
+        return Loaded {
+            refusal: r,
+            value: 0,
+        };
+    }
+    load_checked(base, t, pool, table, k, i)
+}
+
+// A load from a heap that `check` has passed: the table is not tested again.
+pub fn load_checked(
+    base: Address,
+    t: usize,
+    pool: &[u8],
+    table: &[u8],
+    k: Block,
+    i: usize,
+) -> Loaded
+    requires { ⌜ AcceptedIn (perform (planes t) (Survey (base .0)) [] (memory (now pool) (now table))) ⌝ }
+    ensures { λ r. ⌜ loaded r (now (pool .entry)) (now (table .entry)) ≡ perform (planes t) (Load (base .0) (k .0) i) [] (memory (now (pool .entry)) (now (table .entry))) ⌝ }
+{
+    let r = checks::object_word(t, table, k, i);
     if r != 0 {
         return Loaded {
             refusal: r,

@@ -63,7 +63,7 @@ pub fn write(
     ensures { λ r. ⌜ written r (now (pool .entry)) (now (table .entry)) (now (image .exit))
         ≡ withBuffer (now (image .entry)) (perform (planes t) (WriteImage (base .0) (now (roots .entry)) (length (now (image .entry)))) [] (memory (now (pool .entry)) (now (table .entry)))) ⌝ }
 {
-    let r = checks::root_list(base, t, pool, table, roots);
+    let r = checks::root_list(base, t, pool, table, roots.len());
     if r != 0 {
         return unwritten(r);
     }

@@ -7,12 +7,11 @@ use Prim.Native.Nat.{ℕ, _+_, _-_, _*_, _/_, _≤_, _<_}
 use native.Mathlib.Omega.{arith}
 use native.Mathlib.Numerals.{add-one}
 use lib.ListN.{length, getD, drop}
-use Rattle.rules.specs.Words.{wordAt, wordsOf}
+use Rattle.rules.specs.Words.{wordAt}
 use Rattle.rules.specs.Tables.{entryAt, blockCount, startOf}
 use Rattle.rules.specs.Entries.{MARK}
 use Rattle.rules.specs.Planes.{entriesIn, IsTable}
 use Rattle.rules.specs.Marking.{Context, State, state, markedIn, visit, walkWords, walk, drain, trace, markRoot, markRoots, passBlock, passFrom, pass, rescan, markAll}
-use Rattle.rules.proofs.Words.{length-wordsOf, getD-wordsOf}
 use Rattle.rules.proofs.Planes.{same-length}
 use Rattle.rules.proofs.Marking.{words-turn, words-end, roots-turn, pass-walks, pass-turn, pass-end, toDrain, pop-less, walk-measure, drain-pop, drain-nil, toRescan, pass-measure, rescan-more, rescan-done, markAll-from, Sane, sane-pop, sane-walk}
 use Rattle.marker.specs.declared.Marking.{Marking}
@@ -87,13 +86,11 @@ pub block-end : (c : Context) (k : ℕ) (s : State) {z : State} → entryAt (s .
 block-end c k s h q = q ∙ sym (pass-walks c k s h)
 
 module _ (base : ℕ) (pool stack₀ : List ℕ) where
-  pub roots-next : (roots : List ℕ) (i w : ℕ) (stack : List ℕ) (s : State) {s′ z : State} → i < length roots / 4 → length stack ≡ length stack₀ → w ≡ wordAt roots i
+  pub roots-next : (ws : List ℕ) (i w : ℕ) (stack : List ℕ) (s : State) {s′ z : State} → i < length ws → length stack ≡ length stack₀ → w ≡ getD ws i 0
       → s′ ≡ markRoot (contextOf base pool stack) w s
-      → markRoots (contextOf base pool stack₀) (drop i (wordsOf roots)) s ≡ z → markRoots (contextOf base pool stack₀) (drop (i + 1) (wordsOf roots)) s′ ≡ z
-  roots-next roots i w stack s h e v q r =
-      let g : w ≡ getD (wordsOf roots) i 0 = v ∙ sym (getD-wordsOf roots i (omega arith)) in
-      roots-turn (contextOf base pool stack₀) (wordsOf roots) i s (rw (length-wordsOf roots) h) (context-same base pool stack₀ stack e)
-      (q ∙ ap (λ (u : ℕ). markRoot (contextOf base pool stack) u s) g) r
+      → markRoots (contextOf base pool stack₀) (drop i ws) s ≡ z → markRoots (contextOf base pool stack₀) (drop (i + 1) ws) s′ ≡ z
+  roots-next ws i w stack s h e v q r =
+      roots-turn (contextOf base pool stack₀) ws i s h (context-same base pool stack₀ stack e) (q ∙ ap (λ (u : ℕ). markRoot (contextOf base pool stack) u s) v) r
 
   pub pass-next : (k n : ℕ) (stack : List ℕ) (s : State) {s′ z : State} → k < n → length stack ≡ length stack₀ → s′ ≡ passBlock (contextOf base pool stack) k s
       → passFrom (contextOf base pool stack₀) k (n - k) s ≡ z → passFrom (contextOf base pool stack₀) (k + 1) (n - (k + 1)) s′ ≡ z
@@ -120,11 +117,11 @@ module _ (base t : ℕ) (pool stack₀ : List ℕ) where
         same = λ r. rw (p, h, add-one) (sym (rescan-more c (idle t table true) r refl));
       }
 
-pub mark-end : (base t : ℕ) (pool stack stack₀ roots table table₁ table₂ : List ℕ) (overflow₁ overflow : Bool) (r : ℕ) → length stack ≡ length stack₀ → overflow ≡ false
-    → idle t table₁ overflow₁ ≡ markRoots (contextOf base pool stack₀) (wordsOf roots) (idle t table false)
+pub mark-end : (base t : ℕ) (pool stack stack₀ ws table table₁ table₂ : List ℕ) (overflow₁ overflow : Bool) (r : ℕ) → length stack ≡ length stack₀ → overflow ≡ false
+    → idle t table₁ overflow₁ ≡ markRoots (contextOf base pool stack₀) ws (idle t table false)
     → rescan (contextOf base pool stack) (idle t table₂ overflow) r ≡ rescan (contextOf base pool stack) (idle t table₁ overflow₁) 0
-    → markedIn (idle t table₂ false) r ≡ markAll (contextOf base pool stack₀) (wordsOf roots) (entriesIn t table)
-mark-end base t pool stack stack₀ roots table table₁ table₂ overflow₁ overflow r e h q i =
+    → markedIn (idle t table₂ false) r ≡ markAll (contextOf base pool stack₀) ws (entriesIn t table)
+mark-end base t pool stack stack₀ ws table table₁ table₂ overflow₁ overflow r e h q i =
     let c : Context = contextOf base pool stack₀ in
     let j : rescan c (idle t table₂ false) r ≡ rescan c (idle t table₁ overflow₁) 0 = rw (context-same base pool stack₀ stack e, h) at i in
-    sym (rescan-done c (idle t table₂ false) r refl) ∙ j ∙ sym (markAll-from c (wordsOf roots) (entriesIn t table) q refl)
+    sym (rescan-done c (idle t table₂ false) r refl) ∙ j ∙ sym (markAll-from c ws (entriesIn t table) q refl)

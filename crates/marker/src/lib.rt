@@ -1,10 +1,10 @@
 // Marking: the objects that are reachable from the roots become MARK, with a bounded mark stack and rescans after an overflow.
 ghost use mathlib.Core.Path.{_≡_};
 ghost use mathlib.Core.Bool.{true, false};
-ghost use mathlib.Core.List.{List};
+ghost use mathlib.Core.List.{List, _∷_};
 ghost use mathlib.Core.Option.{some};
 ghost use Prim.Native.Nat.{ℕ, _/_, _≤_, _<_};
-ghost use lib.ListN.{length};
+ghost use lib.ListN.{length, getD};
 ghost use Rattle.rules.specs.Words.{wordsOf};
 ghost use Rattle.rules.specs.Entries.{HEAD};
 ghost use Rattle.rules.specs.Planes.{entriesIn, IsTable};
@@ -219,22 +219,34 @@ fn mark_root(
     trace(base, t, pool, &mut *table, &mut *stack, overflow, head)
 }
 
-// The roots in list order. Returns the overflow.
+// Root i, where `first` is root 0 and the caller's roots come behind it.
+fn root(first: u32, roots: &[u8], i: usize) -> u32
+    requires { ⌜ i ≤ length (now roots) / 4 ⌝ }
+    ensures { λ r. ⌜ r ≡ getD (first ∷ wordsOf (now (roots .entry))) i 0 ⌝ }
+{
+    if i == 0 {
+        return first;
+    }
+    memory::word(roots, i - 1)
+}
+
+// The root `first`, and then the caller's roots in list order. Returns the overflow.
 fn mark_roots(
     base: Address,
     t: usize,
     pool: &[u8],
     table: &mut [u8],
     stack: &mut [u8],
+    first: u32,
     roots: &[u8],
 ) -> bool
     requires { ⌜ Shape t (now pool) (now table) ⌝ }
     ensures { λ r. ⌜ IsTable t (now (table .exit)) × (idle t (now (table .exit)) r
-        ≡ markRoots (contextOf (base .0) (now (pool .entry)) (now (stack .entry))) (wordsOf (now (roots .entry))) (idle t (now (table .entry)) false)) ⌝ }
+        ≡ markRoots (contextOf (base .0) (now (pool .entry)) (now (stack .entry))) (first ∷ wordsOf (now (roots .entry))) (idle t (now (table .entry)) false)) ⌝ }
 {
     let mut overflow = false;
     let mut i = 0;
-    while i < roots.len() / 4 {
+    while i <= roots.len() / 4 {
         overflow = mark_root(
             base,
             t,
@@ -242,7 +254,7 @@ fn mark_roots(
             &mut *table,
             &mut *stack,
             overflow,
-            memory::word(roots, i),
+            root(first, roots, i),
         );
         i += 1;
     }
@@ -286,20 +298,21 @@ fn rescan(base: Address, t: usize, pool: &[u8], table: &mut [u8], stack: &mut [u
     overflow
 }
 
-// Marks from the roots, and rescans while there is an overflow. Returns the number of rescans.
+// Marks from the root `first` and the caller's roots, and rescans while there is an overflow. Returns the number of rescans.
 pub fn mark(
     base: Address,
     t: usize,
     pool: &[u8],
     table: &mut [u8],
     stack: &mut [u8],
+    first: u32,
     roots: &[u8],
 ) -> u32
     requires { ⌜ Shape t (now pool) (now table) ⌝ }
     ensures { λ r. ⌜ IsTable t (now (table .exit)) × (markedIn (idle t (now (table .exit)) false) r
-        ≡ markAll (contextOf (base .0) (now (pool .entry)) (now (stack .entry))) (wordsOf (now (roots .entry))) (entriesIn t (now (table .entry)))) ⌝ }
+        ≡ markAll (contextOf (base .0) (now (pool .entry)) (now (stack .entry))) (first ∷ wordsOf (now (roots .entry))) (entriesIn t (now (table .entry)))) ⌝ }
 {
-    let mut overflow = mark_roots(base, t, pool, &mut *table, &mut *stack, roots);
+    let mut overflow = mark_roots(base, t, pool, &mut *table, &mut *stack, first, roots);
     let mut rescans = 0;
     while overflow {
         overflow = rescan(base, t, pool, &mut *table, &mut *stack);

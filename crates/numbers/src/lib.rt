@@ -209,7 +209,7 @@ impl Address {
     }
 
     // The address of block k.
-    fn of_block(self, k: Block) -> Address
+    pub fn of_block(self, k: Block) -> Address
         requires { ⌜ (self .0 ≤ 2 ^ 32) × (k .0 < 2 ^ 32) ⌝ }
         ensures { λ r. ⌜ r .0 ≡ addressOf (self .0) (k .0) ⌝ }
     {
@@ -224,16 +224,37 @@ impl Address {
         self.0 as u32
     }
 
+    // The address that a word holds.
+    pub fn of_word(w: u32) -> Address
+        ensures { λ r. ⌜ r .0 ≡ w ⌝ }
+    {
+        Address(w as u64)
+    }
+
+    // Whether it is 0, which is the address of no block.
+    pub fn is_zero(self) -> bool
+        ensures { λ r. ⌜ r ≡ eqb (self .0) 0 ⌝ }
+    {
+        self.0 == 0
+    }
+
     // The block of n blocks from this base on whose address is the word w.
     pub fn target(self, n: usize, w: u32) -> Found
         ensures { λ r. ⌜ found r ≡ targetOf (self .0) n w ⌝ }
     {
+        self.block_at(n, Address::of_word(w))
+    }
+
+    // The block of n blocks from this base on that has this address.
+    pub fn block_at(self, n: usize, at: Address) -> Found
+        ensures { λ r. ⌜ found r ≡ targetOf (self .0) n (at .0) ⌝ }
+    {
         let base = self.0;
-        let at = w as u64;
-        if at < base {
+        let there = at.0;
+        if there < base {
             return Found::Nowhere;
         }
-        let d = at - base;
+        let d = there - base;
         if d % 16 != 0 {
             return Found::Nowhere;
         }

@@ -48,19 +48,19 @@ module _ (base t : ℕ) (pool table roots stack : List ℕ) where
     none e z q = passed e z (sym (first-last _ (le-ltb _ _ q)))
 
 returns : tie.Need-returns
-returns c = torn-stack _ _ _ _ _ _ (c .if1 .taken)
+returns c = λ roots e. torn-stack _ _ _ _ roots _ (c .if1 .taken)
 
 root-list-requires : tie.Need-root-list-requires
 root-list-requires c κs = tt
 
 returns-2 : tie.Need-returns-2
-returns-2 c = refused _ _ _ _ _ _ (c .before .before .if1 .left) (c .before .root-list .ensures) (c .if2 .taken)
+returns-2 c = λ roots e. refused _ _ _ _ roots _ (c .before .before .if1 .left) (c .before .root-list .ensures roots e) (c .if2 .taken)
 
 returns-3 : tie.Need-returns-3
-returns-3 c = long _ _ _ _ _ _ (c .before .before .before .if1 .left) (c .before .before .root-list .ensures) (c .before .if2 .left) (c .if3 .taken)
+returns-3 c = λ roots e. long _ _ _ _ roots _ (c .before .before .before .if1 .left) (c .before .before .root-list .ensures roots e) (c .before .if2 .left) (c .if3 .taken)
 
 returns-4 : tie.Need-returns-4
-returns-4 c = none _ _ _ _ _ _ (c .before .before .before .if1 .left) (c .before .before .root-list .ensures) (c .before .if2 .left) (c .if3 .left)
+returns-4 c = λ roots e. none _ _ _ _ roots _ (c .before .before .before .if1 .left) (c .before .before .root-list .ensures roots e) (c .before .if2 .left) (c .if3 .left)
 
 pub collection-spec : {M : Type 1} → statement M
 collection-spec = tie.close (tie.spec returns root-list-requires returns-2 returns-3 returns-4)

@@ -6,7 +6,9 @@ use borrow.Author.Needs.{needs}
 use mir.Syntax.{w32}
 use mir.ValLaws.{toZ-ofZ}
 use lib.ListN.{replicate}
+use mathlib.Core.List.{_∷_}
 use Prim.Native.Nat.{ℕ}
+use Rattle.rules.specs.Words.{wordsOf}
 use Rattle.rules.specs.Planes.{entriesIn}
 use Rattle.rules.proofs.Planes.{few-entries}
 use Rattle.rules.proofs.Tables.{used-le, objects-le}
@@ -51,7 +53,7 @@ returns c =
     let n = c .negated in (
       s .ensures .0,
       ran (a .t) (contextOf (a .base .0) (a .pool .now) (a .stack .now)) (a .pool .now) (a .table .now) (m .last .1 .1 .1 .0) (s .last .1 .0) (a .stack .now) (c .before .before .before .before .clear .last .0)
-          (a .roots .now) (m .result) (s .result) _ (m .ensures .1) (s .ensures .1)
+          (a .first ∷ wordsOf (a .roots .now)) (m .result) (s .result) _ (m .ensures .1) (s .ensures .1)
           (c .before .before .before .before .clear .ensures ∙ ap (λ (k : ℕ). replicate k 0) (m .kept .1 .1 .1 .1 .0)) (toZ-ofZ w32 (n .result) (record { sfits = n .ok }) ∙ n .ensures),
     )
 

@@ -1,29 +1,21 @@
--- `heap::load` meets its contract. Assumes nothing.
-use native.Mathlib.Omega.{arith}
+-- `heap::load` meets its contract: once the heap is checked it is `load_checked`. Assumes nothing.
+use mathlib.Core.Path.{sym, _∙_}
 use borrow.Author.Needs.{needs}
-use Rattle.heap.proofs.Ends.{load-refused, load-done, word-inside}
+use Rattle.heap.proofs.Ends.{load-refused, survey-number, word-first}
 use Rattle.heap.proofs.load.Statement.{statement}
 use Rattle.heap.proofs.load.Tie as tie
 
-word-requires : tie.Need-word-requires
-word-requires c κs = search needs
+heap-requires : tie.Need-heap-requires
+heap-requires c κs = search needs
 
 returns : tie.Need-returns
-returns c = load-refused _ _ _ _ _ _ (c .before .word .ensures) (c .if1 .taken)
+returns c = load-refused _ _ _ _ _ _ (word-first _ _ _ _ _ _ (c .before .heap .ensures) (c .if1 .taken)) (c .if1 .taken)
 
-first-word-requires : tie.Need-first-word-requires
-first-word-requires c κs = omega (arith, word-inside _ _ _ _ _ _ (c .before .word .ensures) (c .if1 .left) .0)
-
-add-word : tie.Need-add-word
-add-word c = let w = word-inside _ _ _ _ _ _ (c .before .before .word .ensures) (c .before .if1 .left) in omega arith
-
-word-requires-2 : tie.Need-word-requires-2
-word-requires-2 c κs = let w = word-inside _ _ _ _ _ _ (c .before .before .word .ensures) (c .before .if1 .left) in omega arith
+load-checked-requires : tie.Need-load-checked-requires
+load-checked-requires c κs = sym (survey-number _ _ _ _ (c .before .heap .ensures)) ∙ c .if1 .left
 
 returns-2 : tie.Need-returns-2
-returns-2 c =
-    load-done _ _ _ _ _ _ (c .before .before .before .word .ensures) _ (c .before .before .if1 .left) (λ i. c .before .before .before .before .shared-slice-known2 .given i .fits)
-    (c .before .first-word .ensures) (c .word2 .ensures)
+returns-2 c = c .load-checked .ensures
 
 pub load-spec : {M : Type 1} → statement M
-load-spec = tie.close (tie.spec word-requires returns first-word-requires add-word word-requires-2 returns-2)
+load-spec = tie.close (tie.spec heap-requires returns load-checked-requires returns-2)

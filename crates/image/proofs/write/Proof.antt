@@ -1,5 +1,6 @@
 -- `write`: a refused call returns before anything is written; else the buffer is long enough or the call is refused by 10, and the sections are written.
 -- Assumes nothing.
+use mathlib.Core.Path.{refl}
 use Prim.Native.Nat.{_≤_}
 use native.Mathlib.Omega.{arith}
 use borrow.Author.Needs.{needs}
@@ -14,15 +15,15 @@ unwritten-requires : tie.Need-unwritten-requires
 unwritten-requires c κs = search needs
 
 returns : tie.Need-returns
-returns c = rw (c .unwritten .ensures) (image-refused _ _ _ _ _ _ (c .before .before .root-list .ensures) (c .before .if1 .taken))
+returns c = rw (c .unwritten .ensures) (image-refused _ _ _ _ _ _ (c .before .before .root-list .ensures _ refl) (c .before .if1 .taken))
 
 -- what is known once the heap and the roots are not refused
 module _ (c : tie.Else1) where
   abbrev start : tie.Start
   start = c .before .before .before .before .before .before
 
-  knows : Known (start .args .t) (start .args .base .0) (start .args .pool .now) (start .args .table .now) (start .args .roots .now) (start .args .image .now) (c .before .root-list .ensures) (c .if1 .left)
-  knows = known _ _ _ _ _ _ (c .before .root-list .ensures) (c .if1 .left)
+  knows : Known (start .args .t) (start .args .base .0) (start .args .pool .now) (start .args .table .now) (start .args .roots .now) (start .args .image .now) (c .before .root-list .ensures _ refl) (c .if1 .left)
+  knows = known _ _ _ _ _ _ (c .before .root-list .ensures _ refl) (c .if1 .left)
 
 count-requires : tie.Need-count-requires
 count-requires c κs = knows c .is
@@ -49,7 +50,7 @@ unwritten-requires-2 c κs = search needs
 returns-2 : tie.Need-returns-2
 returns-2 c =
     let passed = c .before .before .before in
-    rw (c .unwritten2 .ensures) (image-short _ _ _ _ _ _ (passed .before .root-list .ensures) (passed .if1 .left) (omega (arith, c .before .if2 .taken, knows passed .long, c .before .before .count .ensures .0)))
+    rw (c .unwritten2 .ensures) (image-short _ _ _ _ _ _ (passed .before .root-list .ensures _ refl) (passed .if1 .left) (omega (arith, c .before .if2 .taken, knows passed .long, c .before .before .count .ensures .0)))
 
 write-sections-requires : tie.Need-write-sections-requires
 write-sections-requires c κs =
@@ -70,7 +71,7 @@ returns-3 : tie.Need-returns-3
 returns-3 c =
     let room = c .before .before .before .before in
     let passed = room .before .before in
-    image-done _ _ _ _ _ _ (passed .before .root-list .ensures) (passed .if1 .left) (omega (arith, room .if2 .left, knows passed .long, room .before .count .ensures .0)) (omega (arith, knows passed .long, room .before .count .ensures .0))
+    image-done _ _ _ _ _ _ (passed .before .root-list .ensures _ refl) (passed .if1 .left) (omega (arith, room .if2 .left, knows passed .long, room .before .count .ensures .0)) (omega (arith, knows passed .long, room .before .count .ensures .0))
     (λ i. passed .before .before .before .before .shared-slice-known2 .given i .fits) (c .before .before .write-sections .ensures)
 
 pub write-spec : {M : Type 1} → statement M

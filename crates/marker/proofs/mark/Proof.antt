@@ -1,10 +1,12 @@
 -- The rescans that are left, from the present state, end where all end from the state after the roots; a rescan lowers how many there can be.
 -- Assumes nothing.
 use mathlib.Core.Path.{_≡_, refl, _∙_}
+use mathlib.Core.List.{_∷_}
 use Prim.Native.Nat.{_+_, _≤_}
 use native.Mathlib.Omega.{arith}
 use borrow.Author.Needs.{needs}
 use lib.ListN.{length}
+use Rattle.rules.specs.Words.{wordsOf}
 use Rattle.rules.specs.Planes.{IsTable}
 use Rattle.rules.specs.Marking.{rescan}
 use Rattle.rules.proofs.Planes.{few-entries}
@@ -15,7 +17,7 @@ use Rattle.marker.proofs.mark.Statement.{statement}
 use Rattle.marker.proofs.mark.Tie as tie
 
 abbrev Inv-loop : tie.InvT-loop
-Inv-loop base t pool table₀ stack₀ roots overflow₀ rescans₀ table stack overflow rescans =
+Inv-loop base t pool table₀ stack₀ first roots overflow₀ rescans₀ table stack overflow rescans =
     (rescans + toRescan (idle t table overflow) ≤ toRescan (idle t table₀ overflow₀))
     × IsTable t table
     × (length table ≡ length table₀)
@@ -23,7 +25,7 @@ Inv-loop base t pool table₀ stack₀ roots overflow₀ rescans₀ table stack 
     × (rescan (contextOf (base .0) pool stack₀) (idle t table overflow) rescans ≡ rescan (contextOf (base .0) pool stack₀) (idle t table₀ overflow₀) 0)
 
 abbrev μ-loop : tie.MeasureT-loop
-μ-loop base t pool table₀ stack₀ roots overflow₀ rescans₀ table stack overflow rescans = toRescan (idle t table overflow)
+μ-loop base t pool table₀ stack₀ first roots overflow₀ rescans₀ table stack overflow rescans = toRescan (idle t table overflow)
 
 mark-roots-requires : tie.Need-mark-roots-requires Inv-loop μ-loop
 mark-roots-requires c κs = search needs
@@ -73,7 +75,7 @@ returns c =
     let l = c .before .loop in
     let m = c .before .before .before .before .before .before .mark-roots in (
       l .inv .1,
-      mark-end (a .base .0) (a .t) (a .pool .now) (m .last .1 .1 .1 .1 .0) (a .stack .now) (a .roots .now) (a .table .now) (m .last .1 .1 .1 .0) (l .table) (m .result) (l .overflow) (l .rescans)
+      mark-end (a .base .0) (a .t) (a .pool .now) (m .last .1 .1 .1 .1 .0) (a .stack .now) (a .first ∷ wordsOf (a .roots .now)) (a .table .now) (m .last .1 .1 .1 .0) (l .table) (m .result) (l .overflow) (l .rescans)
           (m .kept .1 .1 .1 .1 .0) (c .loop-test .left) (m .ensures .1) (l .inv .4),
     )
 

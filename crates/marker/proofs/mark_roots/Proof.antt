@@ -2,7 +2,8 @@
 -- Assumes nothing.
 use mathlib.Core.Path.{_≡_, refl, _∙_}
 use mathlib.Core.Bool.{false}
-use Prim.Native.Nat.{_-_, _/_}
+use mathlib.Core.List.{_∷_}
+use Prim.Native.Nat.{_+_, _-_, _/_}
 use native.Mathlib.Omega.{arith}
 use borrow.Author.Needs.{needs}
 use lib.ListN.{length, drop}
@@ -17,20 +18,20 @@ use Rattle.marker.proofs.mark_roots.Statement.{statement}
 use Rattle.marker.proofs.mark_roots.Tie as tie
 
 abbrev Inv-loop : tie.InvT-loop
-Inv-loop base t pool table₀ stack₀ roots overflow₀ i₀ table stack overflow i =
+Inv-loop base t pool table₀ stack₀ first roots overflow₀ i₀ table stack overflow i =
     IsTable t table
     × (length table ≡ length table₀)
     × (length stack ≡ length stack₀)
-    × (markRoots (contextOf (base .0) pool stack₀) (drop i (wordsOf roots)) (idle t table overflow) ≡ markRoots (contextOf (base .0) pool stack₀) (wordsOf roots) (idle t table₀ false))
+    × (markRoots (contextOf (base .0) pool stack₀) (drop i (first ∷ wordsOf roots)) (idle t table overflow) ≡ markRoots (contextOf (base .0) pool stack₀) (first ∷ wordsOf roots) (idle t table₀ false))
 
 abbrev μ-loop : tie.MeasureT-loop
-μ-loop base t pool table₀ stack₀ roots overflow₀ i₀ table stack overflow i = length roots / 4 - i
+μ-loop base t pool table₀ stack₀ first roots overflow₀ i₀ table stack overflow i = length roots / 4 + 1 - i
 
 loop-holds : tie.Need-loop-holds Inv-loop μ-loop
 loop-holds c = (c .before .before .before .before .pre .is-table, refl, refl, refl)
 
-word-requires : tie.Need-word-requires Inv-loop μ-loop
-word-requires c κs = omega (arith, c .before .before .loop-test .taken)
+root-requires : tie.Need-root-requires Inv-loop μ-loop
+root-requires c κs = omega (arith, c .before .before .loop-test .taken)
 
 mark-root-requires : tie.Need-mark-root-requires Inv-loop μ-loop
 mark-root-requires c κs = shape-same (c .before .before .before .before .before .before .before .before .before .args .t) (c .before .before .before .before .before .before .before .before .before .args .pool .now) (c .before .before .before .before .before .before .before .before .before .args .table .now) (c .before .before .before .before .loop .table) (c .before .before .before .before .before .before .before .before .before .pre) (c .before .before .before .before .loop .inv .0)
@@ -49,8 +50,8 @@ loop-again c =
       r .ensures .0,
       r .kept .1 .1 .1 .0 ∙ l .inv .1,
       r .kept .1 .1 .1 .1 .0 ∙ l .inv .2,
-      roots-next (a .base .0) (a .pool .now) (a .stack .now) (a .roots .now) (l .i) (c .before .before .before .before .before .word .result) (l .stack) (idle (a .t) (l .table) (l .overflow))
-          (c .before .before .before .before .before .before .before .before .loop-test .taken) (l .inv .2) (c .before .before .before .before .before .word .ensures) (r .ensures .1) (l .inv .3),
+      roots-next (a .base .0) (a .pool .now) (a .stack .now) (a .first ∷ wordsOf (a .roots .now)) (l .i) (c .before .before .before .before .before .root .result) (l .stack) (idle (a .t) (l .table) (l .overflow))
+          (omega (arith, c .before .before .before .before .before .before .before .before .loop-test .taken, length-wordsOf (a .roots .now))) (l .inv .2) (c .before .before .before .before .before .root .ensures) (r .ensures .1) (l .inv .3),
     )
 
 same-length : tie.Need-same-length Inv-loop μ-loop
@@ -64,7 +65,7 @@ returns c =
     let a = c .before .before .before .before .before .before .args in
     let l = c .before .loop in (
       l .inv .0,
-      roots-end (contextOf (a .base .0) (a .pool .now) (a .stack .now)) (wordsOf (a .roots .now)) (l .i) (idle (a .t) (l .table) (l .overflow))
+      roots-end (contextOf (a .base .0) (a .pool .now) (a .stack .now)) (a .first ∷ wordsOf (a .roots .now)) (l .i) (idle (a .t) (l .table) (l .overflow))
           (omega (arith, c .loop-test .left, length-wordsOf (a .roots .now))) (l .inv .3),
     )
 
@@ -75,7 +76,7 @@ mark-roots-spec =
     Inv-loop
     μ-loop
     loop-holds
-    word-requires
+    root-requires
     mark-root-requires
     add-i
     loop-less

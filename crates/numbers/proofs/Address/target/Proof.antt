@@ -1,25 +1,19 @@
--- `Address::target` takes the rule's three tests in order: each way out rewrites the rule with the tests that led there.
+-- `Address::target` is the block at the address that the word holds.
 -- Assumes nothing.
-use borrow.Author.Tests.{le-leb, lt-leb, lt-ltb, le-ltb, eq-eqb, ne-eqb}
+use mathlib.Core.Path.{ap, _∙_}
+use borrow.Author.Needs.{needs}
 use Rattle.rules.specs.Pointers.{targetOf}
 use Rattle.numbers.proofs.Address.target.Statement.{statement}
 use Rattle.numbers.proofs.Address.target.Tie as tie
 
+of-word-requires : tie.Need-of-word-requires
+of-word-requires c κs = search needs
+
+block-at-requires : tie.Need-block-at-requires
+block-at-requires c κs = search needs
+
 returns : tie.Need-returns
-unfolding targetOf
-returns c = simp (lt-leb _ _ (c .if1 .taken))
-
-returns-2 : tie.Need-returns-2
-unfolding targetOf
-returns-2 c = simp (le-leb _ _ (c .before .if1 .left), ne-eqb _ _ (c .if2 .taken))
-
-returns-3 : tie.Need-returns-3
-unfolding targetOf
-returns-3 c = simp (le-leb _ _ (c .before .before .if1 .left), eq-eqb _ _ (c .before .if2 .left), lt-ltb _ _ (c .if3 .taken))
-
-returns-4 : tie.Need-returns-4
-unfolding targetOf
-returns-4 c = simp (le-leb _ _ (c .before .before .if1 .left), eq-eqb _ _ (c .before .if2 .left), le-ltb _ _ (c .if3 .left))
+returns c = c .block-at .ensures ∙ ap (targetOf _ _) (c .before .of-word .ensures)
 
 pub target-spec : {M : Type 1} → statement M
-target-spec = tie.close (tie.spec returns returns-2 returns-3 returns-4)
+target-spec = tie.close (tie.spec of-word-requires block-at-requires returns)

@@ -1,0 +1,37 @@
+-- `heap::load_checked` meets its contract: with the check that was passed before, its tests are those of a load. Assumes nothing.
+use mathlib.Core.Path.{_≡_, refl}
+use native.Mathlib.Omega.{arith}
+use Rattle.rules.specs.Outcomes.{Heap}
+use Rattle.rules.specs.Refusals.{wordTests}
+use Rattle.checks.specs.Refusal.{refusalBy}
+use Rattle.heap.proofs.Ends.{survey-accepted, survey-checked, word-next, load-refused, load-done, word-inside}
+use Rattle.heap.proofs.load_checked.Statement.{statement}
+use Rattle.heap.proofs.load_checked.Tie as tie
+
+-- the number is that of all tests of a load
+tested : (c : tie.After-object-word) → let a = c .before .before .before .args in
+    c .object-word .result ≡ refusalBy (a .t) (a .pool .now) (a .table .now) (λ (g : Heap). wordTests (a .base .0) g (a .k .0) (a .i))
+tested c = word-next _ _ _ _ _ _ (survey-accepted _ _ _ _ (c .before .before .before .pre)) refl (c .object-word .ensures)
+
+object-word-requires : tie.Need-object-word-requires
+object-word-requires c κs = survey-checked _ _ _ _ (survey-accepted _ _ _ _ (c .before .before .pre)) refl .is
+
+returns : tie.Need-returns
+returns c = load-refused _ _ _ _ _ _ (tested (c .before)) (c .if1 .taken)
+
+first-word-requires : tie.Need-first-word-requires
+first-word-requires c κs = omega (arith, word-inside _ _ _ _ _ _ (tested (c .before)) (c .if1 .left) .0)
+
+add-word : tie.Need-add-word
+add-word c = let w = word-inside _ _ _ _ _ _ (tested (c .before .before)) (c .before .if1 .left) in omega arith
+
+word-requires : tie.Need-word-requires
+word-requires c κs = let w = word-inside _ _ _ _ _ _ (tested (c .before .before)) (c .before .if1 .left) in omega arith
+
+returns-2 : tie.Need-returns-2
+returns-2 c =
+    load-done _ _ _ _ _ _ (tested (c .before .before .before)) _ (c .before .before .if1 .left) (λ i. c .before .before .before .before .shared-slice-known2 .given i .fits)
+    (c .before .first-word .ensures) (c .word .ensures)
+
+pub load-checked-spec : {M : Type 1} → statement M
+load-checked-spec = tie.close (tie.spec object-word-requires returns first-word-requires add-word word-requires returns-2)
