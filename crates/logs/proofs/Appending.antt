@@ -3,13 +3,13 @@
 use mathlib.Core.Path.{_≡_, refl, ap, ap₂, sym, subst, _∙_}
 use mathlib.Core.Logic.{_≢_, _⊎_, inl, inr, ⊎-elim}
 use mathlib.Core.Bool.{Bool, true, false}
-use mathlib.Core.List.{List, [], _∷_, _++_}
+use mathlib.Core.List.{List, _++_}
 use Prim.Native.Nat.{ℕ, _/_, _%_, _^_, _≤_, _<_}
 use native.Mathlib.Omega.{arith}
 use lib.Dec.{eqb, leb, ltb}
 use lib.IntN.{ℤ, pos, _+ℤ_}
 use lib.ListN.{length}
-use borrow.Author.Tests.{eqb-true, eqb-false, leb-true, leb-false, ltb-true, ltb-false}
+use borrow.Author.Tests.{eqb-true, leb-true, leb-false, ltb-true, ltb-false}
 use Rattle.rules.specs.Tests.{both}
 use Rattle.rules.specs.Words.{bytesOf}
 use Rattle.rules.specs.Meaning.{AllBytes, Lowest, Passed, Accepted}
@@ -20,14 +20,14 @@ use Rattle.rules.specs.Runs.{Collect, step}
 use Rattle.rules.specs.Forms.{Form, Faithful}
 use Rattle.rules.specs.Memory.{Memory, heapIn, Sound, Result}
 use Rattle.rules.proofs.Refusals.{true-not-false}
-use Rattle.rules.proofs.Memory.{Written, Follows, follows-sound, refusal-in}
+use Rattle.rules.proofs.Memory.{Written, Follows, follows-sound}
 use Rattle.keeping.specs.Keeping.{GoodStack}
 use Rattle.promises.specs.Conditions.{First, NoFit}
 use Rattle.promises.proofs.Promised.{promises}
 use Rattle.programs.specs.Programs.{Program, Ran, ran, run}
 use Rattle.programs.proofs.OnHeaps.{RanOn, runOn, RunsAs}
 use Rattle.logs.specs.Log.{Reply, logged, declined, declineIf, onLog, enter, appendTo, append}
-use Rattle.logs.specs.Chains.{Entry, Chain, Log, heads}
+use Rattle.logs.specs.Chains.{Entry, Chain, heads}
 use Rattle.logs.specs.Promises.{surveyIn, collectionIn, ofAppend, Declined, Longer, Appended}
 use Rattle.logs.proofs.Chaining.{chain-one}
 use Rattle.logs.proofs.Calling.{resting, Followed, lost, found, followed, Entered, enter-refusal, entered, Asked, at-once, after-all, not-even, asked, kept-accepted, log-kept}

@@ -1,40 +1,38 @@
 -- The calls of the log behind their first tests, on a heap that has passed 1 and 2: what each does, by cases.
 -- Assumes nothing.
 use mathlib.Core.Path.{_≡_, refl, ap, sym, subst, _∙_}
-use mathlib.Core.Logic.{_≢_, _⊎_, inl, inr, ⊎-elim}
-use mathlib.Core.Bool.{Bool, true, false}
+use mathlib.Core.Logic.{_⊎_, ⊎-elim}
 use mathlib.Core.List.{List, [], _∷_, _++_, List·Memᴰ, List·Memᴰ·head}
 use mathlib.Core.Option.{Option, some, none, Option·none-ne-some}
-use Prim.Native.Nat.{ℕ, zero, suc, _+_, _*_, _/_, _%_, _^_, _≤_, _<_}
+use Prim.Native.Nat.{ℕ, _+_, _/_, _%_, _^_, _≤_, _<_}
 use native.Mathlib.Omega.{arith}
 use lib.Dec.{eqb}
-use lib.IntN.{ℤ, pos, _+ℤ_}
+use lib.IntN.{ℤ, _+ℤ_}
 use lib.ListN.{length, length-append}
-use borrow.Author.Tests.{eqb-true, eqb-false}
 use Rattle.rules.specs.Tests.{pick, tabulate}
-use Rattle.rules.specs.Words.{bytesOf, wordAt, wordsOf}
+use Rattle.rules.specs.Words.{bytesOf, wordsOf}
 use Rattle.rules.specs.Pointers.{addressOf}
 use Rattle.rules.specs.Meaning.{Passed, Accepted}
 use Rattle.rules.specs.Outcomes.{Heap, Answer, Outcome}
-use Rattle.rules.specs.Calls.{blocksFor, allocate, free, collect, store, load}
+use Rattle.rules.specs.Calls.{blocksFor, allocate, free, collect, store}
 use Rattle.rules.specs.Runs.{Allocate, Free, Collect, Load, Store, step}
 use Rattle.rules.specs.Forms.{Form, Faithful}
 use Rattle.rules.specs.Memory.{Memory, heapIn}
 use Rattle.rules.proofs.Words.{length-bytesOf, wordsOf-append, wordAt-bytesOf}
 use Rattle.rules.proofs.Tables.{entry-inside, well-says}
-use Rattle.keeping.specs.Keeping.{GoodRoots, GoodStack, butRescans}
+use Rattle.keeping.specs.Keeping.{GoodStack}
 use Rattle.keeping.proofs.Collections.{collect-accepts}
 use Rattle.promises.specs.Conditions.{First, ofAllocate, NoFit}
-use Rattle.promises.specs.Promises.{Object, blocksOf}
 use Rattle.promises.proofs.Promised.{promises}
 use Rattle.programs.specs.Programs.{Program, give, ask}
 use Rattle.programs.proofs.OnHeaps.{RanOn, runOn}
-use Rattle.logs.specs.Log.{Reply, logged, readout, declined, decline, onLog, join, enter, appendTo, readFrom, dropFrom, lastOf, atIndex}
-use Rattle.logs.specs.Chains.{Entry, entryIn, Chain, ends, leads, Log, heads}
+use Rattle.logs.specs.Log.{Reply, logged, readout, declined, decline, onLog, join, enter, appendTo, readFrom, dropFrom, lastOf}
+use Rattle.logs.specs.Chains.{Entry, Chain, ends, leads, Log, heads}
 use Rattle.logs.specs.Promises.{Longer}
 use Rattle.logs.proofs.Chaining.{chain-reachable, chain-same}
 use Rattle.logs.proofs.Distinct.{chain-4096}
-use Rattle.logs.proofs.Following.{looks, chainBy, load-on, follow-on}
+use Rattle.logs.specs.Heads.{headsFrom}
+use Rattle.logs.proofs.Following.{looks, load-on, follow-on}
 use Rattle.logs.proofs.Finding.{found-says, chain-found}
 use Rattle.logs.proofs.Entering.{New, new-object, joined-none, joined-last, linked-good}
 
@@ -51,15 +49,15 @@ pub data Followed (base first : ℕ) (go : List ℕ → Program Reply) (stack : 
 
 pub followed : (base first : ℕ) (go : List ℕ → Program Reply) (stack : List ℕ) (h : Heap) → Passed base h → Followed base first go stack h
 unfolding onLog runOn
-followed base first go stack h good = to (chainBy (looks base h) base 4096 first) refl
+followed base first go stack h good = to (headsFrom (looks base h) base 4096 first) refl
   where
     then : Option (List ℕ) → Program Reply
     then x = elim x [ none ↦ decline 18 | some ks ↦ go ks ]
 
-    on : runOn (onLog base first go) stack h ≡ runOn (then (chainBy (looks base h) base 4096 first)) stack h
+    on : runOn (onLog base first go) stack h ≡ runOn (then (headsFrom (looks base h) base 4096 first)) stack h
     on = follow-on base stack h 4096 first then
 
-    to : (x : Option (List ℕ)) → chainBy (looks base h) base 4096 first ≡ x → Followed base first go stack h
+    to : (x : Option (List ℕ)) → headsFrom (looks base h) base 4096 first ≡ x → Followed base first go stack h
     to none e =
         lost (λ log. Option·none-ne-some (heads (log .entries)) (sym e ∙ chain-found base h good 4096 (log .chain) (chain-4096 base h (good .shape) (log .chain))))
         (on ∙ ap (λ (x : Option (List ℕ)). runOn (then x) stack h) e)

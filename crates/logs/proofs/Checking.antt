@@ -4,17 +4,17 @@ use mathlib.Core.Path.{_≡_, refl, ap, sym, subst, _∙_}
 use mathlib.Core.Logic.{_⊎_, inl, inr, ⊎-elim}
 use mathlib.Core.Bool.{Bool, true, false}
 use mathlib.Core.List.{List, []}
-use Prim.Native.Nat.{ℕ, zero, suc}
+use Prim.Native.Nat.{ℕ, suc}
 use native.Mathlib.Omega.{arith}
 use lib.Dec.{eqb}
 use borrow.Author.Tests.{ne-eqb}
 use Rattle.rules.specs.Tests.{pick}
-use Rattle.rules.specs.Meaning.{AllBytes, Passed}
-use Rattle.rules.specs.Outcomes.{Heap, Answer, onlyRefusal}
+use Rattle.rules.specs.Meaning.{Passed}
+use Rattle.rules.specs.Outcomes.{Heap, onlyRefusal}
 use Rattle.rules.specs.Calls.{survey}
 use Rattle.rules.specs.Runs.{Survey, step}
 use Rattle.rules.specs.Forms.{Form, Faithful}
-use Rattle.rules.specs.Memory.{Memory, memory, heapIn, Sound, Result, result, stackFor, perform}
+use Rattle.rules.specs.Memory.{Memory, memory, heapIn, Sound, Result, result, perform}
 use Rattle.rules.proofs.Memory.{Written, follows-accepted, accepted-sound, Performed, acted, left, performed}
 use Rattle.promises.specs.Conditions.{First, ofSurvey}
 use Rattle.promises.proofs.Promised.{promises}

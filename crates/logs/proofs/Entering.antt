@@ -1,17 +1,15 @@
 -- A new entry: an object of two blocks is allocated, its time and tip count are stored, and it joins the log behind the last entry.
 -- Assumes nothing.
 use mathlib.Core.Path.{_≡_, refl, ap, ap₂, sym, subst, _∙_}
-use mathlib.Core.Logic.{_≢_, _⊎_, inl, inr}
+use mathlib.Core.Logic.{_≢_, inr}
 use mathlib.Core.List.{List, [], _∷_, _++_, List·Memᴰ}
 use mathlib.Core.Option.{Option, some, none, Option·some-injective, Option·none-ne-some}
-use Prim.Native.Nat.{ℕ, zero, suc, _+_, _*_, _^_, _≤_, _<_}
-use native.Mathlib.Decide.{ℕ-discrete}
+use Prim.Native.Nat.{ℕ, _+_, _*_, _^_, _≤_, _<_}
 use native.Mathlib.Omega.{arith}
 use lib.IntN.{ℤ, pos, _+ℤ_, natAbs}
-use lib.ListN.{length}
 use Rattle.rules.specs.Words.{wordAt}
-use Rattle.rules.specs.Entries.{FREE, HEAD}
-use Rattle.rules.specs.Tables.{entryAt, blockCount, used}
+use Rattle.rules.specs.Entries.{FREE}
+use Rattle.rules.specs.Tables.{entryAt, used}
 use Rattle.rules.specs.Pointers.{addressOf}
 use Rattle.rules.specs.Meaning.{Lowest, Passed, Accepted}
 use Rattle.rules.specs.Outcomes.{Heap, Answer, Outcome, loaded}
@@ -22,7 +20,7 @@ use Rattle.promises.specs.Promises.{Object, blocksOf, byteAt, Among, Within, Sa
 use Rattle.promises.proofs.Promised.{promises}
 use Rattle.promises.proofs.Observed.{store-number, load-inside, same-words, new-zero}
 use Rattle.logs.specs.Log.{lastOf}
-use Rattle.logs.specs.Chains.{Entry, entryIn, Chain, heads}
+use Rattle.logs.specs.Chains.{Entry, Chain, heads}
 use Rattle.logs.specs.Promises.{LastOf, Longer}
 use Rattle.logs.proofs.Chaining.{Relinked, chain-same, chain-object, chain-blocks, chain-single, chain-append, last-behind, last-among}
 use Rattle.logs.proofs.Distinct.{no-repetition}

@@ -1,7 +1,7 @@
 -- A program of the log finds the heads of a chain exactly if there is one.
 -- Assumes nothing.
-use mathlib.Core.Path.{_≡_, refl, ap, ap₂, sym, subst, _∙_}
-use mathlib.Core.Logic.{_≢_, _⊎_, inl, inr, ⊎-elim}
+use mathlib.Core.Path.{_≡_, refl, ap, sym, subst}
+use mathlib.Core.Logic.{_⊎_, ⊎-elim}
 use mathlib.Core.Bool.{Bool, true, false}
 use mathlib.Core.List.{List, [], _∷_}
 use mathlib.Core.Option.{Option, some, none, Option·some-injective, Option·none-ne-some}
@@ -14,21 +14,20 @@ use borrow.Author.Tests.{eqb-true, ne-eqb}
 use Rattle.rules.specs.Tests.{pick, both}
 use Rattle.rules.specs.Words.{wordAt}
 use Rattle.rules.specs.Entries.{HEAD}
-use Rattle.rules.specs.Tables.{entryAt, blockCount}
+use Rattle.rules.specs.Tables.{entryAt}
 use Rattle.rules.specs.Pointers.{addressOf, targetOf}
 use Rattle.rules.specs.Meaning.{Points, Passed}
-use Rattle.rules.specs.Outcomes.{Heap, Answer, loaded, onlyRefusal}
-use Rattle.rules.specs.Calls.{load}
-use Rattle.rules.proofs.Refusals.{true-not-false}
+use Rattle.rules.specs.Outcomes.{Heap, Answer}
 use Rattle.rules.proofs.Tables.{entry-inside}
-use Rattle.promises.specs.Conditions.{when, First, ofWord}
+use Rattle.promises.specs.Conditions.{First, ofWord}
 use Rattle.promises.specs.Promises.{Object, blocksOf}
 use Rattle.promises.proofs.Promised.{promises}
 use Rattle.promises.proofs.Observed.{target-one, load-inside, load-beyond}
-use Rattle.logs.specs.Log.{Link, isAccepted, linkIn, prepended}
+use Rattle.logs.specs.Log.{Link, linkIn, prepended}
 use Rattle.logs.specs.Chains.{Entry, entryIn, Chain, ends, leads, heads}
 use Rattle.logs.proofs.Chaining.{address-some}
-use Rattle.logs.proofs.Following.{looks, linkBy, chainBy}
+use Rattle.logs.specs.Heads.{linkFrom, headsFrom}
+use Rattle.logs.proofs.Following.{looks}
 
 -- ---- a link
 
@@ -76,8 +75,8 @@ module _ (base : ℕ) (h : Heap) (good : Passed base h) where
       let e : 4 * k + 0 ≡ 4 * k = omega arith in
       ap (λ (a : Answer). a .value) (rw e at (load-inside base h good k 0 head (omega arith)))
 
-  pub link-says : (w : ℕ) (l : Link) → linkBy (looks base h) (targetOf base 4096 w) ≡ some l → Linked base h w l
-  unfolding linkBy linkIn Points
+  pub link-says : (w : ℕ) (l : Link) → linkFrom (looks base h) (targetOf base 4096 w) ≡ some l → Linked base h w l
+  unfolding linkFrom linkIn Points
   link-says w l = go (targetOf base 4096 w) (promises .target-points base 4096 w)
     where
       to : (k : ℕ) → w ≡ addressOf base k → (a b : Bool) → eqb (looks base h k 7 .refusal) 0 ≡ a → eqb (looks base h k 8 .refusal) 8 ≡ b
@@ -91,13 +90,13 @@ module _ (base : ℕ) (h : Heap) (good : Passed base h) where
       to k e true false x y q = absurd (Option·none-ne-some l q)
       to k e false b x y q = absurd (Option·none-ne-some l q)
 
-      go : (x : Option ℕ) → Points base 4096 w x → linkBy (looks base h) x ≡ some l → Linked base h w l
+      go : (x : Option ℕ) → Points base 4096 w x → linkFrom (looks base h) x ≡ some l → Linked base h w l
       go none p q = absurd (Option·none-ne-some l q)
       go (some k) p q = to k (p .1) _ _ refl refl q
 
   -- and each such object has one
-  pub link-is : (k : ℕ) → Object h k → blocksOf h k ≡ 2 → linkBy (looks base h) (targetOf base 4096 (addressOf base k)) ≡ some (record { head = k; next = wordAt (h .pool) (4 * k) })
-  unfolding linkBy linkIn Points
+  pub link-is : (k : ℕ) → Object h k → blocksOf h k ≡ 2 → linkFrom (looks base h) (targetOf base 4096 (addressOf base k)) ≡ some (record { head = k; next = wordAt (h .pool) (4 * k) })
+  unfolding linkFrom linkIn Points
   link-is k head two =
       let inside = entry-inside (h .entries) k (λ f. omega arith) in
       let at = target-one base 4096 (addressOf base k) (some k) (omega (arith, inside, good .shape .few), refl) in
@@ -127,8 +126,8 @@ module _ (base : ℕ) (h : Heap) (good : Passed base h) where
   found-none : (w : ℕ) (ks : List ℕ) → w ≡ 0 → [] ≡ ks → Found base h w ks
   found-none w ks z e = record { entries = []; chain = subst (λ (v : ℕ). Chain base h v []) (sym z) ends; are = e }
 
-  pub found-says : (n w : ℕ) (ks : List ℕ) → chainBy (looks base h) base n w ≡ some ks → Found base h w ks
-  unfolding chainBy
+  pub found-says : (n w : ℕ) (ks : List ℕ) → headsFrom (looks base h) base n w ≡ some ks → Found base h w ks
+  unfolding headsFrom
   found-says zero w ks = go (eqb w 0) refl
     where
       go : (b : Bool) → eqb w 0 ≡ b → pick b (some []) none ≡ some ks → Found base h w ks
@@ -136,24 +135,24 @@ module _ (base : ℕ) (h : Heap) (good : Passed base h) where
       go false z e = absurd (Option·none-ne-some ks e)
   found-says (suc n) w ks = go (found-says n) (eqb w 0) refl
     where
-      more : ((v : ℕ) (js : List ℕ) → chainBy (looks base h) base n v ≡ some js → Found base h v js) → (l : Link) → Linked base h w l → (x : Option (List ℕ)) → chainBy (looks base h) base n (l .next) ≡ x
+      more : ((v : ℕ) (js : List ℕ) → headsFrom (looks base h) base n v ≡ some js → Found base h v js) → (l : Link) → Linked base h w l → (x : Option (List ℕ)) → headsFrom (looks base h) base n (l .next) ≡ x
           → prepended (l .head) x ≡ some ks → Found base h w ks
       more rest l at none q e = absurd (Option·none-ne-some ks e)
       more rest l at (some js) q e = subst (Found base h w) (Option·some-injective _ _ e) (found-more w l js at (rest (l .next) js q))
 
-      to : ((v : ℕ) (js : List ℕ) → chainBy (looks base h) base n v ≡ some js → Found base h v js) → (x : Option Link) → linkBy (looks base h) (targetOf base 4096 w) ≡ x
-          → elim x [ none ↦ none | some l ↦ prepended (l .head) (chainBy (looks base h) base n (l .next)) ] ≡ some ks → Found base h w ks
+      to : ((v : ℕ) (js : List ℕ) → headsFrom (looks base h) base n v ≡ some js → Found base h v js) → (x : Option Link) → linkFrom (looks base h) (targetOf base 4096 w) ≡ x
+          → elim x [ none ↦ none | some l ↦ prepended (l .head) (headsFrom (looks base h) base n (l .next)) ] ≡ some ks → Found base h w ks
       to rest none q e = absurd (Option·none-ne-some ks e)
       to rest (some l) q e = more rest l (link-says base h good w l q) _ refl e
 
-      go : ((v : ℕ) (js : List ℕ) → chainBy (looks base h) base n v ≡ some js → Found base h v js) → (b : Bool) → eqb w 0 ≡ b
-          → pick b (some []) (elim (linkBy (looks base h) (targetOf base 4096 w)) [ none ↦ none | some l ↦ prepended (l .head) (chainBy (looks base h) base n (l .next)) ]) ≡ some ks → Found base h w ks
+      go : ((v : ℕ) (js : List ℕ) → headsFrom (looks base h) base n v ≡ some js → Found base h v js) → (b : Bool) → eqb w 0 ≡ b
+          → pick b (some []) (elim (linkFrom (looks base h) (targetOf base 4096 w)) [ none ↦ none | some l ↦ prepended (l .head) (headsFrom (looks base h) base n (l .next)) ]) ≡ some ks → Found base h w ks
       go rest true z e = found-none w ks (eqb-true w 0 z) (Option·some-injective _ _ e)
       go rest false z e = to rest _ refl e
 
   -- and those of a chain are found, if there are not too many
-  pub chain-found : (n : ℕ) {w : ℕ} {es : List Entry} → Chain base h w es → length es ≤ n → chainBy (looks base h) base n w ≡ some (heads es)
-  unfolding chainBy
+  pub chain-found : (n : ℕ) {w : ℕ} {es : List Entry} → Chain base h w es → length es ≤ n → headsFrom (looks base h) base n w ≡ some (heads es)
+  unfolding headsFrom
   chain-found zero ends l = refl
   chain-found (suc n) ends l = refl
   chain-found zero (leads head two c) l = absurd (omega arith)

@@ -1,9 +1,9 @@
 -- Read and drop: by which number they are refused, and what they do otherwise.
 -- Assumes nothing.
 use mathlib.Core.Path.{_≡_, refl, ap, ap₂, sym, subst, _∙_}
-use mathlib.Core.Logic.{_≢_, inl, inr, ⊎-elim}
+use mathlib.Core.Logic.{_≢_, inr, ⊎-elim}
 use mathlib.Core.List.{List, [], _∷_, _++_}
-use mathlib.Core.Option.{Option, some, none}
+use mathlib.Core.Option.{some, none}
 use Prim.Native.Nat.{ℕ, zero, suc, _+_, _*_, _≤_, _<_}
 use native.Mathlib.Omega.{arith}
 use lib.IntN.{ℤ, pos, negℤ, _+ℤ_, natAbs, -ℤ-+ℤ-cancel}
@@ -18,21 +18,21 @@ use Rattle.rules.specs.Forms.{Form, Faithful}
 use Rattle.rules.specs.Memory.{Memory, heapIn}
 use Rattle.rules.proofs.Tables.{entry-inside, well-says}
 use Rattle.promises.specs.Conditions.{First, ofFree}
-use Rattle.promises.specs.Promises.{Object, blocksOf, Freed}
+use Rattle.promises.specs.Promises.{Object, blocksOf}
 use Rattle.promises.proofs.Promised.{promises}
 use Rattle.promises.proofs.Observed.{free-number, load-inside}
 use Rattle.programs.specs.Programs.{Ran, run}
 use Rattle.programs.proofs.Laws.{heads-same, tails-same}
 use Rattle.programs.proofs.OnHeaps.{RanOn, runOn, RunsAs}
 use Rattle.logs.specs.Log.{Reply, logged, readout, declined, readFrom, read, dropFrom, drop}
-use Rattle.logs.specs.Chains.{Entry, entryIn, Chain, heads}
+use Rattle.logs.specs.Chains.{Entry, Chain}
 use Rattle.logs.specs.Pairs.{pairs, readPairs}
 use Rattle.logs.specs.Promises.{surveyIn, ofRead, ofDrop, Declined, Dropped}
 use Rattle.logs.proofs.Chaining.{Front, chain-front, chain-one, chain-apart, distinct-front}
 use Rattle.logs.proofs.Distinct.{no-repetition}
 use Rattle.logs.proofs.Following.{looks}
 use Rattle.logs.proofs.Calling.{resting, read-none, read-some, drop-none, drop-some}
-use Rattle.logs.proofs.Ending.{written-same, written-of, At, Ends, stops, acts, ended}
+use Rattle.logs.proofs.Ending.{written-same, written-of, Ends, stops, acts, ended}
 
 -- ---- entries of a chain
 

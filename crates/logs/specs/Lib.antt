@@ -1,4 +1,5 @@
 pub mod Log
+pub mod Heads
 pub mod Chains
 pub mod Pairs
 pub mod Lasting
