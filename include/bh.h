@@ -204,6 +204,55 @@ static inline uint32_t bh_open_image(struct blockheap *heap, const uint8_t *imag
     return refusal;
 }
 
+/* ---- The rain log ---- */
+
+/*
+ * A log of a heap: the address of its oldest entry, or 0 if it is empty. One that is all 0 is an empty log. The
+ * calls keep it up to date; after a refusal it is what it was.
+ *
+ *   struct bh_log log = {0};
+ *   refusal = bh_log_append(&heap, &log, time, tips, roots, sizeof roots, stack, sizeof stack, NULL);
+ *   for (index = 0; !bh_log_read(&heap, &log, index, &time, &tips); index++)
+ *       printf("%u: %u\n", (unsigned)time, (unsigned)tips);
+ *
+ * log.first must be among the roots of each collection but append's own.
+ */
+struct bh_log {
+    uint32_t first;
+};
+
+/* Of all refusals NO_ROOM alone leaves a change behind, that of a collection, and the log is whole then too. */
+static inline uint32_t bh_log_append(const struct blockheap *heap, struct bh_log *log, uint32_t time, uint32_t tips,
+                                     const uint8_t *roots, size_t roots_len, uint8_t *stack, size_t stack_len,
+                                     int32_t *change)
+{
+    uint32_t first;
+    int32_t no_change;
+    uint32_t refusal =
+        blockheap_log_append(BH_PARTS(heap), log->first, time, tips, BH_LIST(roots, roots_len),
+                             BH_LIST(stack, stack_len), &first, change ? change : &no_change);
+    if (!refusal)
+        log->first = first;
+    return refusal;
+}
+
+static inline uint32_t bh_log_read(const struct blockheap *heap, const struct bh_log *log, uint64_t index,
+                                   uint32_t *time, uint32_t *tips)
+{
+    uint32_t no_time, no_tips;
+    return blockheap_log_read(BH_PARTS(heap), log->first, index, time ? time : &no_time, tips ? tips : &no_tips);
+}
+
+static inline uint32_t bh_log_drop(const struct blockheap *heap, struct bh_log *log, int32_t *change)
+{
+    uint32_t first;
+    int32_t no_change;
+    uint32_t refusal = blockheap_log_drop(BH_PARTS(heap), log->first, &first, change ? change : &no_change);
+    if (!refusal)
+        log->first = first;
+    return refusal;
+}
+
 /* ---- Blocks, addresses and bytes ---- */
 
 /* What bh_block answers where there is no block. Every call refuses it as NO_SUCH_BLOCK. */
@@ -306,6 +355,8 @@ static inline const char *bh_refusal_name(uint32_t refusal)
     case BLOCKHEAP_BAD_COUNT: return "BAD_COUNT";
     case BLOCKHEAP_TRAILING_BYTES: return "TRAILING_BYTES";
     case BLOCKHEAP_ROOTS_TOO_SHORT: return "ROOTS_TOO_SHORT";
+    case BLOCKHEAP_NO_LOG: return "NO_LOG";
+    case BLOCKHEAP_NO_ENTRY: return "NO_ENTRY";
     default: return "UNKNOWN";
     }
 }
@@ -317,7 +368,7 @@ static inline const char *bh_refusal_text(uint32_t refusal)
     case BLOCKHEAP_OK: return "the call was accepted";
     case BLOCKHEAP_BAD_SHAPE: return "the base, t or a length breaks the rules";
     case BLOCKHEAP_BAD_TABLE: return "the table is damaged";
-    case BLOCKHEAP_TOO_MANY_ROOTS: return "there are more than 4,096 root words";
+    case BLOCKHEAP_TOO_MANY_ROOTS: return "there are more than 4,096 root words, a log's first address among them";
     case BLOCKHEAP_STACK_TOO_LONG: return "the mark stack has more than 64 entries";
     case BLOCKHEAP_ZERO_BYTES: return "the request is for 0 bytes";
     case BLOCKHEAP_NO_SUCH_BLOCK: return "the block number lies outside the pool";
@@ -329,6 +380,8 @@ static inline const char *bh_refusal_text(uint32_t refusal)
     case BLOCKHEAP_BAD_COUNT: return "a count in the image is wrong";
     case BLOCKHEAP_TRAILING_BYTES: return "bytes follow behind the image";
     case BLOCKHEAP_ROOTS_TOO_SHORT: return "the list is too short for the image's roots";
+    case BLOCKHEAP_NO_LOG: return "no log begins at the first address";
+    case BLOCKHEAP_NO_ENTRY: return "the log has no such entry";
     default: return "this version knows no such refusal number";
     }
 }

@@ -115,20 +115,61 @@
  *   roots     27   01 00         one root
  *             29   00 10 00 00   4,096
  *
+ * THE RAIN LOG
+ *
+ * A log is a list of entries in the heap, the oldest first. An entry is an
+ * object of 32 bytes, that is of two blocks and eight words:
+ *
+ *   word 0         the address of the next entry's head, or 0: it is the last
+ *   word 1         a time
+ *   word 2         a tip count
+ *   words 3 to 7   0 in a new entry; the log's calls never look at them
+ *
+ * The caller keeps the log's first address, that of its oldest entry's head. It
+ * is all there is beside the entries, and a heap may have several logs. The
+ * first address of an empty log is 0.
+ *
+ * Here the base is 4,096, and the log has two entries: 3 tips at time 60, then 5
+ * tips at time 120. Other objects lie in blocks 2 to 4. The first address is
+ * 4,096:
+ *
+ *   address   blocks    word 0   word 1   word 2   words 3 to 7
+ *     4,096   0 and 1    4,176       60        3              0
+ *     4,176   5 and 6        0      120        5              0
+ *
+ * blockheap_log_append adds an entry at the end, and makes room by a collection
+ * if there is none. blockheap_log_read reads one, and blockheap_log_drop frees
+ * the oldest. Each goes through the whole log once, and refuses as NO_LOG what
+ * is none: no chain of head addresses of objects of two blocks leads from the
+ * first address, without repetition, to a word 0 that is 0. So the address of a
+ * tail or of a free block, one inside a block or outside the pool, an object of
+ * one or of three blocks anywhere on the way, and a ring are refused.
+ *
+ * To the other calls an entry is an object like any other. Have the log's first
+ * address among the roots of each collection of your own; append does so by
+ * itself. If all collections are on the same base and have it, and nobody writes
+ * into an entry, frees or resizes one, the log reads as before after any of the
+ * other calls but init and an opening. A collection follows all eight words of
+ * an entry: a time or a tip count that happens to be an address keeps an object.
+ *
  * ANSWERS
  *
  * Every call returns 0, or the number of the first reason to refuse, in the
- * order of enum blockheap_refusal; blockheap_open_image has an order of its own.
- * Any number may be passed as base, t, block, word or bytes, and any content in
- * any buffer: what does not fit is refused. The other answers go out through the
- * pointers that come last. They are written on every call. After a refusal they
- * are all 0, and every byte of every buffer is what it was before, spare bits
- * too. Block 0 is a valid answer, so look at the returned number, not at the
- * block, to see whether a call was refused.
+ * order of enum blockheap_refusal; blockheap_open_image and blockheap_log_append
+ * have an order of their own. Any number may be passed as base, t, block, word,
+ * bytes, first or index, and any content in any buffer: what does not fit is
+ * refused. The other answers go out through the pointers that come last. They
+ * are written on every call. After a refusal they are all 0, and every byte of
+ * every buffer is what it was before, spare bits too. There is ONE EXCEPTION:
+ * where blockheap_log_append is refused with NO_ROOM, it has collected to make
+ * room, and that collection stands, with its `change`. Block 0 is a valid
+ * answer, so look at the returned number, not at the block, to see whether a
+ * call was refused.
  *
  * `change` is the change in used blocks, -4,096 to 4,096. Since the latest
- * accepted init, the changes add up to the used blocks of blockheap_survey; from
- * an accepted opening of an image on, they do with the image's used blocks.
+ * accepted init, the changes add up to the used blocks of blockheap_survey, that
+ * of the exception with them; from an accepted opening of an image on, they do
+ * with the image's used blocks.
  *
  * WHAT THE CALLER ENSURES
  *
@@ -190,6 +231,9 @@ extern "C" {
 #define BLOCKHEAP_MAX_ROOTS 4096
 #define BLOCKHEAP_MAX_STACK_ENTRIES 64
 #define BLOCKHEAP_MAX_IMAGE_BYTES 82956 /* of a full heap with the largest t and the most roots */
+#define BLOCKHEAP_LOG_ENTRY_BYTES 32
+#define BLOCKHEAP_MAX_LOG_ENTRIES 2048
+#define BLOCKHEAP_MAX_LOG_ROOTS 4095 /* of the caller's: the log's first address takes a place too */
 
 /* From t: the lengths in bytes of the pool, of one plane of the table, of the whole table, and of pool and table. */
 #define BLOCKHEAP_POOL_BYTES(t) (64 * (t))
@@ -219,8 +263,8 @@ enum blockheap_entry {
     BLOCKHEAP_MARK = 3
 };
 
-/* What a call returns. Of several reasons, the lowest number is given, except by blockheap_open_image, which has an
-   order of its own. */
+/* What a call returns. Of several reasons, the lowest number is given, except by blockheap_open_image and
+   blockheap_log_append, which have an order of their own. */
 enum blockheap_refusal {
     BLOCKHEAP_OK = 0,
     BLOCKHEAP_BAD_SHAPE = 1,         /* t, table_len, pool_len or base breaks the rules above or is not
@@ -228,7 +272,8 @@ enum blockheap_refusal {
                                         divisible by 4 */
     BLOCKHEAP_BAD_TABLE = 2,         /* a MARK, a tail at block 0 or after a free block, or a spare
                                         bit that is 1 */
-    BLOCKHEAP_TOO_MANY_ROOTS = 3,    /* more than 4,096 root words */
+    BLOCKHEAP_TOO_MANY_ROOTS = 3,    /* more than 4,096 root words, a log's first address being one of
+                                        them */
     BLOCKHEAP_STACK_TOO_LONG = 4,    /* a mark stack of more than 64 entries */
     BLOCKHEAP_ZERO_BYTES = 5,        /* a request for 0 bytes */
     BLOCKHEAP_NO_SUCH_BLOCK = 6,     /* the block number is n or more */
@@ -240,7 +285,10 @@ enum blockheap_refusal {
     BLOCKHEAP_IMAGE_TRUNCATED = 14,  /* the image ends inside a count or inside a section's items */
     BLOCKHEAP_BAD_COUNT = 15,        /* a count in the image is not what it must be */
     BLOCKHEAP_TRAILING_BYTES = 16,   /* bytes behind the image's last section */
-    BLOCKHEAP_ROOTS_TOO_SHORT = 17   /* the lent list has fewer entries than the image has roots */
+    BLOCKHEAP_ROOTS_TOO_SHORT = 17,  /* the lent list has fewer entries than the image has roots */
+    BLOCKHEAP_NO_LOG = 18,           /* the first address is not 0, and no chain of head addresses of
+                                        objects of two blocks leads from it to a word 0 that is 0 */
+    BLOCKHEAP_NO_ENTRY = 19          /* the log has no such entry */
 };
 
 /*
@@ -417,6 +465,66 @@ uint32_t blockheap_open_image(const uint8_t *image, size_t image_len,
                               uint8_t *table, size_t table_len,
                               uint8_t *roots, size_t roots_len,
                               uint32_t *base, uint32_t *count);
+
+/*
+ * Adds an entry at the end of a log. Its object is made as blockheap_allocate
+ * makes one of 32 bytes. If there is no room, the call collects once, from the
+ * log's first address and then the caller's roots, and asks again.
+ * - first: the log's first address; 0 is the empty log.
+ * - time, tips: words 1 and 2 of the new entry. Any numbers will do.
+ * - roots: what a collection keeps beside the log: root words as
+ *   blockheap_collect takes them, but at most 4,095. The log's first address
+ *   need not be among them. It takes a place of its own, even where it is 0.
+ * - stack: working memory for a collection, 0 to 64 entries of four bytes. After
+ *   a collection it is all 0; without one it is not touched.
+ * - new_first: the log's first address from now on: `first`, or the address of
+ *   the new entry if the log was empty.
+ * - change: 2, less the number of blocks that a collection freed.
+ * In the pool, the call writes the new object and word 0 of the entry that was
+ * the last, and nothing else.
+ * Refusals, in this order: BAD_SHAPE, BAD_TABLE, TOO_MANY_ROOTS (4,096 roots of
+ * the caller's, or more), STACK_TOO_LONG, NO_LOG, NO_ROOM (exactly if there are
+ * no two free blocks in a row, even after the collection).
+ * After NO_ROOM, and after no other refusal of any call, something has changed:
+ * the collection stands. The table is as it left it, the stack is all 0, and
+ * `change` is the number of blocks that it freed, negated. `new_first` is 0, but
+ * the log is whole, with the entries it had: keep the first address you have.
+ */
+BLOCKHEAP_NONNULL
+uint32_t blockheap_log_append(uint64_t base, uint64_t t, uint8_t *pool, size_t pool_len,
+                              uint8_t *table, size_t table_len,
+                              uint64_t first, uint32_t time, uint32_t tips,
+                              const uint8_t *roots, size_t roots_len,
+                              uint8_t *stack, size_t stack_len,
+                              uint32_t *new_first, int32_t *change);
+
+/*
+ * Reads an entry of a log.
+ * - first: the log's first address; 0 is the empty log.
+ * - index: which entry, counted from 0, the oldest.
+ * - time, tips: its words 1 and 2.
+ * Refusals: BAD_SHAPE, BAD_TABLE, NO_LOG, NO_ENTRY (exactly if the log has not
+ * more than `index` entries).
+ */
+BLOCKHEAP_NONNULL
+uint32_t blockheap_log_read(uint64_t base, uint64_t t, const uint8_t *pool, size_t pool_len,
+                            const uint8_t *table, size_t table_len,
+                            uint64_t first, uint64_t index, uint32_t *time, uint32_t *tips);
+
+/*
+ * Drops the oldest entry of a log: its object is freed, as by blockheap_free,
+ * and its bytes stay.
+ * - first: the log's first address; 0 is the empty log.
+ * - new_first: the log's first address from now on, that of the next entry, or 0
+ *   if there is none.
+ * - change: -2.
+ * Refusals: BAD_SHAPE, BAD_TABLE, NO_LOG, NO_ENTRY (exactly if the log is
+ * empty).
+ */
+BLOCKHEAP_NONNULL
+uint32_t blockheap_log_drop(uint64_t base, uint64_t t, const uint8_t *pool, size_t pool_len,
+                            uint8_t *table, size_t table_len,
+                            uint64_t first, uint32_t *new_first, int32_t *change);
 
 #ifdef __cplusplus
 }

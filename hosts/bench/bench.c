@@ -344,6 +344,81 @@ static void copy_image(void)
     add(copy_of_image[random_below(image_length)]);
 }
 
+static size_t entries;
+
+/* The address of an entry of the log that fills the heap. */
+static uint32_t entry_address(size_t number)
+{
+    return address(2 * number);
+}
+
+/* So many entries of two blocks each, from block 0 on, are a log. */
+static void make_log(size_t count)
+{
+    must(blockheap_init(HEAP));
+    roots_len = 0;
+    entries = count;
+    for (size_t number = 0; number < entries; number++) {
+        size_t block = allocate_blocks(2);
+        if (number + 1 < entries)
+            point(block, 0, block + 2);
+        put_word(pool + BLOCKHEAP_BLOCK_BYTES * block + BLOCKHEAP_WORD_BYTES, (uint32_t)(60 * number));
+        put_word(pool + BLOCKHEAP_BLOCK_BYTES * block + 2 * BLOCKHEAP_WORD_BYTES, (uint32_t)(number % 7));
+    }
+}
+
+/* It has all blocks. */
+static void full_log(void)
+{
+    make_log(blocks / 2);
+}
+
+/* There is room for one more. */
+static void log_with_room(void)
+{
+    make_log(blocks / 2 - 1);
+}
+
+/* It has half of the blocks, and the others are garbage. */
+static void log_and_garbage(void)
+{
+    make_log(blocks / 4);
+    for (size_t block = blocks / 2; block < blocks; block++)
+        allocate_blocks(1);
+}
+
+/* To the log as it was prepared. */
+static void append_to_log(void)
+{
+    uint32_t first;
+    int32_t change;
+    memcpy(table, prepared_table, TABLE_BYTES);
+    put_word(pool + entry_address(entries - 1) - BASE, 0);
+    must(blockheap_log_append(HEAP, entry_address(0), 7, 8, roots, roots_len, stack, sizeof stack, &first, &change));
+    add(first);
+    add((uint32_t)change);
+    add(pool[entry_address(entries - 1) - BASE]);
+}
+
+static void read_last_entry(void)
+{
+    uint32_t time, tips;
+    must(blockheap_log_read(HEAP, entry_address(0), entries - 1, &time, &tips));
+    add(time);
+    add(tips);
+}
+
+/* From the log as it was prepared. */
+static void drop_oldest_entry(void)
+{
+    uint32_t first;
+    int32_t change;
+    memcpy(table, prepared_table, TABLE_BYTES);
+    must(blockheap_log_drop(HEAP, entry_address(0), &first, &change));
+    add(first);
+    add((uint32_t)change);
+}
+
 /* Nothing is done but to check the heap. */
 static void check_table(void)
 {
@@ -387,6 +462,12 @@ static const struct work {
      write_image},
     {"open, all blocks used", "open that first image, in memory of its size", image_of_all_blocks, open_image},
     {"open, every second block", "the same with the second image", image_of_every_second_block, open_image},
+    {"log, append", "append to a log that has all blocks but two: then it has all, 2,048 entries on the largest heap",
+     log_with_room, append_to_log},
+    {"log, append and collect", "append to a log that has half of the blocks, where the others are garbage",
+     log_and_garbage, append_to_log},
+    {"log, read the last entry", "of a log that has all blocks", full_log, read_last_entry},
+    {"log, drop", "drop the oldest entry of that log", full_log, drop_oldest_entry},
     {"copy of an image", "memcpy of the image with all blocks used, by this program and not by the library",
      image_of_all_blocks, copy_image},
     {"check of the table", "allocate 0 bytes in the same heap, which is refused once its table is checked",

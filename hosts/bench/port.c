@@ -273,6 +273,19 @@ static void rescan(marking *m)
             walk_subtree(m, block);
 }
 
+static void mark_root(marking *m, uint32_t word)
+{
+    uint32_t root;
+    if (mark_target(m, word, &root))
+        walk_subtree(m, root);
+}
+
+static void mark_roots(marking *m, const uint8_t *roots, size_t roots_len)
+{
+    for (size_t at = 0; at < roots_len; at += BLOCKHEAP_WORD_BYTES)
+        mark_root(m, word_at(roots + at));
+}
+
 static void sweep(uint8_t *table, size_t blocks, uint32_t *kept, int32_t *change)
 {
     bool freeing = false;
@@ -291,6 +304,15 @@ static void sweep(uint8_t *table, size_t blocks, uint32_t *kept, int32_t *change
     }
 }
 
+/* Once the roots are marked. */
+static void end_collection(marking *m, uint32_t *kept, uint32_t *rescans, int32_t *change)
+{
+    for (; m->overflow; ++*rescans)
+        rescan(m);
+    sweep(m->table, m->blocks, kept, change);
+    memset(m->stack, 0, BLOCKHEAP_WORD_BYTES * m->entries);
+}
+
 uint32_t blockheap_collect(uint64_t base, uint64_t t, const uint8_t *pool, size_t pool_len, uint8_t *table,
                            size_t table_len, const uint8_t *roots, size_t roots_len, uint8_t *stack,
                            size_t stack_len, uint32_t *kept, uint32_t *rescans, int32_t *change)
@@ -307,15 +329,8 @@ uint32_t blockheap_collect(uint64_t base, uint64_t t, const uint8_t *pool, size_
     if (stack_len / BLOCKHEAP_WORD_BYTES > BLOCKHEAP_MAX_STACK_ENTRIES)
         return BLOCKHEAP_STACK_TOO_LONG;
     marking m = {base, pool, table, 4 * t, stack, stack_len / BLOCKHEAP_WORD_BYTES, 0, false};
-    for (size_t at = 0; at < roots_len; at += BLOCKHEAP_WORD_BYTES) {
-        uint32_t root;
-        if (mark_target(&m, word_at(roots + at), &root))
-            walk_subtree(&m, root);
-    }
-    for (; m.overflow; ++*rescans)
-        rescan(&m);
-    sweep(table, m.blocks, kept, change);
-    memset(stack, 0, stack_len);
+    mark_roots(&m, roots, roots_len);
+    end_collection(&m, kept, rescans, change);
     return BLOCKHEAP_OK;
 }
 
@@ -500,4 +515,125 @@ uint32_t blockheap_store(uint64_t base, uint64_t t, uint8_t *pool, size_t pool_l
     if (!refusal)
         set_word(pool + word_offset(block, word), value);
     return refusal;
+}
+
+enum { ENTRY_BLOCKS = BLOCKHEAP_LOG_ENTRY_BYTES / BLOCKHEAP_BLOCK_BYTES, NEXT = 0, TIME = 1, TIPS = 2 };
+
+typedef struct {
+    uint64_t base;
+    const uint8_t *pool, *table;
+    size_t blocks;
+} heap;
+
+/* The block of the entry at this address, if it is the head of an object of two blocks. */
+static bool find_entry(const heap *h, uint64_t address, size_t *block)
+{
+    if (address < h->base || (address - h->base) % BLOCKHEAP_BLOCK_BYTES != 0)
+        return false;
+    *block = (address - h->base) / BLOCKHEAP_BLOCK_BYTES;
+    return check_head(h->table, h->blocks, *block) == BLOCKHEAP_OK
+        && object_end(h->table, h->blocks, *block) == *block + ENTRY_BLOCKS;
+}
+
+typedef struct {
+    size_t count, wanted, last; /* how many entries; the block of the one that is asked for, and of the last */
+} found;
+
+/* Goes through a log to its end, and finds one of its entries. One that goes on longer is a ring. */
+static uint32_t walk_log(const heap *h, uint64_t first, uint64_t index, found *f)
+{
+    uint64_t address = first;
+    for (f->count = 0; address != 0; f->count++) {
+        if (f->count >= h->blocks / ENTRY_BLOCKS || !find_entry(h, address, &f->last))
+            return BLOCKHEAP_NO_LOG;
+        if (f->count == index)
+            f->wanted = f->last;
+        address = word_at(h->pool + word_offset(f->last, NEXT));
+    }
+    return BLOCKHEAP_OK;
+}
+
+static uint32_t find_in_log(const heap *h, uint64_t first, uint64_t index, size_t *block)
+{
+    found f = {0, 0, 0};
+    uint32_t refusal = walk_log(h, first, index, &f);
+    *block = f.wanted;
+    return refusal ? refusal : index < f.count ? BLOCKHEAP_OK : BLOCKHEAP_NO_ENTRY;
+}
+
+uint32_t blockheap_log_append(uint64_t base, uint64_t t, uint8_t *pool, size_t pool_len, uint8_t *table,
+                              size_t table_len, uint64_t first, uint32_t time, uint32_t tips, const uint8_t *roots,
+                              size_t roots_len, uint8_t *stack, size_t stack_len, uint32_t *new_first,
+                              int32_t *change)
+{
+    *new_first = 0;
+    *change = 0;
+    if (roots_len % BLOCKHEAP_WORD_BYTES != 0 || stack_len % BLOCKHEAP_WORD_BYTES != 0)
+        return BLOCKHEAP_BAD_SHAPE;
+    uint32_t refusal = check_heap(base, t, pool_len, table, table_len);
+    if (refusal)
+        return refusal;
+    if (roots_len / BLOCKHEAP_WORD_BYTES > BLOCKHEAP_MAX_LOG_ROOTS)
+        return BLOCKHEAP_TOO_MANY_ROOTS;
+    if (stack_len / BLOCKHEAP_WORD_BYTES > BLOCKHEAP_MAX_STACK_ENTRIES)
+        return BLOCKHEAP_STACK_TOO_LONG;
+    size_t blocks = 4 * t, start;
+    heap h = {base, pool, table, blocks};
+    found f = {0, 0, 0};
+    refusal = walk_log(&h, first, 0, &f);
+    if (refusal)
+        return refusal;
+    if (!find_run(table, blocks, ENTRY_BLOCKS, &start)) {
+        marking m = {base, pool, table, blocks, stack, stack_len / BLOCKHEAP_WORD_BYTES, 0, false};
+        uint32_t kept = 0, rescans = 0;
+        mark_root(&m, (uint32_t)first);
+        mark_roots(&m, roots, roots_len);
+        end_collection(&m, &kept, &rescans, change);
+        if (!find_run(table, blocks, ENTRY_BLOCKS, &start))
+            return BLOCKHEAP_NO_ROOM;
+    }
+    uint32_t address = (uint32_t)(base + BLOCKHEAP_BLOCK_BYTES * start);
+    place(table, start, ENTRY_BLOCKS);
+    clear(pool, start, start + ENTRY_BLOCKS);
+    set_word(pool + word_offset(start, TIME), time);
+    set_word(pool + word_offset(start, TIPS), tips);
+    if (first != 0)
+        set_word(pool + word_offset(f.last, NEXT), address);
+    *new_first = first != 0 ? (uint32_t)first : address;
+    *change += ENTRY_BLOCKS;
+    return BLOCKHEAP_OK;
+}
+
+uint32_t blockheap_log_read(uint64_t base, uint64_t t, const uint8_t *pool, size_t pool_len, const uint8_t *table,
+                            size_t table_len, uint64_t first, uint64_t index, uint32_t *time, uint32_t *tips)
+{
+    *time = *tips = 0;
+    heap h = {base, pool, table, 4 * t};
+    size_t entry;
+    uint32_t refusal = check_heap(base, t, pool_len, table, table_len);
+    if (!refusal)
+        refusal = find_in_log(&h, first, index, &entry);
+    if (refusal)
+        return refusal;
+    *time = word_at(pool + word_offset(entry, TIME));
+    *tips = word_at(pool + word_offset(entry, TIPS));
+    return BLOCKHEAP_OK;
+}
+
+uint32_t blockheap_log_drop(uint64_t base, uint64_t t, const uint8_t *pool, size_t pool_len, uint8_t *table,
+                            size_t table_len, uint64_t first, uint32_t *new_first, int32_t *change)
+{
+    *new_first = 0;
+    *change = 0;
+    heap h = {base, pool, table, 4 * t};
+    size_t entry;
+    uint32_t refusal = check_heap(base, t, pool_len, table, table_len);
+    if (!refusal)
+        refusal = find_in_log(&h, first, 0, &entry);
+    if (refusal)
+        return refusal;
+    set_entries(table, entry, entry + ENTRY_BLOCKS, BLOCKHEAP_FREE);
+    *new_first = word_at(pool + word_offset(entry, NEXT));
+    *change = -ENTRY_BLOCKS;
+    return BLOCKHEAP_OK;
 }

@@ -1,7 +1,7 @@
 /*
  * The checked examples of the heap's rules through the C header: base 4,096, and 8 blocks up to example 16.
  * Beside each table stand the bytes of its two planes. Examples 20 to 22 are about the planes alone, 23 to 26
- * about images that are written, and the last ones about files that are opened.
+ * about images that are written, 27 to 34 about files that are opened, and the last ones about the rain log.
  *
  * Each runs once for each place of the lent buffers. Against a page that cannot be touched, any access past
  * that border ends the program, also one from inside the archive. In memory from malloc, valgrind sees each
@@ -40,7 +40,7 @@ static enum { AT_FRONT, AT_END, FROM_MALLOC, PLACES } place;
 
 /* Each buffer has pages of its own. So many bytes before and after them cannot be touched. */
 enum buffer { POOL, TABLE, ROOTS, STACK, IMAGE, BUFFERS };
-enum { PAGES = 5 * 4096, FENCE = 256 * 4096 };
+enum { PAGES = 17 * 4096, FENCE = 256 * 4096 };
 static uint8_t *pages[BUFFERS];
 static uint8_t *from_malloc[BUFFERS];
 
@@ -308,6 +308,88 @@ static bool refuses_file(uint32_t refusal, const uint8_t *bytes, size_t count)
     return refuses_file_in(1, 12, refusal, bytes, count);
 }
 
+/* Appends with a mark stack of so many entries, which hold rubbish. A collection leaves it all 0; without one it is
+ * not touched. */
+static bool appends_with(const uint8_t *words, size_t roots_len, size_t stack_entries, bool collected,
+                         uint64_t first, uint32_t time, uint32_t tips,
+                         uint32_t refusal, uint32_t new_first, int32_t change)
+{
+    size_t stack_len = 4 * stack_entries;
+    uint8_t *roots = lent(ROOTS, roots_len), *stack = lent(STACK, stack_len);
+    memcpy(roots, words, roots_len);
+    memset(stack, 0xEE, stack_len);
+    uint32_t got_first = RUBBISH;
+    int32_t got_change = RUBBISH;
+    uint32_t got = blockheap_log_append(HEAP, first, time, tips, roots, roots_len, stack, stack_len,
+                                        &got_first, &got_change);
+    return same("refusal", got, refusal) && same("new first address", got_first, new_first)
+        && same("change", got_change, change) && all_are("mark stack byte", stack, stack_len, collected ? 0 : 0xEE);
+}
+
+/* Where there is room: nothing is collected. */
+static bool appends(uint64_t first, uint32_t time, uint32_t tips, uint32_t new_first)
+{
+    return appends_with(pool, 0, 4, false, first, time, tips, BLOCKHEAP_OK, new_first, 2);
+}
+
+static bool reads(uint64_t first, uint64_t index, uint32_t refusal, uint32_t time, uint32_t tips)
+{
+    uint32_t got_time = RUBBISH, got_tips = RUBBISH;
+    return same("refusal", blockheap_log_read(HEAP, first, index, &got_time, &got_tips), refusal)
+        && same("time", got_time, time) && same("tips", got_tips, tips);
+}
+
+static bool drops(uint64_t first, uint32_t refusal, uint32_t new_first, int32_t change)
+{
+    uint32_t got_first = RUBBISH;
+    int32_t got_change = RUBBISH;
+    return same("refusal", blockheap_log_drop(HEAP, first, &got_first, &got_change), refusal)
+        && same("new first address", got_first, new_first) && same("change", got_change, change);
+}
+
+/* What pool and table held at one time. */
+static uint8_t pool_before[BLOCKHEAP_MAX_POOL_BYTES], table_before[BLOCKHEAP_MAX_TABLE_BYTES];
+
+static void note_pool_and_table(void)
+{
+    memcpy(pool_before, pool, pool_len);
+    memcpy(table_before, table, table_len);
+}
+
+static bool pool_is_as_noted(void)
+{
+    return bytes_are("byte of the pool", pool, pool_before, pool_len);
+}
+
+static bool pool_and_table_are_as_noted(void)
+{
+    return pool_is_as_noted() && bytes_are("table byte", table, table_before, table_len);
+}
+
+/* An append with roots and a mark stack of so many bytes is refused so, and nothing has changed. */
+static bool refuses_append(size_t roots_len, size_t stack_len, uint64_t first, uint32_t refusal)
+{
+    uint8_t *roots = lent(ROOTS, roots_len), *stack = lent(STACK, stack_len);
+    uint32_t new_first = RUBBISH;
+    int32_t change = RUBBISH;
+    memset(roots, 0, roots_len);
+    memset(stack, 0xEE, stack_len);
+    note_pool_and_table();
+    uint32_t got =
+        blockheap_log_append(HEAP, first, 60, 3, roots, roots_len, stack, stack_len, &new_first, &change);
+    return same("refusal", got, refusal) && same("new first address", new_first, 0) && same("change", change, 0)
+        && all_are("byte of the roots", roots, roots_len, 0) && all_are("mark stack byte", stack, stack_len, 0xEE)
+        && pool_and_table_are_as_noted();
+}
+
+/* Whether no call of the log takes this first address, and nothing has changed. */
+static bool is_no_log(uint64_t first)
+{
+    return refuses_append(4, 16, first, BLOCKHEAP_NO_LOG) && reads(first, 0, BLOCKHEAP_NO_LOG, 0, 0)
+        && reads(first, 9999, BLOCKHEAP_NO_LOG, 0, 0) && drops(first, BLOCKHEAP_NO_LOG, 0, 0)
+        && pool_and_table_are_as_noted();
+}
+
 /* The heap of examples 9 to 11: word 0 of block 4 leads to block 0. */
 static bool from_linked(void)
 {
@@ -497,6 +579,9 @@ static bool calls_refuse(uint32_t refusal)
         && same("load", blockheap_load(HEAP, 0, 0, &one), refusal)
         && same("store", blockheap_store(HEAP, 0, 0, 1), refusal)
         && same("write image", blockheap_write_image(HEAP, roots, 0, image, OUTPUT, &one), refusal)
+        && same("append", blockheap_log_append(HEAP, 0, 1, 1, roots, 0, stack, 4, &one, &change), refusal)
+        && same("read", blockheap_log_read(HEAP, 0, 0, &one, &other), refusal)
+        && same("drop", blockheap_log_drop(HEAP, 0, &one, &change), refusal)
         && all_are("byte of the pool", pool, pool_len, 0) && all_are("mark stack byte", stack, 4, 0xEE)
         && all_are("image byte", image, OUTPUT, 0xEE);
 }
@@ -720,6 +805,248 @@ static bool example_34(void)
         && has_image(words, sizeof words, image, length);
 }
 
+/* The log that the header draws: its entries are in blocks 0 and 1 and in blocks 5 and 6. */
+static bool from_log(void)
+{
+    bool made = from(0, 0);
+    memset(pool, 0x77, pool_len);
+    return made && appends(0, 60, 3, 4096) && allocates(48, BLOCKHEAP_OK, 2, 3) && appends(4096, 120, 5, 4096);
+}
+
+static bool example_35(void)
+{
+    bool made = from(0, 0);
+    memset(pool, 0x77, pool_len);
+    return made && appends(0, 60, 3, 4096) && table_is(9, 0) && planes_are(0x01, 0x02)
+        && bytes_are("byte of the entry", pool, BYTES(0, 0, 0, 0, 60, 0, 0, 0, 3, 0, 0, 0))
+        && all_are("later byte of the entry", pool + 12, 20, 0)
+        && all_are("byte of a free block", pool + 32, 96, 0x77)
+        && from_log() && table_is(153, 38) && planes_are(0x25, 0x5a)
+        && bytes_are("byte of the first entry", pool, BYTES(0x50, 0x10, 0, 0, 60, 0, 0, 0, 3, 0, 0, 0))
+        && all_are("later byte of it, or one of the next object", pool + 12, 68, 0)
+        && bytes_are("byte of the second entry", pool + 80, BYTES(0, 0, 0, 0, 120, 0, 0, 0, 5, 0, 0, 0))
+        && all_are("later byte of it", pool + 92, 20, 0) && all_are("byte of the free block", pool + 112, 16, 0x77);
+}
+
+static bool example_36(void)
+{
+    return from_log() && reads(4096, 0, BLOCKHEAP_OK, 60, 3) && reads(4096, 1, BLOCKHEAP_OK, 120, 5)
+        && reads(4096, 2, BLOCKHEAP_NO_ENTRY, 0, 0) && reads(4096, UINT64_C(1) << 32, BLOCKHEAP_NO_ENTRY, 0, 0)
+        && reads(4096, UINT64_MAX, BLOCKHEAP_NO_ENTRY, 0, 0) && reads(4176, 0, BLOCKHEAP_OK, 120, 5)
+        && reads(0, 0, BLOCKHEAP_NO_ENTRY, 0, 0);
+}
+
+static bool example_37(void)
+{
+    bool made = from_log();
+    note_pool_and_table();
+    return made && drops(4096, BLOCKHEAP_OK, 4176, -2) && table_is(144, 38) && planes_are(0x24, 0x58)
+        && pool_is_as_noted() && is_no_log(4096)
+        && reads(4176, 0, BLOCKHEAP_OK, 120, 5) && reads(4176, 1, BLOCKHEAP_NO_ENTRY, 0, 0)
+        && drops(4176, BLOCKHEAP_OK, 0, -2) && table_is(144, 2) && planes_are(0x04, 0x18)
+        && drops(0, BLOCKHEAP_NO_ENTRY, 0, 0) && table_is(144, 2) && pool_is_as_noted()
+        && appends(0, 0xFFFFFFFF, 0, 4096) && reads(4096, 0, BLOCKHEAP_OK, 0xFFFFFFFF, 0);
+}
+
+/* Addresses that lead to no entry in the log's heap: of tails, inside a block, of a free block, beside the pool and far
+ * from it, and that of an object of three blocks. */
+static const uint32_t no_entries[] = {4112, 4144, 4160, 4192, 4097, 4100, 4104, 4183, 4208, 4080,
+                                      4224, 1, 16, 0xFFFFFFF0, 0xFFFFFFFF, 4128};
+enum { NO_ENTRIES = sizeof no_entries / sizeof no_entries[0] };
+
+static bool example_38(void)
+{
+    for (size_t at = 0; at < NO_ENTRIES; at++)
+        if (!(from_log() && is_no_log(no_entries[at])))
+            return false;
+    return from_log() && is_no_log((UINT64_C(1) << 32) + 4096) && is_no_log(UINT64_C(1) << 32)
+        && is_no_log(UINT64_C(4096) << 32) && is_no_log(UINT64_MAX) && is_no_log(UINT64_MAX - 15)
+        && allocates(16, BLOCKHEAP_OK, 7, 1) && is_no_log(4208)
+        && reads(4096, 1, BLOCKHEAP_OK, 120, 5);
+}
+
+/* The second entry's word 0 is not the end, and leads to no third one, or back. What its words 3 to 7 hold does not
+ * matter. */
+static bool example_39(void)
+{
+    for (size_t at = 0; at < NO_ENTRIES; at++)
+        if (!(from_log() && stores(5, 0, no_entries[at]) && is_no_log(4096) && is_no_log(4176)))
+            return false;
+    bool made = from_log() && stores(5, 0, 4096) && is_no_log(4096) && is_no_log(4176)
+        && stores(5, 0, 4176) && is_no_log(4096) && is_no_log(4176)
+        && allocates(16, BLOCKHEAP_OK, 7, 1) && stores(5, 0, 4208) && is_no_log(4096)
+        && stores(5, 0, 0) && reallocates(0, 16, BLOCKHEAP_OK, 0, -1) && is_no_log(4096)
+        && reallocates(0, 32, BLOCKHEAP_OK, 0, 1);
+    for (uint64_t word = 3; word < 8; word++)
+        made = made && stores(0, word, 4096) && stores(5, word, 0xFFFFFFFF);
+    return made && reads(4096, 0, BLOCKHEAP_OK, 60, 3) && reads(4096, 1, BLOCKHEAP_OK, 120, 5)
+        && drops(4096, BLOCKHEAP_OK, 4176, -2);
+}
+
+/* Two blocks in a row are wanted: blocks 3 and 4, once a collection has freed blocks 3 to 7. It keeps the entry in
+ * blocks 0 and 1, and block 2, to which a root leads. */
+static bool makes_room(const uint8_t *words, size_t roots_len, size_t stack_entries)
+{
+    bool made = from(0x59, 0x59) && stores(0, 1, 60) && surveys(8, 6, 0) && planes_are(0xdd, 0x22);
+    memset(pool + 32, 0x77, 96);
+    return made && appends_with(words, roots_len, stack_entries, true, 4096, 120, 5, BLOCKHEAP_OK, 4096, -3)
+        && table_is(89, 2) && planes_are(0x0d, 0x12)
+        && bytes_are("byte of the first entry", pool, BYTES(0x30, 0x10, 0, 0, 60, 0, 0, 0))
+        && all_are("later byte of it", pool + 8, 24, 0) && all_are("byte of block 2", pool + 32, 16, 0x77)
+        && bytes_are("byte of the second entry", pool + 48, BYTES(0, 0, 0, 0, 120, 0, 0, 0, 5, 0, 0, 0))
+        && all_are("later byte of it", pool + 60, 20, 0) && all_are("byte of a free block", pool + 80, 48, 0x77)
+        && reads(4096, 0, BLOCKHEAP_OK, 60, 0) && reads(4096, 1, BLOCKHEAP_OK, 120, 5);
+}
+
+static bool example_40(void)
+{
+    return makes_room(BYTES(0x20, 0x10, 0, 0), 4) && makes_room(BYTES(0x20, 0x10, 0, 0), 64)
+        && makes_room(BYTES(0x20, 0x10, 0, 0), 0)
+        && makes_room(BYTES(0x10, 0x10, 0, 0, 0x20, 0x10, 0, 0, 0x20, 0x10, 0, 0, 0, 0, 0, 0), 1)
+        && from(0x59, 0x59) && appends_with(pool, 0, 4, true, 0, 60, 3, BLOCKHEAP_OK, 4096, -6)
+        && table_is(9, 0) && planes_are(0x01, 0x02)
+        && from(0x59, 0x59) && appends_with(BYTES(0x50, 0x10, 0, 0), 4, true, 0, 60, 3, BLOCKHEAP_OK, 4096, -4)
+        && table_is(9, 9) && planes_are(0x11, 0x22);
+}
+
+/* Blocks 2 and 5 are garbage, and the rest is in use: the log's entry in blocks 0 and 1, an object that the root leads
+ * to, and one that leads on from there. */
+static bool example_41(void)
+{
+    const uint8_t root[] = {0x40, 0x10, 0, 0};
+    bool made = from(0x59, 0x96) && planes_are(0x6d, 0x92) && stores(0, 1, 60) && stores(0, 2, 3) && stores(3, 7, 4192);
+    note_pool_and_table();
+    return made && surveys(8, 5, 0)
+        && appends_with(root, sizeof root, 4, true, 4096, 120, 5, BLOCKHEAP_NO_ROOM, 0, -2)
+        && table_is(0x49, 0x92) && planes_are(0x49, 0x92) && pool_is_as_noted() && surveys(6, 3, 1)
+        && appends_with(root, sizeof root, 0, true, 4096, 120, 5, BLOCKHEAP_NO_ROOM, 0, 0)
+        && table_is(0x49, 0x92) && pool_is_as_noted() && reads(4096, 0, BLOCKHEAP_OK, 60, 3)
+        && reads(4096, 1, BLOCKHEAP_NO_ENTRY, 0, 0) && frees(6, BLOCKHEAP_OK, -2)
+        && appends(4096, 120, 5, 4096) && table_is(0x49, 0x26) && reads(4096, 1, BLOCKHEAP_OK, 120, 5);
+}
+
+/* The same with an empty log: the roots keep blocks 1 and 3, and so no two of the free ones are neighbours. */
+static bool example_42(void)
+{
+    return from(0x55) && appends_with(BYTES(0x30, 0x10, 0, 0, 0x10, 0x10, 0, 0), 1, true, 0, 60, 3,
+                                      BLOCKHEAP_NO_ROOM, 0, -2)
+        && table_is(0x44) && planes_are(0x0a, 0x00) && all_are("byte of the pool", pool, pool_len, 0)
+        && frees(3, BLOCKHEAP_OK, -1) && appends(0, 60, 3, 4128) && table_is(0x94) && planes_are(0x06, 0x08);
+}
+
+/* With so many roots, of which the last leads to an object, append finds room at once, or once it has collected. */
+static bool takes_roots(size_t roots, uint64_t first)
+{
+    static uint8_t words[BLOCKHEAP_LIST_BYTES(BLOCKHEAP_MAX_ROOTS)];
+    memset(words, 0, sizeof words);
+    memcpy(words + 4 * roots - 4, (const uint8_t[]){0x20, 0x10, 0, 0}, 4);
+    return from(0x19, 0)
+        && appends_with(words, 4 * roots, 4, false, first, 60, 3, BLOCKHEAP_OK, first ? 4096 : 4144, 2)
+        && from(0x59, 0x59)
+        && appends_with(words, 4 * roots, 4, true, first, 60, 3, BLOCKHEAP_OK, 4096, first ? -3 : -5)
+        && table_is(first ? 0x59 : 0x19, first ? 2 : 0);
+}
+
+static bool example_43(void)
+{
+    enum { MOST = BLOCKHEAP_LIST_BYTES(BLOCKHEAP_MAX_ROOTS), STACK_MOST = BLOCKHEAP_LIST_BYTES(64) };
+    return takes_roots(4095, 4096) && takes_roots(4095, 0)
+        && from_log() && refuses_append(MOST, STACK_MOST, 4096, BLOCKHEAP_TOO_MANY_ROOTS)
+        && refuses_append(MOST, STACK_MOST, 0, BLOCKHEAP_TOO_MANY_ROOTS)
+        && refuses_append(MOST + 4, 0, 0, BLOCKHEAP_TOO_MANY_ROOTS)
+        && refuses_append(0, STACK_MOST + 4, 4096, BLOCKHEAP_STACK_TOO_LONG)
+        && refuses_append(0, STACK_MOST + 4, 0, BLOCKHEAP_STACK_TOO_LONG);
+}
+
+/* In append: lengths, table, roots, stack, log. In read and drop: table, log, entry. */
+static bool example_44(void)
+{
+    enum { MANY = BLOCKHEAP_LIST_BYTES(4096), LONG = BLOCKHEAP_LIST_BYTES(65) };
+    return from(3, 0) && refuses_append(MANY + 1, LONG, 4097, BLOCKHEAP_BAD_SHAPE)
+        && refuses_append(MANY, LONG + 3, 4097, BLOCKHEAP_BAD_SHAPE)
+        && refuses_append(MANY, LONG, 4097, BLOCKHEAP_BAD_TABLE)
+        && reads(4097, 9, BLOCKHEAP_BAD_TABLE, 0, 0) && drops(4097, BLOCKHEAP_BAD_TABLE, 0, 0)
+        && drops(0, BLOCKHEAP_BAD_TABLE, 0, 0)
+        && from(0x55, 0x55) && refuses_append(1, 0, 0, BLOCKHEAP_BAD_SHAPE)
+        && refuses_append(0, 2, 0, BLOCKHEAP_BAD_SHAPE)
+        && refuses_append(MANY, LONG, 4097, BLOCKHEAP_TOO_MANY_ROOTS)
+        && refuses_append(MANY - 4, LONG, 4097, BLOCKHEAP_STACK_TOO_LONG)
+        && refuses_append(MANY - 4, LONG - 4, 4097, BLOCKHEAP_NO_LOG)
+        && reads(4097, 9, BLOCKHEAP_NO_LOG, 0, 0) && drops(4097, BLOCKHEAP_NO_LOG, 0, 0);
+}
+
+/* A full heap of the largest size is one log. Its entry `number` is not in the order of the blocks. */
+static size_t place_of(size_t number)
+{
+    return 2 * (5 * number % BLOCKHEAP_MAX_LOG_ENTRIES);
+}
+
+static void from_longest_log(void)
+{
+    enum { MOST = BLOCKHEAP_MAX_LOG_ENTRIES };
+    lend_heap(BLOCKHEAP_MAX_T, BLOCKHEAP_MAX_POOL_BYTES, BLOCKHEAP_MAX_TABLE_BYTES);
+    for (size_t number = 0; number < MOST; number++) {
+        uint32_t next = number == MOST - 1 ? 0 : (uint32_t)(4096 + 16 * place_of(number + 1));
+        uint8_t *entry = pool + 16 * place_of(number);
+        set_entry(place_of(number), BLOCKHEAP_HEAD);
+        set_entry(place_of(number) + 1, BLOCKHEAP_TAIL);
+        for (int at = 0; at < 4; at++) {
+            entry[at] = (uint8_t)(next >> 8 * at);
+            entry[4 + at] = (uint8_t)(60 * number >> 8 * at);
+            entry[8 + at] = (uint8_t)(number % 7 >> 8 * at);
+        }
+    }
+}
+
+static bool example_45(void)
+{
+    enum { LAST = BLOCKHEAP_MAX_LOG_ENTRIES - 1 };
+    from_longest_log();
+    return surveys(4096, 2048, 0) && reads(4096, 0, BLOCKHEAP_OK, 0, 0)
+        && reads(4096, LAST, BLOCKHEAP_OK, 60 * LAST, LAST % 7) && reads(4096, LAST + 1, BLOCKHEAP_NO_ENTRY, 0, 0)
+        && appends_with(pool, 0, 1, true, 4096, 7, 8, BLOCKHEAP_NO_ROOM, 0, 0)
+        && reads(4096, LAST, BLOCKHEAP_OK, 60 * LAST, LAST % 7)
+        && stores(place_of(LAST), 0, 4096) && is_no_log(4096) /* a ring of all blocks */
+        && stores(place_of(LAST), 0, (uint32_t)(4096 + 16 * place_of(LAST))) && is_no_log(4096)
+        && stores(place_of(LAST), 0, 0) && drops(4096, BLOCKHEAP_OK, (uint32_t)(4096 + 16 * place_of(1)), -2)
+        && appends(4096 + 16 * place_of(1), 7, 8, (uint32_t)(4096 + 16 * place_of(1)))
+        && reads(4096 + 16 * place_of(1), LAST, BLOCKHEAP_OK, 7, 8)
+        && reads(4096 + 16 * place_of(1), LAST - 1, BLOCKHEAP_OK, 60 * LAST, LAST % 7);
+}
+
+/* Collections that have the first address, and calls that leave the entries alone, do not change the log; and it goes
+ * into an image and comes out of it. A collection without the first address frees it. */
+static bool example_46(void)
+{
+    const uint32_t first = 4096, other = 4128;
+    const uint8_t root[] = {0x00, 0x10, 0, 0};
+    uint8_t image[BLOCKHEAP_FULL_IMAGE_BYTES(2, 1)];
+    uint32_t length = RUBBISH;
+    bool lasts = from_log() && collects(&first, 64, 2, 0, -3) && table_is(9, 0x24) && planes_are(0x21, 0x42)
+        && allocates(40, BLOCKHEAP_OK, 2, 3) && stores(2, 0, 4176) && reallocates(2, 16, BLOCKHEAP_OK, 2, -2)
+        && surveys(5, 3, 2) && frees(2, BLOCKHEAP_OK, -1) && collects(&first, 0, 2, 1, 0)
+        && reads(4096, 0, BLOCKHEAP_OK, 60, 3) && reads(4096, 1, BLOCKHEAP_OK, 120, 5)
+        && reads(4096, 2, BLOCKHEAP_NO_ENTRY, 0, 0);
+    uint32_t refusal = blockheap_write_image(HEAP, root, sizeof root, image, sizeof image, &length);
+    return lasts && same("refusal", refusal, BLOCKHEAP_OK)
+        && opens_at(2, 4, image, length, 4096, root, sizeof root) && reads(4096, 0, BLOCKHEAP_OK, 60, 3)
+        && reads(4096, 1, BLOCKHEAP_OK, 120, 5) && appends(4096, 180, 1, 4096)
+        && reads(4096, 2, BLOCKHEAP_OK, 180, 1)
+        && from_log() && collects(&other, 64, 1, 0, -4) && is_no_log(4096) && is_no_log(4176);
+}
+
+/* The last block ends where 32 bits end. */
+static bool example_47(void)
+{
+    bool made = from(0, 0);
+    base = 4294967168u;
+    return made && allocates(64, BLOCKHEAP_OK, 0, 4) && appends(0, 60, 3, 4294967232u)
+        && appends(4294967232u, 120, 5, 4294967232u) && loads(4, 0, BLOCKHEAP_OK, 4294967264u)
+        && reads(4294967232u, 1, BLOCKHEAP_OK, 120, 5) && drops(4294967232u, BLOCKHEAP_OK, 4294967264u, -2)
+        && reads(4294967264u, 0, BLOCKHEAP_OK, 120, 5) && is_no_log(UINT64_C(1) << 32)
+        && is_no_log((UINT64_C(1) << 32) + 4294967264u) && drops(4294967264u, BLOCKHEAP_OK, 0, -2);
+}
+
 static const struct {
     const char *title;
     bool (*holds)(void);
@@ -758,6 +1085,19 @@ static const struct {
     {"files that do not fit what is lent", example_32},
     {"the order of an opening's refusals", example_33},
     {"write, open, and write again", example_34},
+    {"append to a log, byte by byte", example_35},
+    {"read a log", example_36},
+    {"drop the oldest entry", example_37},
+    {"no log begins at the address", example_38},
+    {"no log goes on to its end", example_39},
+    {"append makes room by a collection", example_40},
+    {"no room, and the collection stands", example_41},
+    {"no room in an empty log", example_42},
+    {"4,095 roots beside a log, and 4,096", example_43},
+    {"the order of a log's refusals", example_44},
+    {"the longest log, and the longest ring", example_45},
+    {"the log lasts", example_46},
+    {"a log at the highest addresses", example_47},
 };
 
 static bool holds_everywhere(bool (*holds)(void))

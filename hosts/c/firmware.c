@@ -10,13 +10,17 @@
 enum { POOL_BYTES = 1024 };
 BH_DEFINE(heap, 0x20000000, POOL_BYTES);
 
-/* Frees every object that no chain of addresses leads to from the gauge. */
+/* A log of the rain. Each entry is a time and how often the gauge has tipped, and the oldest comes first. */
+static struct bh_log rain;
+
+/* Frees every object that no chain of addresses leads to from the gauge or from the log's first entry. */
 static void collect(uint32_t gauge)
 {
-    uint8_t roots[BLOCKHEAP_LIST_BYTES(1)], stack[BLOCKHEAP_LIST_BYTES(16)];
+    uint8_t roots[BLOCKHEAP_LIST_BYTES(2)], stack[BLOCKHEAP_LIST_BYTES(16)];
     uint32_t kept;
     int32_t change;
     bh_put_word(roots, 0, bh_address(&heap, gauge));
+    bh_put_word(roots, 1, rain.first);
     must(bh_collect(&heap, roots, sizeof roots, stack, sizeof stack, &kept, NULL, &change));
     printf("collect: %u objects kept, %d blocks freed\n", (unsigned)kept, -(int)change);
 }
@@ -59,6 +63,24 @@ static void grow_readings(uint32_t gauge, uint64_t bytes)
     must(bh_store(&heap, gauge, 0, bh_address(&heap, readings)));
     printf("the readings have %u bytes from address 0x%08x\n", (unsigned)bh_object_bytes(&heap, readings),
            (unsigned)bh_address(&heap, readings));
+}
+
+/* An append finds its own room: if it has to collect, it keeps the log and what the roots lead to. */
+static void note_rain(uint32_t gauge, uint32_t time, uint32_t tips)
+{
+    uint8_t roots[BLOCKHEAP_LIST_BYTES(1)], stack[BLOCKHEAP_LIST_BYTES(16)];
+    bh_put_word(roots, 0, bh_address(&heap, gauge));
+    must(bh_log_append(&heap, &rain, time, tips, roots, sizeof roots, stack, sizeof stack, NULL));
+}
+
+/* Reads the log from its oldest entry on, and drops what was read. */
+static void send_rain(void)
+{
+    uint32_t time, tips;
+    while (bh_log_read(&heap, &rain, 0, &time, &tips) == BLOCKHEAP_OK) {
+        printf("rain: %u tips at %u\n", (unsigned)tips, (unsigned)time);
+        must(bh_log_drop(&heap, &rain, NULL));
+    }
 }
 
 /* A message is written through a pointer into the pool, sent, and freed. */
@@ -109,11 +131,14 @@ int main(void)
     send_message(gauge, 1);
     (void)allocate(16, gauge); /* it lies behind the readings, and nothing leads to it */
     grow_readings(gauge, 160);
+    note_rain(gauge, 60, 3);
+    note_rain(gauge, 120, 5);
     survey();
 
-    for (int script = 0; script < 13; script++)
+    for (int script = 0; script < 12; script++)
         (void)allocate(64, gauge); /* garbage; the last one finds no room */
     survey();
+    send_rain();
 
     say_refused("free inside the readings", bh_free(&heap, readings_of(gauge) + 1, NULL));
     must(bh_load(&heap, readings_of(gauge), 3, &value));

@@ -1,5 +1,5 @@
 /*
- * What bh.h adds to the calls, at its edges: makers, blocks and addresses, words, null pointers, images,
+ * What bh.h adds to the calls, at its edges: makers, blocks and addresses, words, null pointers, images, logs,
  * refusals.
  */
 #include <stdbool.h>
@@ -227,7 +227,7 @@ static void check_openings(void)
     static uint8_t area[BLOCKHEAP_HEAP_BYTES(3)], roots[BLOCKHEAP_LIST_BYTES(2)];
     static uint8_t image[BLOCKHEAP_FULL_IMAGE_BYTES(2, 1)];
     struct blockheap opened = bh_split(0, area, BLOCKHEAP_HEAP_BYTES(2)), larger = bh_split(16, area, sizeof area);
-    uint32_t block, length, count = 99;
+    uint32_t block, length = 99, count = 99;
     bh_put_word(roots, 0, BASE);
     bh_put_word(roots, 1, 7);
     check("an image is made", !bh_init(&heap) && !bh_allocate(&heap, 1, &block, NULL) && !bh_store(&heap, block, 2, 55)
@@ -249,10 +249,60 @@ static void check_openings(void)
     check("a struct may leave t to the pool's length here too", !bh_open_image(&opened, image, length, roots, 4, NULL));
 }
 
+static bool log_has(const struct bh_log *log, uint64_t index, uint32_t time, uint32_t tips)
+{
+    uint32_t got_time = 99, got_tips = 99;
+    return !bh_log_read(&heap, log, index, &got_time, &got_tips) && got_time == time && got_tips == tips;
+}
+
+/* Appends without roots and without a mark stack. */
+static uint32_t append(struct bh_log *log, uint32_t time, uint32_t tips, int32_t *change)
+{
+    return bh_log_append(&heap, log, time, tips, NULL, 0, NULL, 0, change);
+}
+
+/* A log in a heap of eight blocks, which has room for four entries. */
+static void check_logs(void)
+{
+    uint8_t stack[BLOCKHEAP_LIST_BYTES(2)];
+    struct bh_log log = {0}, wrong = {BASE + 16};
+    uint32_t time = 99, tips = 99;
+    int32_t change = 99;
+    check("the limits of a log go with those of a heap",
+          BLOCKHEAP_MAX_LOG_ENTRIES * BLOCKHEAP_LOG_ENTRY_BYTES == BLOCKHEAP_MAX_POOL_BYTES
+              && BLOCKHEAP_MAX_LOG_ROOTS + 1 == BLOCKHEAP_MAX_ROOTS);
+    check("a log that is all 0 is empty",
+          !bh_init(&heap) && bh_log_read(&heap, &log, 0, &time, &tips) == BLOCKHEAP_NO_ENTRY && time == 0 && tips == 0
+              && bh_log_drop(&heap, &log, &change) == BLOCKHEAP_NO_ENTRY && change == 0 && log.first == 0);
+    check("an append to it sets its first address",
+          !bh_log_append(&heap, &log, 60, 3, NULL, 0, stack, sizeof stack, &change) && log.first == BASE
+              && change == 2);
+    check("a later one leaves that", !append(&log, 120, 5, NULL) && log.first == BASE);
+    check("both are read", log_has(&log, 0, 60, 3) && log_has(&log, 1, 120, 5));
+    check("a time or a tip count that is not wanted is left out",
+          !bh_log_read(&heap, &log, 1, NULL, &tips) && tips == 5 && !bh_log_read(&heap, &log, 1, &time, NULL)
+              && time == 120 && bh_log_read(&heap, &log, 2, NULL, NULL) == BLOCKHEAP_NO_ENTRY);
+    check("an append makes room by itself",
+          !bh_allocate(&heap, 64, NULL, NULL) && !append(&log, 180, 1, &change) && change == -2
+              && log_has(&log, 2, 180, 1));
+    check("if it can make none, the first address stays",
+          !append(&log, 240, 2, NULL) && append(&log, 300, 4, &change) == BLOCKHEAP_NO_ROOM && change == 0
+              && log.first == BASE && log_has(&log, 3, 240, 2));
+    check("a drop leads on to the next entry",
+          !bh_log_drop(&heap, &log, &change) && change == -2 && log.first == BASE + 32 && log_has(&log, 0, 120, 5));
+    check("what is no log stays as it is",
+          append(&wrong, 1, 1, NULL) == BLOCKHEAP_NO_LOG
+              && bh_log_read(&heap, &wrong, 0, NULL, NULL) == BLOCKHEAP_NO_LOG
+              && bh_log_drop(&heap, &wrong, NULL) == BLOCKHEAP_NO_LOG && wrong.first == BASE + 16);
+    check("a log without its last entry is empty",
+          !bh_log_drop(&heap, &log, NULL) && !bh_log_drop(&heap, &log, NULL) && log.first != 0
+              && !bh_log_drop(&heap, &log, NULL) && log.first == 0);
+}
+
 /* Lists the name and the sentence of each refusal, of those that are not in use, and of one behind the last. */
 static void list_refusals(void)
 {
-    for (uint32_t refusal = BLOCKHEAP_OK; refusal <= BLOCKHEAP_ROOTS_TOO_SHORT + 1; refusal++)
+    for (uint32_t refusal = BLOCKHEAP_OK; refusal <= BLOCKHEAP_NO_ENTRY + 1; refusal++)
         printf("%-6u %s: %s\n", (unsigned)refusal, bh_refusal_name(refusal), bh_refusal_text(refusal));
 }
 
@@ -277,6 +327,7 @@ int main(void)
     check_images();
     check_image_t();
     check_openings();
+    check_logs();
     list_refusals();
     check_version();
     return failed != 0;

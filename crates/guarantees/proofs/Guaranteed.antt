@@ -19,6 +19,15 @@ use Rattle.runs.proofs.Noninterference.{noninterference}
 use Rattle.plain.proofs.Refinement.{answers-as-list, images-as-list}
 use Rattle.plain.proofs.Reached.{list-keeps-reachable}
 use Rattle.plain.proofs.Sums.{used-is-sum}
+use Rattle.programs.proofs.Unseen.{programs-unseen}
+use Rattle.programs.proofs.AsList.{programs-as-list}
+use Rattle.logs.proofs.Examples.{accepted-hold, refused-hold, examples-number as log-number}
+use Rattle.logs.proofs.Promised.{log-promises, log-reads-as-before}
+use Rattle.logs.proofs.Lasting.{log-lasts}
+use Rattle.logs.proofs.Cycle.{log-is-list}
+use Rattle.requests.proofs.Unseen.{requests-unseen}
+use Rattle.requests.proofs.AsList.{requests-as-list}
+use Rattle.requests.proofs.Sums.{requests-sum}
 use Rattle.guarantees.specs.Guarantees.{Guarantees}
 use Rattle.guarantees.proofs.EntryPoints.{entry-points}
 
@@ -37,6 +46,9 @@ guarantees = record {
   file-examples-hold = file-examples-hold;
   file-examples-number = file-examples-number;
   prefixes-cut-short = prefixes-cut-short;
+  log-examples-accepted = accepted-hold;
+  log-examples-refused = refused-hold;
+  log-examples-number = log-number;
   entry-points = entry-points;
   on-bytes = on-bytes;
   as-packed = as-packed;
@@ -62,4 +74,13 @@ guarantees = record {
   images-as-list = images-as-list;
   list-keeps-reachable = list-keeps-reachable;
   used-is-sum = used-is-sum;
+  programs-unseen = programs-unseen;
+  programs-as-list = programs-as-list;
+  log-promises = log-promises;
+  log-lasts = log-lasts;
+  log-reads-as-before = log-reads-as-before;
+  log-is-list = log-is-list;
+  requests-unseen = requests-unseen;
+  requests-as-list = requests-as-list;
+  requests-sum = requests-sum;
 }

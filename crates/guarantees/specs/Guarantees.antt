@@ -21,6 +21,15 @@ use Rattle.promises.specs.OtherT.{OtherTIsRefused}
 use Rattle.algebra.specs.Algebra.{FreesCommute, RootsAreASet, RootsJoin, CollectIdempotent}
 use Rattle.runs.specs.Noninterference.{Noninterference}
 use Rattle.plain.specs.Refines.{AnswersAsList, ImagesAsList, ListKeepsReachable, UsedIsSum}
+use Rattle.programs.specs.Unseen.{ProgramsUnseen}
+use Rattle.programs.specs.AsList.{ProgramsAsList}
+use Rattle.logs.specs.Examples.{accepted, refused, found, expected}
+use Rattle.logs.specs.Promises.{LogPromises}
+use Rattle.logs.specs.Lasting.{LogLasts, LogReadsAsBefore}
+use Rattle.logs.specs.Cycle.{LogIsList}
+use Rattle.requests.specs.Unseen.{RequestsUnseen}
+use Rattle.requests.specs.AsList.{RequestsAsList}
+use Rattle.requests.specs.Sums.{RequestsSum}
 use Rattle.guarantees.specs.EntryPoints.{EntryPoints}
 
 pub record Guarantees : Type 2 where
@@ -41,6 +50,10 @@ pub record Guarantees : Type 2 where
   pub file-examples-hold : map (λ (x : FileExample). x .is) fileExamples ≡ map (λ (x : FileExample). x .ought) fileExamples
   pub file-examples-number : length fileExamples ≡ 36
   pub prefixes-cut-short : PrefixesCutShort
+  -- Logs come out call by call, with every byte of pool, table and mark stack, and where they are refused.
+  pub log-examples-accepted : found accepted ≡ expected accepted
+  pub log-examples-refused : found refused ≡ expected refused
+  pub log-examples-number : (length accepted ≡ 13) × (length refused ≡ 27)
   -- The code follows the rules: each function that C calls does to lent memory, for every input, what the rules say.
   pub entry-points : EntryPoints
   -- Of lent memory a refused call leaves every byte, and an accepted one the bytes of the heap that the call leaves; what that means of two planes, and of their spare bits.
@@ -83,3 +96,17 @@ pub record Guarantees : Type 2 where
   pub list-keeps-reachable : ListKeepsReachable
   -- The used blocks are those after the latest accepted init or opening and the sum of all changes answered since.
   pub used-is-sum : UsedIsSum
+  -- Both hold of programs too, in which the next call may depend on what those before it answered.
+  pub programs-unseen : ProgramsUnseen
+  pub programs-as-list : ProgramsAsList
+  -- Each call of the rain log: by which number it is refused, that it then changes nothing, but that append's collection stands after its 9, and what it does otherwise.
+  pub log-promises : LogPromises
+  -- The log is as it was after any calls that leave its objects alone and collect with its first address among the roots, and every read of it is.
+  pub log-lasts : LogLasts
+  pub log-reads-as-before : LogReadsAsBefore
+  -- From an accepted init on, any appends and drops are answered, and then read, as by a plain list of pairs with room for as many as the heap has pairs of blocks.
+  pub log-is-list : LogIsList
+  -- With calls of the log among those of the heap: what is not reachable has no influence, a plain list of objects gives the same responses, and the used blocks are the sum of all changes.
+  pub requests-unseen : RequestsUnseen
+  pub requests-as-list : RequestsAsList
+  pub requests-sum : RequestsSum

@@ -191,7 +191,7 @@ module _ (f : Form) (faithful : Faithful f) (base first time tips : ℕ) (roots 
         x .last (r .reply .refusal) (inl ((none-before, subst (λ (g : Heap). NoFit g 2) (sym (follows .heap)) none-after), refusal-of _ e))
 
     -- a new entry on this heap, or on the one that the collection left
-    once : time < 2 ^ 32 → tips < 2 ^ 32 → ¬ NoFit h 2 → r .reply .refusal ≡ 0 → Asks → Appended base first time tips h (pos 0) (heapIn f (r .memory)) (r .reply) × (r .stack ≡ stack)
+    once : time < 2 ^ 32 → tips < 2 ^ 32 → ¬ NoFit h 2 → r .reply .refusal ≡ 0 → Asks → Appended base first time tips h (pos 0) (heapIn f (r .memory)) (r .reply) × (r .stack ≡ stack) × Sound f (r .memory)
     once small small′ some-fit accepted (at-once room e) =
         let a : Outcome = allocate base h 32 in
         let ran-as = as-run _ (e ∙ ap (λ (d : ℤ). runOn (enter base first time tips (heads es) (a .answer .block) d) stack (a .heap)) (two-more base h room)) in
@@ -199,6 +199,7 @@ module _ (f : Form) (faithful : Faithful f) (base first time tips : ℕ) (roots 
           subst (λ (g : Heap). Appended base first time tips h (pos 0) g (r .reply)) (sym (ran-as .1))
               (subst (Appended base first time tips h (pos 0) _) (sym (ran-as .0)) (appended-on base first time tips es h (a .answer .block) (pos 0) stack _ (x .good .shape .above) (x .chain) n)),
           ran-as .2 ∙ n .stack,
+          ran-as .3,
         )
     once small small′ some-fit accepted (after-all none-before room e) = absurd (some-fit none-before)
     once small small′ some-fit accepted (not-even none-before none-after e) = absurd (some-fit none-before)
@@ -207,7 +208,7 @@ module _ (f : Form) (faithful : Faithful f) (base first time tips : ℕ) (roots 
     log-stays ds chain = subst (λ (g : Heap). Chain base g first ds) (sym (follows .heap)) (log-kept f faithful base first time tips roots stack m (x .good) (x .whole) (x .few) (x .stacked) ds chain)
 
     later : time < 2 ^ 32 → tips < 2 ^ 32 → NoFit h 2 → r .reply .refusal ≡ 0 → Asks
-        → Appended base first time tips (heapIn f (c .memory)) (c .answer .change) (heapIn f (r .memory)) (r .reply) × (r .stack ≡ c .stack)
+        → Appended base first time tips (heapIn f (c .memory)) (c .answer .change) (heapIn f (r .memory)) (r .reply) × (r .stack ≡ c .stack) × Sound f (r .memory)
     later small small′ none-fit accepted (at-once room e) = absurd (room-not base h room none-fit)
     later small small′ none-fit accepted (after-all none-before room e) =
         let a : Outcome = allocate base (kept .heap) 32 in
@@ -220,6 +221,7 @@ module _ (f : Form) (faithful : Faithful f) (base first time tips : ℕ) (roots 
               (subst (Appended base first time tips (kept .heap) (c .answer .change) _) (sym (ran-as .0))
               (appended-on base first time tips es (kept .heap) (a .answer .block) (c .answer .change) (kept .stack) _ (x .good .shape .above) chain n))),
           ran-as .2 ∙ n .stack ∙ sym (follows .stack),
+          ran-as .3,
         )
     later small small′ none-fit accepted (not-even none-before none-after e) = absurd (omega (arith, accepted, refusal-of _ e))
 
@@ -270,19 +272,19 @@ module _ (f : Form) (faithful : Faithful f) (base first time tips : ℕ) (roots 
           let s = stands es x bytes nine (asks es x) in
           (s .0, s .1, s .2, λ ds chain. subst (λ (n : Memory). Chain base (heapIn f n) first ds) (sym (s .1)) (log-stays es x ds chain))
 
-  pub appended : time < 2 ^ 32 → tips < 2 ^ 32 → r .reply .refusal ≡ 0 → ¬ NoFit h 2 → Appended base first time tips h (pos 0) (heapIn f (r .memory)) (r .reply) × (r .stack ≡ stack)
+  pub appended : time < 2 ^ 32 → tips < 2 ^ 32 → r .reply .refusal ≡ 0 → ¬ NoFit h 2 → Appended base first time tips h (pos 0) (heapIn f (r .memory)) (r .reply) × (r .stack ≡ stack) × Sound f (r .memory)
   appended small small′ accepted some-fit = go starts
     where
-      go : Starts → Appended base first time tips h (pos 0) (heapIn f (r .memory)) (r .reply) × (r .stack ≡ stack)
+      go : Starts → Appended base first time tips h (pos 0) (heapIn f (r .memory)) (r .reply) × (r .stack ≡ stack) × Sound f (r .memory)
       go (stops n other no-nine first-is e declines) = absurd (other (sym e ∙ accepted))
       go (goes es x) = once es x small small′ some-fit accepted (asks es x)
 
   pub appended-after : time < 2 ^ 32 → tips < 2 ^ 32 → r .reply .refusal ≡ 0 → NoFit h 2
       → Appended base first time tips (heapIn f (c .memory)) (c .answer .change) (heapIn f (r .memory)) (r .reply) × (r .stack ≡ c .stack)
-      × ((es : List Entry) → Chain base h first es → Chain base (heapIn f (c .memory)) first es)
+      × ((es : List Entry) → Chain base h first es → Chain base (heapIn f (c .memory)) first es) × Sound f (r .memory)
   appended-after small small′ accepted none-fit = go starts
     where
       go : Starts → Appended base first time tips (heapIn f (c .memory)) (c .answer .change) (heapIn f (r .memory)) (r .reply) × (r .stack ≡ c .stack)
-          × ((es : List Entry) → Chain base h first es → Chain base (heapIn f (c .memory)) first es)
+          × ((es : List Entry) → Chain base h first es → Chain base (heapIn f (c .memory)) first es) × Sound f (r .memory)
       go (stops n other no-nine first-is e declines) = absurd (other (sym e ∙ accepted))
-      go (goes es x) = let l = later es x small small′ none-fit accepted (asks es x) in (l .0, l .1, log-stays es x)
+      go (goes es x) = let l = later es x small small′ none-fit accepted (asks es x) in (l .0, l .1, log-stays es x, l .2)

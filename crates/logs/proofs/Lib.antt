@@ -1,3 +1,4 @@
+pub mod Examples
 pub mod Chaining
 pub mod Distinct
 pub mod Lasting
@@ -14,3 +15,4 @@ pub mod Promised
 pub mod Paired
 pub mod Cycle
 pub mod CycleUses
+pub mod Uses

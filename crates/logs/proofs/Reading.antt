@@ -15,7 +15,7 @@ use Rattle.rules.specs.Meaning.{AllBytes, Passed, Accepted}
 use Rattle.rules.specs.Outcomes.{Heap, Answer}
 use Rattle.rules.specs.Calls.{free}
 use Rattle.rules.specs.Forms.{Form, Faithful}
-use Rattle.rules.specs.Memory.{Memory, heapIn}
+use Rattle.rules.specs.Memory.{Memory, heapIn, Sound}
 use Rattle.rules.proofs.Tables.{entry-inside, well-says}
 use Rattle.promises.specs.Conditions.{First, ofFree}
 use Rattle.promises.specs.Promises.{Object, blocksOf}
@@ -37,26 +37,26 @@ use Rattle.logs.proofs.Ending.{written-same, written-of, Ends, stops, a
 -- ---- entries of a chain
 
 -- an entry in a chain leads to the chain behind it
-chain-at : (base : ℕ) (h : Heap) {w : ℕ} (before : List Entry) {e : Entry} {after : List Entry} → Chain base h w (before ++ e ∷ after) → Front base h (addressOf base (e .head)) e after
+pub chain-at : (base : ℕ) (h : Heap) {w : ℕ} (before : List Entry) {e : Entry} {after : List Entry} → Chain base h w (before ++ e ∷ after) → Front base h (addressOf base (e .head)) e after
 chain-at base h [] c = let x = chain-front base h c in record { address = refl; object = x .object; blocks = x .blocks; entry = x .entry; rest = x .rest }
 chain-at base h (d ∷ before) c = chain-at base h before (chain-front base h c .rest)
 
 -- two lists that are one, with an entry after as many, have one entry there
-split-same : (xs ys : List Entry) (d e : Entry) (ds es : List Entry) → length xs ≡ length ys → xs ++ d ∷ ds ≡ ys ++ e ∷ es → d ≡ e
+pub split-same : (xs ys : List Entry) (d e : Entry) (ds es : List Entry) → length xs ≡ length ys → xs ++ d ∷ ds ≡ ys ++ e ∷ es → d ≡ e
 split-same [] [] d e ds es l q = heads-same q
 split-same [] (y ∷ ys) d e ds es l q = absurd (omega arith)
 split-same (x ∷ xs) [] d e ds es l q = absurd (omega arith)
 split-same (x ∷ xs) (y ∷ ys) d e ds es l q = split-same xs ys d e ds es (omega arith) (tails-same q)
 
 -- the pair at an index, and past the end
-pairs-at : (before : List Entry) (e : Entry) (after : List Entry) (i : ℕ) → length before ≡ i → readPairs (pairs (before ++ e ∷ after)) i ≡ readout 0 (e .time) (e .tips)
+pub pairs-at : (before : List Entry) (e : Entry) (after : List Entry) (i : ℕ) → length before ≡ i → readPairs (pairs (before ++ e ∷ after)) i ≡ readout 0 (e .time) (e .tips)
 unfolding readPairs
 pairs-at [] e after zero l = refl
 pairs-at [] e after (suc i) l = absurd (omega arith)
 pairs-at (d ∷ before) e after zero l = absurd (omega arith)
 pairs-at (d ∷ before) e after (suc i) l = pairs-at before e after i (omega arith)
 
-pairs-past : (es : List Entry) (i : ℕ) → length es ≤ i → readPairs (pairs es) i ≡ declined 19
+pub pairs-past : (es : List Entry) (i : ℕ) → length es ≤ i → readPairs (pairs es) i ≡ declined 19
 unfolding readPairs
 pairs-past [] i l = refl
 pairs-past (e ∷ es) zero l = absurd (omega arith)
@@ -219,18 +219,18 @@ module _ (f : Form) (faithful : Faithful f) (base first : ℕ) (stack : List ℕ
       go (acts es chain x first-is good s ran-as written) = absurd (some-number (ap (λ (y : Reply). y .refusal) (as-drop (x .entry .head) ran-as .0)))
 
   pub dropped : d .reply .refusal ≡ 0 → (e : Entry) (es : List Entry) → Chain base (heapIn f m) first (e ∷ es)
-      → Dropped base (heapIn f m) e es (heapIn f (d .memory)) (d .reply) × (d .stack ≡ stack)
+      → Dropped base (heapIn f m) e es (heapIn f (d .memory)) (d .reply) × (d .stack ≡ stack) × Sound f (d .memory)
   unfolding drop
   dropped accepted e es chain = go drop-ended
     where
       h : Heap
       h = heapIn f m
 
-      go : DropEnds → Dropped base h e es (heapIn f (d .memory)) (d .reply) × (d .stack ≡ stack)
+      go : DropEnds → Dropped base h e es (heapIn f (d .memory)) (d .reply) × (d .stack ≡ stack) × Sound f (d .memory)
       go (stops n other first-is q declines) = absurd (other (sym (ap (λ (y : Reply). y .refusal) q) ∙ accepted))
       go (acts ds chain′ x first-is good s ran-as written) =
           let same : x .entry ≡ e = split-same (x .before) [] (x .entry) e (x .after) es (x .long) (sym (x .are) ∙ chain-one base (good .shape .above) h chain′ chain) in
           let here = as-drop (x .entry .head) ran-as in
           let freed = subst (λ (y : Entry). Dropped base h e es (free base h (y .head) .heap) (logged 0 (looks base h (y .head) 0 .value) (free base h (y .head) .answer .change))) (sym same)
           (freed-first base h good e es chain) in
-          (subst (λ (g : Heap). Dropped base h e es g (d .reply)) (sym (here .1)) (subst (Dropped base h e es (free base h (x .entry .head) .heap)) (sym (here .0)) freed), here .2)
+          (subst (λ (g : Heap). Dropped base h e es g (d .reply)) (sym (here .1)) (subst (Dropped base h e es (free base h (x .entry .head) .heap)) (sym (here .0)) freed), here .2, here .3)

@@ -5,3 +5,4 @@ pub mod Pairs
 pub mod Lasting
 pub mod Promises
 pub mod Cycle
+pub mod Examples

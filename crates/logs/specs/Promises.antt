@@ -14,7 +14,7 @@ use Rattle.rules.specs.Meaning.{AllBytes, Lowest, Passed}
 use Rattle.rules.specs.Outcomes.{Heap}
 use Rattle.rules.specs.Forms.{Form, Faithful}
 use Rattle.rules.specs.Runs.{Collect, Survey}
-use Rattle.rules.specs.Memory.{Memory, Result, heapIn, perform}
+use Rattle.rules.specs.Memory.{Memory, Result, heapIn, Sound, perform}
 use Rattle.promises.specs.Conditions.{Condition, when, First, NoFit}
 use Rattle.promises.specs.Promises.{byteAt, Among, Within}
 use Rattle.programs.specs.Programs.{Ran, run}
@@ -130,18 +130,18 @@ pub record LogPromises : Type 0 where
       r .reply .refusal ≡ 9
       → (r .reply ≡ logged 9 0 (c .answer .change)) × (r .memory ≡ c .memory) × (r .stack ≡ c .stack)
       × ((es : List Entry) → Chain base (heapIn f m) first es → Chain base (heapIn f (r .memory)) first es)
-  -- a call that is accepted does what its record says. Where there is room for two blocks append collects nothing, and the mark stack is not touched
+  -- a call that is accepted does what its record says, and leaves a table that is as its form asks. Where there is room for two blocks append collects nothing, and the mark stack is not touched
   pub appended : (f : Form) → Faithful f → (base first time tips : ℕ) (roots stack : List ℕ) (m : Memory) → time < 2 ^ 32 → tips < 2 ^ 32
       → let r : Ran Reply = run f (append base first time tips roots stack) stack m in
       r .reply .refusal ≡ 0 → ¬ NoFit (heapIn f m) 2
-      → Appended base first time tips (heapIn f m) (pos 0) (heapIn f (r .memory)) (r .reply) × (r .stack ≡ stack)
+      → Appended base first time tips (heapIn f m) (pos 0) (heapIn f (r .memory)) (r .reply) × (r .stack ≡ stack) × Sound f (r .memory)
   -- and where there is none, it does so on what the collection leaves, in which the log is as it was
   pub appended-after : (f : Form) → Faithful f → (base first time tips : ℕ) (roots stack : List ℕ) (m : Memory) → time < 2 ^ 32 → tips < 2 ^ 32
       → let r : Ran Reply = run f (append base first time tips roots stack) stack m in
       let c : Result = collectionIn f base first roots stack m in
       r .reply .refusal ≡ 0 → NoFit (heapIn f m) 2
       → Appended base first time tips (heapIn f (c .memory)) (c .answer .change) (heapIn f (r .memory)) (r .reply) × (r .stack ≡ c .stack)
-      × ((es : List Entry) → Chain base (heapIn f m) first es → Chain base (heapIn f (c .memory)) first es)
+      × ((es : List Entry) → Chain base (heapIn f m) first es → Chain base (heapIn f (c .memory)) first es) × Sound f (r .memory)
   pub was-read : (f : Form) → Faithful f → (base first index : ℕ) (stack : List ℕ) (m : Memory) → AllBytes (m .table)
       → let r : Ran Reply = run f (read base first index) stack m in
       r .reply .refusal ≡ 0
@@ -151,4 +151,4 @@ pub record LogPromises : Type 0 where
       → let r : Ran Reply = run f (drop base first) stack m in
       r .reply .refusal ≡ 0
       → (e : Entry) (es : List Entry) → Chain base (heapIn f m) first (e ∷ es)
-      → Dropped base (heapIn f m) e es (heapIn f (r .memory)) (r .reply) × (r .stack ≡ stack)
+      → Dropped base (heapIn f m) e es (heapIn f (r .memory)) (r .reply) × (r .stack ≡ stack) × Sound f (r .memory)

@@ -47,5 +47,5 @@ fn the_readme_shows_the_demos_image() {
 
 #[test]
 fn the_readme_shows_a_fault() {
-    readme_has(&written("cut.image", &common::demo()[..300], &["check"]));
+    readme_has(&written("cut.image", &common::demo()[..150], &["check"]));
 }

@@ -8,7 +8,7 @@ use core::ops::Range;
 /// It is the one place that holds what is lent: no call asks for the pool or the table again.
 #[derive(Debug)]
 pub struct Heap<'m> {
-    lent: Lent<'m>,
+    pub(crate) lent: Lent<'m>,
 }
 
 impl<'m> Heap<'m> {

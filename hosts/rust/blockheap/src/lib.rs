@@ -4,11 +4,13 @@
 //! of an object or a tail of one, in the two bit planes that `include/blockheap.h` draws. The library
 //! keeps nothing of its own: a [`Heap`] holds what is lent, and every call hands all of it over. Any
 //! content may be lent and any number passed: what does not fit is refused with a [`Refusal`], and then
-//! nothing has changed.
+//! nothing has changed, but for what [`NotAppended`] says.
 //!
 //! ```
 #![doc = include_str!("../examples/readme.rs")]
 //! ```
+//!
+//! A [`Log`] is a list of times and tip counts in a heap, each entry an object of its own.
 //!
 //! All unsafe code is in the module [`raw`]. A call panics only if the archive answers a number that
 //! is no refusal's, as one of another version may.
@@ -20,6 +22,7 @@ mod address;
 mod answers;
 mod block;
 mod heap;
+mod log;
 mod mark_entry;
 mod memory;
 #[allow(unsafe_code)]
@@ -31,6 +34,7 @@ pub use address::Address;
 pub use answers::{Collected, Opened, Placed, Survey};
 pub use block::Block;
 pub use heap::Heap;
+pub use log::{Entry, Log, NotAppended};
 pub use mark_entry::MarkEntry;
 pub use memory::Memory;
 pub use refusal::Refusal;

@@ -4,7 +4,8 @@
 //! Each call asks of its caller what the header does under "What the caller ensures".
 
 use crate::refusal::check;
-use crate::{pool_bytes, table_bytes, Address, MarkEntry, Refusal, WORD_BYTES};
+use crate::{pool_bytes, table_bytes, WORD_BYTES};
+use crate::{Address, Entry, MarkEntry, NotAppended, Refusal};
 use core::slice::{from_raw_parts, from_raw_parts_mut};
 
 /// Declares calls: whether each may write pool and table, then its own arguments and answers.
@@ -59,6 +60,18 @@ declare! {
         const pool, const table,
         roots: *const u8, roots_len: usize, image: *mut u8, image_len: usize, length: *mut u32,
     );
+    /// Adds an entry to a log.
+    blockheap_log_append(
+        mut pool, mut table, first: u64, time: u32, tips: u32,
+        roots: *const u8, roots_len: usize, stack: *mut u8, stack_len: usize,
+        new_first: *mut u32, change: *mut i32,
+    );
+    /// Reads an entry of a log.
+    blockheap_log_read(
+        const pool, const table, first: u64, index: u64, time: *mut u32, tips: *mut u32,
+    );
+    /// Frees the oldest entry of a log.
+    blockheap_log_drop(const pool, mut table, first: u64, new_first: *mut u32, change: *mut i32);
 }
 
 extern "C" {
@@ -182,6 +195,45 @@ impl Lent<'_> {
             roots.as_ptr().cast(), size_of_val(roots), image.as_mut_ptr(), image.len(), &mut length
         ))?;
         Ok(length)
+    }
+
+    /// Answers the first address and the change.
+    pub fn log_append(
+        &mut self,
+        first: Address,
+        Entry { time, tips }: Entry,
+        roots: &[Address],
+        stack: &mut [MarkEntry],
+    ) -> Result<(Address, i32), NotAppended> {
+        let (mut new_first, mut change) = (0, 0);
+        let appended = hand_over!(self, blockheap_log_append(
+            mut pool, mut table, first.word().into(), time, tips,
+            roots.as_ptr().cast(), size_of_val(roots), stack.as_mut_ptr().cast(), size_of_val(stack),
+            &mut new_first, &mut change
+        ));
+        match appended {
+            Ok(()) => Ok((Address::from_word(new_first), change)),
+            Err(refusal) => Err(NotAppended { refusal, change }),
+        }
+    }
+
+    pub fn log_read(&self, first: Address, index: u64) -> Result<Entry, Refusal> {
+        let (first, mut time, mut tips) = (first.word().into(), 0, 0);
+        hand_over!(
+            self,
+            blockheap_log_read(const pool, const table, first, index, &mut time, &mut tips)
+        )?;
+        Ok(Entry { time, tips })
+    }
+
+    /// Answers the first address and the change.
+    pub fn log_drop(&mut self, first: Address) -> Result<(Address, i32), Refusal> {
+        let (first, mut new_first, mut change) = (first.word().into(), 0, 0);
+        hand_over!(
+            self,
+            blockheap_log_drop(const pool, mut table, first, &mut new_first, &mut change)
+        )?;
+        Ok((Address::from_word(new_first), change))
     }
 
     /// Sets the base too, and answers the number of roots.

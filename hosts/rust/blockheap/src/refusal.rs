@@ -1,8 +1,9 @@
 use core::fmt;
 
 /// Why a call was refused: of several reasons, the one with the lowest number, except by
-/// [`Heap::open_image`](crate::Heap::open_image), which reads a file from its front. After a refusal all
-/// that is lent holds what it held before.
+/// [`Heap::open_image`](crate::Heap::open_image), which reads a file from its front, and by
+/// [`Heap::log_append`](crate::Heap::log_append), which asks for room last. After a refusal all that is lent
+/// holds what it held before, except that a collection stands which made too little room for an append.
 #[derive(Clone, Copy, Debug, PartialEq, Eq, Hash)]
 #[non_exhaustive]
 pub enum Refusal {
@@ -11,7 +12,7 @@ pub enum Refusal {
     BadShape = 1,
     /// The table has a mark, a tail at block 0 or after a free block, or a spare bit that is 1.
     BadTable = 2,
-    /// There are more than 4,096 roots.
+    /// There are more than 4,096 roots; of an append, more than 4,095.
     TooManyRoots = 3,
     /// The mark stack has more than 64 entries.
     StackTooLong = 4,
@@ -23,7 +24,8 @@ pub enum Refusal {
     NotAHead = 7,
     /// The word is not inside the object.
     NoSuchWord = 8,
-    /// No run of free blocks is long enough and aligned: four blocks or more begin at a multiple of four.
+    /// No run of free blocks is long enough and aligned: four blocks or more begin at a multiple of four. An
+    /// append has collected once.
     NoRoom = 9,
     /// The buffer for an image is shorter than the image.
     OutputTooShort = 10,
@@ -35,6 +37,11 @@ pub enum Refusal {
     TrailingBytes = 16,
     /// The lent list of roots has fewer entries than the image has roots.
     RootsTooShort = 17,
+    /// The first address is not 0, and no chain of head addresses of two-block objects leads from it, without
+    /// repetition, to a next word of 0.
+    NoLog = 18,
+    /// The log has no such entry.
+    NoEntry = 19,
 }
 
 impl Refusal {
@@ -54,6 +61,8 @@ impl Refusal {
         Refusal::BadCount,
         Refusal::TrailingBytes,
         Refusal::RootsTooShort,
+        Refusal::NoLog,
+        Refusal::NoEntry,
     ];
 
     /// Its number in `include/blockheap.h`.
@@ -72,7 +81,9 @@ impl Refusal {
             Refusal::BadTable => {
                 "the table has a mark, a tail at block 0 or after a free block, or a spare bit that is 1"
             }
-            Refusal::TooManyRoots => "there are more than 4,096 root words",
+            Refusal::TooManyRoots => {
+                "there are more than 4,096 root words, a log's first address among them"
+            }
             Refusal::StackTooLong => "the mark stack has more than 64 entries",
             Refusal::ZeroBytes => "a request must be for at least one byte",
             Refusal::NoSuchBlock => "the block number lies outside the pool",
@@ -84,6 +95,8 @@ impl Refusal {
             Refusal::BadCount => "a count in the image is wrong",
             Refusal::TrailingBytes => "bytes follow behind the image",
             Refusal::RootsTooShort => "the list is too short for the image's roots",
+            Refusal::NoLog => "no log begins at the first address",
+            Refusal::NoEntry => "the log has no such entry",
         }
     }
 }

@@ -26,6 +26,12 @@ pub const MIN_BASE: Address = Address::from_word(16);
 pub const MAX_ROOTS: usize = 4096;
 /// The most entries that a mark stack may have.
 pub const MAX_STACK_ENTRIES: usize = 64;
+/// The bytes of an entry of a log.
+pub const LOG_ENTRY_BYTES: usize = 32;
+/// The most entries that a log may have.
+pub const MAX_LOG_ENTRIES: usize = MAX_POOL_BYTES / LOG_ENTRY_BYTES;
+/// The most roots that an append takes: the log's first address is one more.
+pub const MAX_LOG_ROOTS: usize = MAX_ROOTS - 1;
 /// The most bytes that an image may have.
 pub const MAX_IMAGE_BYTES: usize = full_image_bytes(MAX_T, MAX_ROOTS);
 

@@ -37,10 +37,41 @@ fn the_sizes_are_the_headers() {
         ("MIN_BASE", MIN_BASE.word() as usize),
         ("MAX_ROOTS", MAX_ROOTS),
         ("MAX_STACK_ENTRIES", MAX_STACK_ENTRIES),
+        ("LOG_ENTRY_BYTES", LOG_ENTRY_BYTES),
+        ("MAX_LOG_ENTRIES", MAX_LOG_ENTRIES),
+        ("MAX_LOG_ROOTS", MAX_LOG_ROOTS),
         ("MAX_IMAGE_BYTES", MAX_IMAGE_BYTES),
     ] {
         assert_eq!(size, defined(&format!("BLOCKHEAP_{name}")), "{name}");
     }
+}
+
+/// The names and numbers of the header's refusals, but for 0.
+fn refusals() -> Vec<(String, u32)> {
+    let (_, list) = HEADER.split_once("enum blockheap_refusal {").expect("the refusals");
+    let (list, _) = list.split_once("};").expect("their end");
+    let pairs = list.lines().filter_map(|line| {
+        let (name, rest) = line.trim().strip_prefix("BLOCKHEAP_")?.split_once(" = ")?;
+        let digits = rest.split(|letter: char| !letter.is_ascii_digit()).next()?;
+        Some((name.to_string(), digits.parse().expect("a number")))
+    });
+    pairs.filter(|(_, number)| *number != 0).collect()
+}
+
+/// A name in capitals, with a line before each word but the first.
+fn in_capitals(name: &str) -> String {
+    let letters = name.chars().enumerate().flat_map(|(at, letter)| {
+        let line = (at > 0 && letter.is_uppercase()).then_some('_');
+        line.into_iter().chain(letter.to_uppercase())
+    });
+    letters.collect()
+}
+
+#[test]
+fn the_refusals_are_the_headers() {
+    let all = blockheap::Refusal::ALL.iter();
+    let named = all.map(|refusal| (in_capitals(&format!("{refusal:?}")), refusal.number()));
+    assert_eq!(named.collect::<Vec<_>>(), refusals());
 }
 
 #[test]

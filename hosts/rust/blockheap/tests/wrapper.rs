@@ -1,7 +1,8 @@
 //! The wrapper as a Rust program meets it.
 
-use blockheap::{full_image_bytes, image_t, pool_bytes, table_bytes, MAX_ROOTS};
+use blockheap::{full_image_bytes, image_t, pool_bytes, table_bytes, MAX_LOG_ROOTS, MAX_ROOTS};
 use blockheap::{Address, Block, Heap, MarkEntry, Memory, Placed, Refusal, Survey};
+use blockheap::{Entry, Log, NotAppended};
 
 const BASE: Address = Address::from_word(4096);
 
@@ -267,6 +268,162 @@ fn an_image_of_another_size_is_refused() {
     assert_eq!(roots, [Address::NULL]);
 }
 
+const RAIN: Entry = Entry { time: 600, tips: 3 };
+
+/// The entry that an append makes of a number.
+fn entry(number: u32) -> Entry {
+    Entry { time: 600 * number, tips: number }
+}
+
+/// Everything that a log has.
+fn entries(heap: &Heap, log: &Log) -> Result<Vec<Entry>, Refusal> {
+    let mut entries = Vec::new();
+    loop {
+        match heap.log_read(log, entries.len() as u64) {
+            Ok(entry) => entries.push(entry),
+            Err(Refusal::NoEntry) => return Ok(entries),
+            Err(refusal) => return Err(refusal),
+        }
+    }
+}
+
+/// The refusal and the change of an append that is refused.
+fn not_appended(outcome: Result<i32, NotAppended>) -> (Refusal, i32) {
+    let not_appended = outcome.expect_err("a refused append");
+    (not_appended.refusal, not_appended.change)
+}
+
+#[test]
+fn a_log_grows_at_its_end_and_is_dropped_from_its_front() -> Result<(), Refusal> {
+    let mut memory = Memory::<4>::new();
+    let mut heap = memory.init(BASE)?;
+    let mut log = Log::new();
+    assert!(log.is_empty() && log == Log::default());
+    assert_eq!(heap.log_drop(&mut log), Err(Refusal::NoEntry));
+    for number in 0..5 {
+        assert_eq!(heap.log_append(&mut log, entry(number), &[], &mut [])?, 2);
+        assert_eq!(log.first(), BASE);
+    }
+    assert_eq!(entries(&heap, &log)?, (0..5).map(entry).collect::<Vec<_>>());
+    assert_eq!(heap.log_drop(&mut log)?, -2);
+    assert_eq!(heap.log_append(&mut log, entry(5), &[], &mut [])?, 2);
+    assert_eq!(entries(&heap, &log)?, (1..6).map(entry).collect::<Vec<_>>());
+    assert_eq!(heap.log_read(&log, u64::MAX), Err(Refusal::NoEntry));
+    while !log.is_empty() {
+        assert_eq!(heap.log_drop(&mut log)?, -2);
+    }
+    assert_eq!((log, counts(heap.survey()?)), (Log::new(), [0, 0, 16]));
+    Ok(())
+}
+
+#[test]
+fn an_append_collects_where_there_is_no_room() -> Result<(), Refusal> {
+    let mut memory = Memory::<2>::new();
+    let mut heap = memory.init(BASE)?;
+    let mut log = Log::new();
+    heap.log_append(&mut log, entry(0), &[], &mut [])?;
+    let held = heap.allocate(16)?.block;
+    heap.allocate(48)?;
+    heap.allocate(32)?;
+    let roots = [heap.address_of(held)?];
+    let change = heap.log_append(&mut log, entry(1), &roots, &mut [MarkEntry::EMPTY])?;
+    assert_eq!(change, -5 + 2);
+    assert_eq!(entries(&heap, &log)?, [entry(0), entry(1)]);
+    assert_eq!(heap.object(held)?.len(), 16);
+    Ok(())
+}
+
+#[test]
+fn the_stack_is_cleared_by_an_appends_collection_alone() -> Result<(), Refusal> {
+    let mut memory = Memory::<1>::new();
+    let mut heap = memory.init(BASE)?;
+    let mut log = Log::new();
+    let mut bytes = [7; 8];
+    heap.log_append(&mut log, RAIN, &[], MarkEntry::all_in(&mut bytes)?)?;
+    assert_eq!(bytes, [7; 8]);
+    heap.allocate(32)?;
+    heap.log_append(&mut log, RAIN, &[], MarkEntry::all_in(&mut bytes)?)?;
+    assert_eq!(bytes, [0; 8]);
+    Ok(())
+}
+
+#[test]
+fn a_collection_stands_after_an_append_without_room() -> Result<(), Refusal> {
+    let mut memory = Memory::<1>::new();
+    let mut heap = memory.init(BASE)?;
+    let mut log = Log::new();
+    heap.log_append(&mut log, RAIN, &[], &mut [])?;
+    let (held, _) = (heap.allocate(16)?.block, heap.allocate(16)?);
+    let roots = [heap.address_of(held)?];
+    for change in [-1, 0] {
+        let refused = heap.log_append(&mut log, RAIN, &roots, &mut []);
+        assert_eq!(not_appended(refused), (Refusal::NoRoom, change));
+        assert_eq!((log.first(), entries(&heap, &log)?), (BASE, vec![RAIN]));
+        assert_eq!(counts(heap.survey()?), [3, 2, 1]);
+    }
+    let not_appended = heap.log_append(&mut log, RAIN, &roots, &mut []).unwrap_err();
+    assert_eq!(not_appended.to_string(), Refusal::NoRoom.to_string());
+    assert_eq!(Refusal::from(not_appended), Refusal::NoRoom);
+    Ok(())
+}
+
+#[test]
+fn what_is_no_log_is_refused_and_stays() -> Result<(), Refusal> {
+    let mut memory = Memory::<4>::new();
+    let mut heap = memory.init(BASE)?;
+    let mut log = Log::new();
+    for number in 0..2 {
+        heap.log_append(&mut log, entry(number), &[], &mut [])?;
+    }
+    for bytes in [16, 48] {
+        heap.allocate(bytes)?;
+    }
+    let (ring, tail, one, three) = (0x1000, 0x1010, 0x1040, 0x1050);
+    for next in [ring, 0x1020, tail, one, three, 0x1080, 0x1001, 0xFF0, 0x1100] {
+        heap.store(Block::from_number(2), 0, next)?;
+        let mut log = Log::from_first(BASE);
+        let refused = heap.log_append(&mut log, RAIN, &[], &mut []);
+        assert_eq!(not_appended(refused), (Refusal::NoLog, 0), "{next:#x}");
+        assert_eq!(heap.log_read(&log, 0), Err(Refusal::NoLog), "{next:#x}");
+        assert_eq!(heap.log_drop(&mut log), Err(Refusal::NoLog), "{next:#x}");
+        assert_eq!(log.first(), BASE);
+    }
+    Ok(())
+}
+
+#[test]
+fn an_append_takes_one_root_less_than_a_collection() -> Result<(), Refusal> {
+    let mut memory = Memory::<1>::new();
+    let mut heap = memory.init(BASE)?;
+    let mut log = Log::new();
+    let roots = [Address::NULL; MAX_LOG_ROOTS + 1];
+    let refused = heap.log_append(&mut log, RAIN, &roots, &mut []);
+    assert_eq!(not_appended(refused), (Refusal::TooManyRoots, 0));
+    let mut stack = [MarkEntry::EMPTY; 65];
+    let refused = heap.log_append(&mut log, RAIN, &roots[1..], &mut stack);
+    assert_eq!(not_appended(refused), (Refusal::StackTooLong, 0));
+    assert_eq!(heap.log_append(&mut log, RAIN, &roots[1..], &mut stack[1..])?, 2);
+    Ok(())
+}
+
+#[test]
+fn a_log_goes_with_an_image() -> Result<(), Refusal> {
+    let (mut logger, mut visitor) = (Memory::<4>::new(), Memory::<4>::new());
+    let mut heap = logger.init(BASE)?;
+    let mut log = Log::new();
+    for number in 0..3 {
+        heap.log_append(&mut log, entry(number), &[], &mut [])?;
+    }
+    heap.log_drop(&mut log)?;
+    let mut buffer = [0; full_image_bytes(4, 1)];
+    let image = heap.write_image(&[log.first()], &mut buffer)?;
+    let mut roots = [Address::NULL];
+    let opened = visitor.open_image(image, &mut roots)?;
+    let log = Log::from_first(opened.roots[0]);
+    assert_eq!(entries(&opened.heap, &log)?, [entry(1), entry(2)]);
+    Ok(())
+}
+
 #[test]
 fn each_refusal_says_what_is_wrong() {
     let texts: Vec<String> = Refusal::ALL.iter().map(Refusal::to_string).collect();
@@ -275,7 +432,7 @@ fn each_refusal_says_what_is_wrong() {
         assert!(!texts[..index].contains(text), "{text}");
     }
     let numbers: Vec<u32> = Refusal::ALL.iter().map(|refusal| refusal.number()).collect();
-    assert_eq!(numbers, (1..=10).chain(14..=17).collect::<Vec<u32>>());
+    assert_eq!(numbers, (1..=10).chain(14..=19).collect::<Vec<u32>>());
     let no_room = "refused (9): no aligned run of free blocks is long enough";
     assert_eq!(Refusal::NoRoom.to_string(), no_room);
 }

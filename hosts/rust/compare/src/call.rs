@@ -7,7 +7,7 @@ use Buffer::{Image, Pool, Roots, Stack, Table};
 pub enum Access {
     Reads,
     Writes,
-    /// Writes all of it, whatever it held, and needs no certain length.
+    /// Writes all of it if the call collects, whatever it held, and needs no certain length.
     Scratch,
     /// Writes as many items at its front as that answer says, of so many bytes each, whatever they held, and
     /// needs no certain length.
@@ -116,6 +116,24 @@ calls! {
             (Image, Reads),
         ],
     };
+    LogAppend { first: u64, time: u32, tips: u32 } = Description {
+        name: "log append",
+        answers: &["first", "change"],
+        refusals: &[0, 1, 2, 3, 4, 9, 18],
+        takes: &[(Pool, Writes), (Table, Writes), (Roots, Reads), (Stack, Scratch)],
+    };
+    LogRead { first: u64, index: u64 } = Description {
+        name: "log read",
+        answers: &["time", "tips"],
+        refusals: &[0, 1, 2, 18, 19],
+        takes: &[],
+    };
+    LogDrop { first: u64 } = Description {
+        name: "log drop",
+        answers: &["first", "change"],
+        refusals: &[0, 1, 2, 18, 19],
+        takes: &[(Table, Writes)],
+    };
 }
 
 impl Call {
@@ -126,13 +144,36 @@ impl Call {
         named.map(|(_, access)| *access).or(of_heap)
     }
 
+    /// The first address that is handed to a call on a log.
+    pub fn first(&self) -> Option<u64> {
+        match *self {
+            Call::LogAppend { first, .. }
+            | Call::LogRead { first, .. }
+            | Call::LogDrop { first } => Some(first),
+            _ => None,
+        }
+    }
+
+    /// Whether a call with this reply has collected. An append does where it finds no room: it is refused by 9
+    /// then, or makes room first, and so does not leave two blocks more.
+    pub fn collects(&self, reply: &Reply) -> bool {
+        match (self, reply.refusal) {
+            (Call::Collect, refusal) => refusal == 0,
+            (Call::LogAppend { .. }, 0) => reply.parts["change"] < 2,
+            (Call::LogAppend { .. }, refusal) => refusal == 9,
+            _ => false,
+        }
+    }
+
     /// How many bytes at the front of the buffer, which has so many in all, a call with this reply may
-    /// have written.
+    /// have written. A collection stands even if the call is refused.
     pub fn written(&self, buffer: Buffer, length: usize, reply: &Reply) -> usize {
         match self.access(buffer) {
-            _ if reply.refusal != 0 => 0,
             None | Some(Reads) => 0,
-            Some(Writes | Scratch) => length,
+            Some(_) if self.collects(reply) && [Table, Stack].contains(&buffer) => length,
+            Some(Scratch) => 0,
+            Some(_) if reply.refusal != 0 => 0,
+            Some(Writes) => length,
             Some(Fills { answer, bytes }) => length.min(bytes * reply.parts[answer] as usize),
         }
     }
@@ -155,6 +196,6 @@ mod tests {
     #[test]
     fn no_pair_of_a_call_and_a_refusal_number_is_lost() {
         let pairs: usize = Call::DESCRIPTIONS.iter().map(|call| call.refusals.len()).sum();
-        assert_eq!(pairs, 52);
+        assert_eq!(pairs, 69);
     }
 }

@@ -12,7 +12,7 @@ pub fn compare(subject: Subject, call: &Call, before: &Lent) -> Result<(Reply, L
     let fault = Difference::in_replies(call, [&reply, &expected_reply])
         .map(|difference| wrong(&difference))
         .or_else(|| lent_fault(&after, &expected))
-        .or_else(|| refusal_fault(&reply))
+        .or_else(|| refusal_fault(call, &reply))
         .or_else(|| written_fault(call, &reply, before, &after))
         .or_else(|| rescan_fault(&reply, before));
     match fault {
@@ -36,9 +36,11 @@ fn lent_fault(after: &Lent, expected: &Lent) -> Option<String> {
     })
 }
 
-/// What a refusal answers, whatever the plain-list heap says.
-fn refusal_fault(reply: &Reply) -> Option<String> {
-    let answers = reply.refusal != 0 && reply.parts.values().any(|part| *part != 0);
+/// What a refusal answers, whatever the plain-list heap says: nothing but the change of a collection.
+fn refusal_fault(call: &Call, reply: &Reply) -> Option<String> {
+    let stands = call.collects(reply);
+    let mut answered = reply.parts.iter().filter(|(_, part)| **part != 0);
+    let answers = reply.refusal != 0 && answered.any(|(name, _)| !(stands && *name == "change"));
     answers.then(|| format!("the answer to a refused call is {:?}, not zero", reply.parts))
 }
 
@@ -90,6 +92,25 @@ mod tests {
         assert_eq!(accepted(Call::Free { block: 0 }), [Table]);
         assert_eq!(accepted(Call::Store { block: 0, word: 0, value: 0 }), [Pool]);
         assert_eq!(accepted(Call::Collect), [Table, Stack]);
+    }
+
+    const APPEND: Call = Call::LogAppend { first: 0, time: 0, tips: 0 };
+
+    #[test]
+    fn a_write_by_an_append_is_seen() {
+        let appended = |change| writable(APPEND, Reply::accepted(&APPEND, &[4096, change]));
+        assert_eq!(appended(2), [Pool, Table]);
+        assert_eq!(appended(1), [Pool, Table, Stack]);
+        assert_eq!(refused(APPEND, 18), []);
+        assert_eq!(refused(APPEND, 9), [Table, Stack]);
+    }
+
+    #[test]
+    fn an_answer_beside_a_refusal_is_seen() {
+        let answered =
+            |number, parts| refusal_fault(&APPEND, &Reply::new(&APPEND, number, parts)).is_some();
+        assert!(!answered(9, &[0, -3]) && !answered(18, &[0, 0]) && !answered(0, &[1, 2]));
+        assert!(answered(9, &[4096, -3]) && answered(18, &[0, -3]) && answered(4, &[1, 0]));
     }
 
     #[test]

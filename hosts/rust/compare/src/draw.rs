@@ -2,10 +2,10 @@
 
 use crate::planes::{table_bytes, FREE, HEAD, MARK, MOST, TAIL};
 use crate::Buffer::{Image, Pool, Roots, Stack, Table};
-use crate::{files, Access, Call, Guarded, Lent, Random};
+use crate::{files, logs, Access, Call, Guarded, Lent, Random};
 
 /// Far outside of every heap, and equal to small numbers where a number is cut or wrapped.
-const HUGE: [u64; 6] = [1 << 32, 1 << 36, 1 << 60, 1 << 62, 1 << 63, u64::MAX - 31];
+pub const HUGE: [u64; 6] = [1 << 32, 1 << 36, 1 << 60, 1 << 62, 1 << 63, u64::MAX - 31];
 
 /// The first block at or after a random one that has this entry, or that one if the heap has none.
 fn some_block(random: &mut Random, lent: &Lent, wanted: u8) -> u64 {
@@ -62,9 +62,13 @@ pub fn noise(random: &mut Random, t: u64) -> Lent {
     Lent::new(good_base(random, t), t, &pool, &table)
 }
 
-/// A heap of this t with a well-formed table.
+/// A heap of this t with a well-formed table, at times one of logs.
 pub fn heap(random: &mut Random, t: u64) -> Lent {
     let mut lent = noise(random, t);
+    if random.percent(20) {
+        logs::lay_out(random, &mut lent);
+        return lent;
+    }
     lay_out(random, &mut lent);
     let shape = random.pick(&SHAPES);
     link(random, &mut lent, shape);
@@ -143,7 +147,7 @@ fn point(random: &mut Random, lent: &mut Lent, head: u64, targets: [Option<u64>;
     }
 }
 
-fn address(lent: &Lent, block: u64) -> u32 {
+pub fn address(lent: &Lent, block: u64) -> u32 {
     lent.base.wrapping_add(16 * block) as u32
 }
 
@@ -169,10 +173,10 @@ fn some_address(random: &mut Random, lent: &Lent) -> u32 {
     address(lent, some_part(random, lent, head))
 }
 
-/// A call with its arguments; for a collection also roots and mark stack, for an image roots and output, or
-/// the file and a list for its roots.
+/// A call with its arguments; for a collection and an append also roots and mark stack, for an image roots and
+/// output, or the file and a list for its roots.
 pub fn call(random: &mut Random, lent: &mut Lent) -> Call {
-    match random.below(354) {
+    match random.below(429) {
         0 => Call::Init,
         1..=74 => Call::Allocate { bytes: bytes(random, lent) },
         75..=104 => Call::Free { block: block(random, lent) },
@@ -181,7 +185,7 @@ pub fn call(random: &mut Random, lent: &mut Lent) -> Call {
             Call::Reallocate { block, bytes: new_bytes(random, lent, block) }
         }
         170..=214 => {
-            draw_roots(random, lent);
+            draw_roots(random, lent, 4096);
             lent[Stack] = Guarded::new(&stack(random));
             Call::Collect
         }
@@ -200,11 +204,22 @@ pub fn call(random: &mut Random, lent: &mut Lent) -> Call {
             lent[Image] = Guarded::new(&output(random, lent));
             Call::WriteImage
         }
-        _ => {
+        330..=353 => {
             let file = files::draw(random, lent);
             files::lend(random, lent, &file);
             Call::OpenImage
         }
+        354..=398 => {
+            draw_roots(random, lent, 4095);
+            lent[Stack] = Guarded::new(&stack(random));
+            let [time, tips] = [(); 2].map(|()| logs::reading(random, lent));
+            Call::LogAppend { first: logs::first(random, lent), time, tips }
+        }
+        399..=416 => {
+            let first = logs::first(random, lent);
+            Call::LogRead { first, index: logs::index(random, lent, first) }
+        }
+        _ => Call::LogDrop { first: logs::first(random, lent) },
     }
 }
 
@@ -249,10 +264,10 @@ fn word(random: &mut Random, lent: &Lent, block: u64) -> u64 {
     }
 }
 
-/// Good roots; at times the most, too many, or a piece of one.
-pub fn draw_roots(random: &mut Random, lent: &mut Lent) {
+/// Good roots; at times the most that the call takes, too many, or a piece of one.
+pub fn draw_roots(random: &mut Random, lent: &mut Lent, most: u64) {
     let mut roots = good_roots(random, lent);
-    let most = 4096 - roots.len() as u64;
+    let most = most.saturating_sub(roots.len() as u64);
     let more = match random.below(64) {
         0 => most,
         1 => most + random.pick(&[1, 1, 2, 11]),
@@ -270,7 +285,7 @@ pub fn draw_roots(random: &mut Random, lent: &mut Lent) {
 /// Roots as a collection takes them, or any bytes: a few words, at times the most, too many, or a piece.
 fn draw_any_roots(random: &mut Random, lent: &mut Lent) {
     if random.percent(50) {
-        return draw_roots(random, lent);
+        return draw_roots(random, lent, 4096);
     }
     let words = if random.percent(5) { 4096 + random.below(3) } else { random.below(20) };
     let piece = if random.percent(5) { random.between(1, 3) } else { 0 };

@@ -46,6 +46,11 @@ impl Lent {
         self[Buffer::Roots] = Guarded::new(&bytes);
     }
 
+    /// A word of the pool, counted from the pool's start.
+    pub fn word(&self, word: usize) -> u32 {
+        listheap::words_of(&self[Buffer::Pool][4 * word..][..4])[0]
+    }
+
     /// Writes a word into the pool, counted from the pool's start.
     pub fn set_word(&mut self, word: usize, value: u32) {
         self[Buffer::Pool][4 * word..][..4].copy_from_slice(&value.to_le_bytes());

@@ -5,6 +5,7 @@
 
 pub mod aligned;
 mod call;
+pub mod chains;
 mod check;
 mod coverage;
 mod difference;
@@ -13,8 +14,10 @@ pub mod expect;
 pub mod files;
 mod guarded;
 pub mod image;
+pub mod lasting;
 pub mod laws;
 mod lent;
+mod logs;
 mod pages;
 mod pairs;
 pub mod places;

@@ -6,9 +6,10 @@ use crate::planes::FREE;
 use crate::Buffer::{self, Pool, Stack};
 use crate::{draw, second, Call, Guarded, Lent, Random, Reply, Sizes, Subject};
 
-/// What was run: pairs and calls on each side, how many of these were refused, wrote an image and opened one,
-/// in how many pool bytes the pairs differed at the start, and how often stacks of different lengths took
-/// different rescans.
+/// What was run: pairs and calls on each side, how many of these wrote an image, opened one, appended to a log at
+/// once, read and dropped an entry, appended after a collection and found no room even then, and how many were
+/// refused otherwise; in how many pool bytes the pairs differed at the start, and how often stacks of different
+/// lengths took different rescans.
 #[derive(Clone, Copy, Debug, Default)]
 pub struct PairCounts {
     pub pairs: u64,
@@ -16,8 +17,31 @@ pub struct PairCounts {
     pub refused: u64,
     pub images: u64,
     pub openings: u64,
+    pub appends: u64,
+    pub reads: u64,
+    pub drops: u64,
+    pub room_made: u64,
+    pub without_room: u64,
     pub different_bytes: u64,
     pub different_rescans: u64,
+}
+
+impl PairCounts {
+    fn count(&mut self, call: &Call, reply: &Reply) {
+        self.calls += 1;
+        let counted = match (call, reply.refusal) {
+            (Call::WriteImage, 0) => &mut self.images,
+            (Call::OpenImage, 0) => &mut self.openings,
+            (Call::LogAppend { .. }, 0) if call.collects(reply) => &mut self.room_made,
+            (Call::LogAppend { .. }, 0) => &mut self.appends,
+            (Call::LogAppend { .. }, 9) => &mut self.without_room,
+            (Call::LogRead { .. }, 0) => &mut self.reads,
+            (Call::LogDrop { .. }, 0) => &mut self.drops,
+            (_, 0) => return,
+            _ => &mut self.refused,
+        };
+        *counted += 1;
+    }
 }
 
 /// Runs so many pairs of heaps, or says where the two of a pair first differ.
@@ -113,15 +137,13 @@ impl Pair {
         counts: &mut PairCounts,
     ) -> Result<(), String> {
         let mut replies = self.sides.each_mut().map(|side| subject(call, side));
-        counts.calls += 1;
-        counts.refused += u64::from(replies[0].refusal != 0);
-        counts.images += u64::from(*call == Call::WriteImage && replies[0].refusal == 0);
+        counts.count(call, &replies[0]);
         if *call == Call::OpenImage && replies[0].refusal == 0 {
             self.base = self.sides[0].base;
-            counts.openings += 1;
         }
-        if self.lengths_differ(call) {
-            let rescans = replies[0].parts["rescans"];
+        if let (true, Some(rescans)) = (self.lengths_differ(call), replies[0].parts.get("rescans"))
+        {
+            let rescans = *rescans;
             let others = replies[1].parts.insert("rescans", rescans);
             counts.different_rescans += u64::from(others != Some(rescans));
         }

@@ -24,8 +24,13 @@ impl Reply {
         Reply::new(call, 0, parts)
     }
 
-    /// Beside a refusal all parts are 0.
+    /// Beside a refusal all parts are 0, but for [`Reply::without_room`].
     pub fn refused(call: &Call, refusal: u32) -> Reply {
         Reply::new(call, refusal, &vec![0; call.description().answers.len()])
+    }
+
+    /// Of an append that found no room even after its collection, which had this change.
+    pub fn without_room(call: &Call, change: i64) -> Reply {
+        Reply::new(call, 9, &[0, change])
     }
 }

@@ -1,10 +1,11 @@
 //! Situations that a refusal number does not show.
 
 use crate::aligned::{aligned, free_from, large, lowest_start};
+use crate::chains::{Chain, End};
 use crate::image::{self, whole_sections, Section};
 use crate::planes::{entries_in, table_bytes, SpareBit, FREE, MARK, MOST, TAIL};
-use crate::Buffer::{Image, Pool, Roots, Table};
-use crate::{second, Call, Guarded, Lent, Reply};
+use crate::Buffer::{Image, Pool, Roots, Stack, Table};
+use crate::{second, Buffer, Call, Guarded, Lent, Reply};
 
 /// A call that was made: on what, and with what reply.
 pub struct Made<'m> {
@@ -20,7 +21,7 @@ type Situation = (&'static str, u32, &'static str, fn(&Made) -> bool);
 const ANY: &str = "any call";
 
 /// What is said to be alone is the one reason of the refusal.
-pub const SITUATIONS: [Situation; 107] = [
+pub const SITUATIONS: [Situation; 163] = [
     (ANY, 0, "t is 1", |made| made.before.t == 1),
     (ANY, 0, "t is odd", |made| made.before.t % 2 == 1),
     (ANY, 0, "t is even", |made| made.before.t % 2 == 0),
@@ -159,6 +160,84 @@ pub const SITUATIONS: [Situation; 107] = [
     ("open image", 16, "an image", |made| made.has_image_behind()),
     ("open image", 17, "an entry too few", |made| made.entries_left_over() == -1),
     ("open image", 17, "an empty list", |made| made.before[Roots].is_empty()),
+    (ANY, 18, "the first is a tail", |made| made.first_is(End::Tail)),
+    (ANY, 18, "a later one is a tail", |made| made.later_is(End::Tail)),
+    (ANY, 18, "the first is free", |made| made.first_is(End::Free)),
+    (ANY, 18, "a later one is free", |made| made.later_is(End::Free)),
+    (ANY, 18, "the first is inside a block", |made| made.first_is(End::InsideABlock)),
+    (ANY, 18, "a later one is inside a block", |made| made.later_is(End::InsideABlock)),
+    (ANY, 18, "the first is outside the pool", |made| made.first_is(End::OutsideThePool)),
+    (ANY, 18, "a later one is outside the pool", |made| made.later_is(End::OutsideThePool)),
+    (ANY, 18, "the first is beyond 32 bits", |made| made.first_is(End::Beyond32Bits)),
+    (ANY, 18, "beyond 32 bits, a log's if cut", |made| made.is_log_if_cut()),
+    (ANY, 18, "the first has one block", |made| made.first_is(End::OneBlock)),
+    (ANY, 18, "a later one has one block", |made| made.later_is(End::OneBlock)),
+    (ANY, 18, "the first has three blocks", |made| made.first_is(End::ThreeBlocks)),
+    (ANY, 18, "a later one has three blocks", |made| made.later_is(End::ThreeBlocks)),
+    (ANY, 18, "the first has more blocks", |made| made.first_is(End::MoreBlocks)),
+    (ANY, 18, "a later one has more blocks", |made| made.later_is(End::MoreBlocks)),
+    (ANY, 18, "back to the first of several", |made| {
+        made.leads_back(|place, last| place == 0 && last > 0)
+    }),
+    (ANY, 18, "back to one between", |made| {
+        made.leads_back(|place, last| 0 < place && place < last)
+    }),
+    (ANY, 18, "the last of several to itself", |made| {
+        made.leads_back(|place, last| place == last && last > 0)
+    }),
+    (ANY, 18, "a single one to itself", |made| made.leads_back(|_, last| last == 0)),
+    ("log append", 0, "the first entry", |made| made.entries() == 0),
+    ("log append", 0, "the second entry", |made| made.entries() == 1),
+    ("log append", 0, "a later entry", |made| made.entries() > 1),
+    ("log append", 0, "room at once", |made| !made.collects()),
+    ("log append", 0, "room at once, and a mark stack", |made| {
+        !made.collects() && !made.before[Stack].is_empty()
+    }),
+    ("log append", 0, "room made", |made| made.collects()),
+    ("log append", 0, "room made, the first entry", |made| made.collects() && made.entries() == 0),
+    ("log append", 0, "room made, more than two blocks freed", |made| made.part("change") < 0),
+    ("log append", 0, "room made, its address needed", |made| {
+        made.collects() && made.is_lost_without_its_root()
+    }),
+    ("log append", 0, "room made, the roots needed", |made| {
+        made.collects() && made.is_changed_by_its_roots()
+    }),
+    ("log append", 0, "words behind the tip count that are not 0", |made| made.has_other_words()),
+    ("log append", 0, "4,095 roots", |made| made.roots() == 4095),
+    ("log append", 1, "a piece of a root, alone", |made| made.has_piece_of_root_alone()),
+    ("log append", 1, "a piece of the mark stack, alone", |made| made.has_piece_of_stack_alone()),
+    ("log append", 3, "4,096 roots", |made| made.roots() == 4096),
+    ("log append", 3, "4,096 roots, an empty log", |made| {
+        made.roots() == 4096 && made.first() == 0
+    }),
+    ("log append", 3, "4,096 roots, no log", |made| made.roots() == 4096 && !made.is_log()),
+    ("log append", 4, "65 entries", |made| made.before[Stack].len() == 4 * 65),
+    ("log append", 4, "no log", |made| !made.is_log()),
+    ("log append", 9, "nothing freed", |made| made.part("change") == 0),
+    ("log append", 9, "some freed", |made| made.part("change") < 0),
+    ("log append", 9, "the first entry", |made| made.entries() == 0),
+    ("log append", 9, "a later entry", |made| made.entries() > 0),
+    ("log append", 9, "a free block", |made| made.used() < made.before.blocks()),
+    ("log append", 9, "some freed, its address needed", |made| {
+        made.part("change") < 0 && made.is_lost_without_its_root()
+    }),
+    ("log append", 18, "no room", |made| lowest_start(made.before, 2, |_| true).is_none()),
+    ("log read", 0, "the oldest", |made| made.index() == 0),
+    ("log read", 0, "one between", |made| 0 < made.index() && made.index() + 1 < made.entries()),
+    ("log read", 0, "the newest of several", |made| {
+        0 < made.index() && made.index() + 1 == made.entries()
+    }),
+    ("log read", 0, "words behind the tip count that are not 0", |made| made.has_other_words()),
+    ("log read", 19, "an empty log", |made| made.first() == 0),
+    ("log read", 19, "the one behind the newest", |made| {
+        made.first() != 0 && made.index() == made.entries()
+    }),
+    ("log read", 19, "an entry's, if cut to 32 bits", |made| {
+        u64::from(made.index() as u32) < made.entries()
+    }),
+    ("log drop", 0, "the only one", |made| made.entries() == 1),
+    ("log drop", 0, "one of several", |made| made.entries() > 1),
+    ("log drop", 0, "words behind the tip count that are not 0", |made| made.has_other_words()),
 ];
 
 // The sections of a file.
@@ -295,9 +374,17 @@ impl Made<'_> {
     }
 
     fn has_piece_of_root_alone(&self) -> bool {
-        let roots = &self.before[Roots];
-        let whole = Guarded::new(&roots[..roots.len() / 4 * 4]);
-        whole.len() < roots.len() && self.is_mended(|lent| lent[Roots] = whole)
+        self.has_piece_alone(Roots)
+    }
+
+    fn has_piece_of_stack_alone(&self) -> bool {
+        self.has_piece_alone(Stack)
+    }
+
+    fn has_piece_alone(&self, buffer: Buffer) -> bool {
+        let words = &self.before[buffer];
+        let whole = Guarded::new(&words[..words.len() / 4 * 4]);
+        whole.len() < words.len() && self.is_mended(|lent| lent[buffer] = whole)
     }
 
     /// The whole sections of the file that is to be opened, and how many bytes are behind them.
@@ -398,6 +485,85 @@ impl Made<'_> {
     fn lies_over_a_wrong_table(&self) -> bool {
         let lent = &mut Lent { base: 4096, ..self.before.clone() };
         second(&Call::Survey, lent).refusal == 2
+    }
+
+    fn first(&self) -> u64 {
+        self.call.first().expect("a call on a log")
+    }
+
+    fn chain(&self) -> Chain {
+        self.before.chain(self.first())
+    }
+
+    fn is_log(&self) -> bool {
+        self.chain().is_log()
+    }
+
+    /// How many entries the log has.
+    fn entries(&self) -> u64 {
+        self.chain().heads.len() as u64
+    }
+
+    fn first_is(&self, end: End) -> bool {
+        self.chain() == Chain { heads: vec![], end }
+    }
+
+    fn later_is(&self, end: End) -> bool {
+        let chain = self.chain();
+        !chain.heads.is_empty() && chain.end == end
+    }
+
+    /// Whether the chain leads back to a place of its own like that, which is given with the last one.
+    fn leads_back(&self, to: impl Fn(usize, usize) -> bool) -> bool {
+        let Chain { heads, end } = self.chain();
+        matches!(end, End::Again(place) if to(place, heads.len() - 1))
+    }
+
+    fn is_log_if_cut(&self) -> bool {
+        let cut = self.before.chain(u64::from(self.first() as u32));
+        self.first_is(End::Beyond32Bits) && cut.is_log() && !cut.heads.is_empty()
+    }
+
+    /// Whether an entry has a word that no call looks at, and that is not 0.
+    fn has_other_words(&self) -> bool {
+        let heads = self.chain().heads.into_iter();
+        let mut others = heads.flat_map(|head| (3..8).map(move |word| 4 * head as usize + word));
+        others.any(|word| self.before.word(word) != 0)
+    }
+
+    /// The entry that is read.
+    fn index(&self) -> u64 {
+        match self.call {
+            Call::LogRead { index, .. } => *index,
+            _ => unreachable!("asked of reads"),
+        }
+    }
+
+    fn collects(&self) -> bool {
+        self.call.collects(self.reply)
+    }
+
+    /// What a collection from other roots than the append's leaves.
+    fn collected_from(&self, roots: &[u32]) -> Lent {
+        let mut lent = self.before.clone();
+        lent.set_roots(roots);
+        second(&Call::Collect, &mut lent);
+        lent
+    }
+
+    /// Whether the caller's roots alone do not keep all of the log.
+    fn is_lost_without_its_root(&self) -> bool {
+        let left = self.collected_from(&listheap::words_of(&self.before[Roots]));
+        self.chain().heads.iter().any(|head| left.entry(*head) == FREE)
+    }
+
+    /// Whether the log alone does not keep all that the caller's roots keep.
+    fn is_changed_by_its_roots(&self) -> bool {
+        let roots = listheap::words_of(&self.before[Roots]);
+        let log = self.first() as u32;
+        let [alone, with_roots] =
+            [vec![log], [&[log], &roots[..]].concat()].map(|roots| self.collected_from(&roots));
+        alone[Table][..] != with_roots[Table][..]
     }
 
     fn longest_is_unaligned(&self) -> bool {
@@ -629,6 +795,155 @@ mod tests {
         assert_eq!(shown_by_file(&empty, 256, 0), none);
         let most = ["no free block", "more than 255 used blocks", "no roots", as_long];
         assert_eq!(shown_by_file(&full, 64, 0), most);
+    }
+
+    /// Objects of two blocks at 0, 2 and 4, of one at 6, of three at 7, of four at 12; blocks 10, 11 and 16 to 19
+    /// are free. These words 0 are set.
+    fn log_heap(next: &[(usize, u32)]) -> Lent {
+        let mut lent = Lent::of_numbers(4096, &[153, 153, 10, 169, 0]);
+        lent.set_entry(6, 1);
+        lent.set_object(7..10);
+        next.iter().for_each(|(block, word)| lent.set_word(4 * block, *word));
+        lent
+    }
+
+    const HEAD_2: u32 = 4096 + 32;
+    const HEAD_4: u32 = 4096 + 64;
+
+    /// The situations of any call that a read shows, from this address.
+    fn shown_by_chain(first: u64, next: &[(usize, u32)]) -> Vec<&'static str> {
+        let shown = shown(&log_heap(next), Call::LogRead { first, index: 0 }, true);
+        shown.into_iter().filter(|name| !name.starts_with("t is")).collect()
+    }
+
+    #[test]
+    fn why_a_chain_is_no_log_is_seen() {
+        for (block, kind) in [
+            (1, "is a tail"),
+            (10, "is free"),
+            (20, "is outside the pool"),
+            (6, "has one block"),
+            (7, "has three blocks"),
+            (12, "has more blocks"),
+        ] {
+            let word = 4096 + 16 * block;
+            assert_eq!(shown_by_chain(word.into(), &[]), [format!("the first {kind}")]);
+            let next = [(0, HEAD_2), (2, word)];
+            assert_eq!(shown_by_chain(4096, &next), [format!("a later one {kind}")]);
+        }
+        assert_eq!(shown_by_chain(4100, &[]), ["the first is inside a block"]);
+        assert_eq!(shown_by_chain(4096, &[(0, 4100)]), ["a later one is inside a block"]);
+        let beyond = "the first is beyond 32 bits";
+        let of_log = "beyond 32 bits, a log's if cut";
+        assert_eq!(shown_by_chain((1 << 32) + 4096, &[]), [beyond, of_log]);
+        assert_eq!(shown_by_chain((1 << 32) + 4112, &[]), [beyond]);
+        assert_eq!(shown_by_chain(1 << 32, &[]), [beyond]);
+    }
+
+    #[test]
+    fn where_a_chain_comes_back_is_seen() {
+        for (back, name) in [
+            (4096, "back to the first of several"),
+            (HEAD_2, "back to one between"),
+            (HEAD_4, "the last of several to itself"),
+        ] {
+            let next = [(0, HEAD_2), (2, HEAD_4), (4, back)];
+            assert_eq!(shown_by_chain(4096, &next), [name]);
+        }
+        assert_eq!(shown_by_chain(4096, &[(0, 4096)]), ["a single one to itself"]);
+    }
+
+    /// The situations that an append shows, with these roots and a stack of so many bytes.
+    fn shown_by_append(
+        mut before: Lent,
+        first: u64,
+        roots: &[u8],
+        stack: usize,
+    ) -> Vec<&'static str> {
+        before[Roots] = Guarded::new(roots);
+        before[Stack] = Guarded::zeroed(stack);
+        shown(&before, Call::LogAppend { first, time: 0, tips: 0 }, false)
+    }
+
+    #[test]
+    fn what_an_append_finds_is_seen() {
+        let (at_once, stack) = ("room at once", "room at once, and a mark stack");
+        let log = log_heap(&[(0, HEAD_2)]);
+        let empty = ["the first entry", at_once];
+        assert_eq!(shown_by_append(log.clone(), 0, &[], 0), empty);
+        let second = ["the second entry", at_once, stack];
+        assert_eq!(shown_by_append(log.clone(), HEAD_2.into(), &[], 4), second);
+        let mut other_words = log.clone();
+        other_words.set_word(15, 1);
+        let later = ["a later entry", at_once, "words behind the tip count that are not 0"];
+        assert_eq!(shown_by_append(other_words, 4096, &[], 0), later);
+        let most = ["the first entry", at_once, "4,095 roots"];
+        assert_eq!(shown_by_append(log.clone(), 0, &[0; 4 * 4095], 0), most);
+        let too_many = ["4,096 roots", "4,096 roots, an empty log"];
+        assert_eq!(shown_by_append(log.clone(), 0, &[0; 4 * 4096], 0), too_many);
+        let no_log = ["4,096 roots", "4,096 roots, no log"];
+        assert_eq!(shown_by_append(log.clone(), 1, &[0; 4 * 4096], 0), no_log);
+        assert_eq!(shown_by_append(log.clone(), 4096, &[0; 4 * 4096], 0), ["4,096 roots"]);
+        assert_eq!(shown_by_append(log.clone(), 0, &[], 4 * 65), ["65 entries"]);
+        assert_eq!(shown_by_append(log.clone(), 1, &[], 4 * 66), ["no log"]);
+        assert_eq!(shown_by_append(log.clone(), 0, &[0; 3], 0), ["a piece of a root, alone"]);
+        assert_eq!(shown_by_append(log.clone(), 0, &[], 3), ["a piece of the mark stack, alone"]);
+        assert_eq!(shown_by_append(log, 0, &[0; 3], 3), [] as [&str; 0]);
+    }
+
+    #[test]
+    fn how_an_append_makes_room_is_seen() {
+        let full = Lent::of_numbers(4096, &[153, 89]);
+        let roots = |blocks: &[u32]| -> Vec<u8> {
+            blocks.iter().flat_map(|block| (4096 + 16 * block).to_le_bytes()).collect()
+        };
+        let (by, alone) = ("room made", "room made, its address needed");
+        let more_roots = "room made, the roots needed";
+        let more_freed = "room made, more than two blocks freed";
+        let first_entry = "room made, the first entry";
+        let shown = shown_by_append(full.clone(), 4096, &[], 0);
+        assert_eq!(shown, ["the second entry", by, more_freed, alone]);
+        let shown = shown_by_append(full.clone(), 4096, &roots(&[0, 2, 7]), 0);
+        assert_eq!(shown, ["the second entry", by, more_freed, more_roots]);
+        let shown = shown_by_append(full.clone(), 0, &roots(&[0, 2, 6, 7]), 0);
+        assert_eq!(shown, ["the first entry", by, first_entry, more_roots]);
+        let nothing = ["nothing freed", "the first entry"];
+        assert_eq!(shown_by_append(full.clone(), 0, &roots(&[0, 2, 4, 6, 7]), 0), nothing);
+        let mut gap = Lent::of_numbers(4096, &[153, 21]);
+        let some = ["some freed", "a later entry", "a free block"];
+        assert_eq!(shown_by_append(gap.clone(), 4096, &roots(&[0, 2, 4, 6]), 0), some);
+        let alone = "some freed, its address needed";
+        let shown = shown_by_append(gap.clone(), 4096, &roots(&[2, 4, 6]), 0);
+        assert_eq!(shown, [&some[..], &[alone]].concat());
+        gap.set_word(0, 1);
+        assert_eq!(shown_by_append(gap, 4096, &[], 0), ["no room"]);
+    }
+
+    #[test]
+    fn which_entry_is_read_or_dropped_is_seen() {
+        let log = log_heap(&[(0, HEAD_2), (2, HEAD_4)]);
+        let read = |first, index| shown(&log, Call::LogRead { first, index }, false);
+        let drop = |first| shown(&log, Call::LogDrop { first }, false);
+        assert_eq!(read(4096, 0), ["the oldest"]);
+        assert_eq!(read(4096, 1), ["one between"]);
+        assert_eq!(read(4096, 2), ["the newest of several"]);
+        assert_eq!(read(4096, 3), ["the one behind the newest"]);
+        assert_eq!(read(4096, 4), [] as [&str; 0]);
+        assert_eq!(read(4096, 1 << 32), ["an entry's, if cut to 32 bits"]);
+        assert_eq!(read(0, 0), ["an empty log"]);
+        assert_eq!(drop(4096), ["one of several"]);
+        assert_eq!(drop(HEAD_4.into()), ["the only one"]);
+        let mut other_words = log.clone();
+        other_words.set_word(23, 1);
+        let other = "words behind the tip count that are not 0";
+        assert_eq!(
+            shown(&other_words, Call::LogDrop { first: HEAD_4.into() }, false),
+            ["the only one", other]
+        );
+        assert_eq!(
+            shown(&other_words, Call::LogRead { first: 4096, index: 0 }, false),
+            ["the oldest", other]
+        );
     }
 
     #[test]

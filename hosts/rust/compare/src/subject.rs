@@ -2,8 +2,8 @@
 
 use crate::Buffer::{self, Image, Roots, Stack};
 use crate::{Call, Lent, Reply};
-use blockheap::{raw, Address, Block, Heap, MarkEntry};
-use listheap::{File, ListHeap, Refusal};
+use blockheap::{raw, Address, Block, Heap, Log, MarkEntry, NotAppended};
+use listheap::{Appended, Dropped, Entry, File, ListHeap, Refusal};
 
 /// A heap under test.
 pub type Subject<'s> = &'s dyn Fn(&Call, &mut Lent) -> Reply;
@@ -47,6 +47,17 @@ pub fn library(call: &Call, lent: &mut Lent) -> Reply {
                 blockheap_write_image, roots.as_ptr(), roots.len(), output, length => "length"
             )
         }
+        Call::LogAppend { first, time, tips } => {
+            let (entries, length) = (stack.as_mut_ptr(), stack.len());
+            hand_over!(
+                blockheap_log_append, first, time, tips, roots.as_ptr(), roots.len(), entries, length
+                => "first" "change"
+            )
+        }
+        Call::LogRead { first, index } => {
+            hand_over!(blockheap_log_read, first, index => "time" "tips")
+        }
+        Call::LogDrop { first } => hand_over!(blockheap_log_drop, first => "first" "change"),
         // As in hand_over.
         Call::OpenImage => unsafe {
             raw::blockheap_open_image(
@@ -113,6 +124,30 @@ impl Answers<'_> {
     }
 }
 
+/// A refusal's number, and the change of a collection that stands.
+struct Refused {
+    number: u32,
+    change: i64,
+}
+
+impl From<Refusal> for Refused {
+    fn from(refusal: Refusal) -> Refused {
+        Refused { number: refusal.number(), change: 0 }
+    }
+}
+
+impl From<blockheap::Refusal> for Refused {
+    fn from(refusal: blockheap::Refusal) -> Refused {
+        Refused { number: refusal.number(), change: 0 }
+    }
+}
+
+impl From<NotAppended> for Refused {
+    fn from(NotAppended { refusal, change, .. }: NotAppended) -> Refused {
+        Refused { number: refusal.number(), change: change.into() }
+    }
+}
+
 /// The library through the safe wrapper, which has no place for a base above 32 bits, or for a t that is
 /// not that of the pool.
 pub fn wrapper(call: &Call, lent: &mut Lent) -> Reply {
@@ -120,14 +155,14 @@ pub fn wrapper(call: &Call, lent: &mut Lent) -> Reply {
         Call::OpenImage => open_on_wrapper(lent),
         _ => on_wrapper(call, lent),
     };
-    let reply = reply(call, result.map_err(|refusal| refusal.number()));
+    let reply = reply(call, result);
     keep_base(lent, &reply);
     reply
 }
 
 /// A t that is not that of the pool, or a piece of a root, is told as a pool of no bytes: by 1, after the
 /// faults of the file.
-fn open_on_wrapper(lent: &mut Lent) -> Result<Vec<i64>, blockheap::Refusal> {
+fn open_on_wrapper(lent: &mut Lent) -> Result<Vec<i64>, Refused> {
     let [pool, table, roots, _, image] = &mut lent.buffers;
     let fits = lent.t == pool.len() as u64 / 64 && roots.len() % 4 == 0;
     let pool = if fits { &mut pool[..] } else { &mut [] };
@@ -137,12 +172,18 @@ fn open_on_wrapper(lent: &mut Lent) -> Result<Vec<i64>, blockheap::Refusal> {
     Ok(vec![opened.heap.base().word().into(), opened.roots.len() as i64])
 }
 
-fn on_wrapper(call: &Call, lent: &mut Lent) -> Result<Vec<i64>, blockheap::Refusal> {
+/// The log from this address. The wrapper has no place for one above 32 bits, which is told as 1: neither is a
+/// block's.
+fn log_from(first: u64) -> Log {
+    Log::from_first(Address::from_word(u32::try_from(first).unwrap_or(1)))
+}
+
+fn on_wrapper(call: &Call, lent: &mut Lent) -> Result<Vec<i64>, Refused> {
     let word = u32::try_from(lent.base).map_err(|_| blockheap::Refusal::BadShape)?;
     let (base, at) = (Address::from_word(word), Block::from_number);
     let [pool, table, roots, stack, image] = &mut lent.buffers;
     if lent.t != pool.len() as u64 / 64 {
-        return Err(blockheap::Refusal::BadShape);
+        return Err(blockheap::Refusal::BadShape.into());
     }
     let mut heap = Heap::resume(base, pool, table);
     let placed =
@@ -170,23 +211,47 @@ fn on_wrapper(call: &Call, lent: &mut Lent) -> Result<Vec<i64>, blockheap::Refus
             vec![]
         }
         Call::WriteImage => vec![heap.write_image(Address::all_in(roots)?, image)?.len() as i64],
+        Call::LogAppend { first, time, tips } => {
+            let (roots, stack) = (Address::all_in(roots)?, MarkEntry::all_in(stack)?);
+            let (mut log, entry) = (log_from(first), blockheap::Entry { time, tips });
+            let change = heap.log_append(&mut log, entry, roots, stack)?;
+            vec![log.first().word().into(), change.into()]
+        }
+        Call::LogRead { first, index } => {
+            let entry = heap.log_read(&log_from(first), index)?;
+            vec![entry.time.into(), entry.tips.into()]
+        }
+        Call::LogDrop { first } => {
+            let mut log = log_from(first);
+            let change = heap.log_drop(&mut log)?;
+            vec![log.first().word().into(), change.into()]
+        }
         Call::OpenImage => unreachable!("handled by the caller"),
     })
 }
 
 /// The plain-list heap on lent memory.
 pub fn second(call: &Call, lent: &mut Lent) -> Reply {
-    let ForList { heap, roots, stack, image } = for_list(lent);
-    let result = match call {
-        Call::Init => heap.init().map(|()| vec![]),
-        Call::Collect => heap.collect(roots, stack).map(collected_parts),
-        Call::WriteImage => heap.write_image(roots, image).map(length_part),
-        Call::OpenImage => heap.open_image(image, roots).map(opened_parts),
-        _ => heap.on_list(|heap| call_on_list(call, heap)),
-    };
-    let reply = reply(call, result.map_err(Refusal::number));
+    let reply = reply(call, on_second(call, lent));
     keep_base(lent, &reply);
     reply
+}
+
+fn on_second(call: &Call, lent: &mut Lent) -> Result<Vec<i64>, Refused> {
+    let ForList { heap, roots, stack, image } = for_list(lent);
+    Ok(match *call {
+        Call::Init => {
+            heap.init()?;
+            vec![]
+        }
+        Call::Collect => collected_parts(heap.collect(roots, stack)?),
+        Call::WriteImage => length_part(heap.write_image(roots, image)?),
+        Call::OpenImage => opened_parts(heap.open_image(image, roots)?),
+        Call::LogAppend { first, time, tips } => {
+            appended_parts(heap.log_append(first, Entry { time, tips }, roots, stack)?)?
+        }
+        _ => heap.on_list(|heap| call_on_list(call, heap))?,
+    })
 }
 
 /// Lets `work` change the list of the objects in lent memory.
@@ -217,28 +282,42 @@ fn for_list(lent: &mut Lent) -> ForList<'_> {
 
 /// The plain-list heap on a list that is kept from call to call; pool and table are not lent.
 pub fn second_on_list(call: &Call, heap: &mut ListHeap, lent: &mut Lent) -> Reply {
-    let whole_entries = |buffer: Buffer| lent[buffer].len() % 4 == 0;
-    let result = match call {
-        Call::Init => {
-            heap.objects.clear();
-            Ok(vec![])
-        }
-        Call::Collect if ![Roots, Stack].into_iter().all(whole_entries) => Err(Refusal::Shape),
-        Call::Collect => {
-            let roots = listheap::words_of(&lent[Roots]);
-            heap.collect(&roots, lent[Stack].len() / 4).map(collected_parts)
-        }
-        Call::WriteImage if !whole_entries(Roots) => Err(Refusal::Shape),
-        Call::WriteImage => {
-            let roots = listheap::words_of(&lent[Roots]);
-            heap.write_image(&roots, &mut lent[Image]).map(length_part)
-        }
-        Call::OpenImage => open_on_list(heap, lent).map(opened_parts),
-        _ => call_on_list(call, heap),
-    };
-    let reply = reply(call, result.map_err(Refusal::number));
+    let reply = reply(call, on_kept_list(call, heap, lent));
+    if call.collects(&reply) {
+        lent[Stack].fill(0);
+    }
     keep_base(lent, &reply);
     reply
+}
+
+fn on_kept_list(call: &Call, heap: &mut ListHeap, lent: &mut Lent) -> Result<Vec<i64>, Refused> {
+    let whole_entries = |buffer: Buffer| lent[buffer].len() % 4 == 0;
+    Ok(match *call {
+        Call::Init => {
+            heap.objects.clear();
+            vec![]
+        }
+        Call::Collect | Call::LogAppend { .. }
+            if ![Roots, Stack].into_iter().all(whole_entries) =>
+        {
+            return Err(Refusal::Shape.into());
+        }
+        Call::Collect => {
+            let roots = listheap::words_of(&lent[Roots]);
+            collected_parts(heap.collect(&roots, lent[Stack].len() / 4)?)
+        }
+        Call::LogAppend { first, time, tips } => {
+            let (roots, entry) = (listheap::words_of(&lent[Roots]), Entry { time, tips });
+            appended_parts(heap.log_append(first, entry, &roots, lent[Stack].len() / 4)?)?
+        }
+        Call::WriteImage if !whole_entries(Roots) => return Err(Refusal::Shape.into()),
+        Call::WriteImage => {
+            let roots = listheap::words_of(&lent[Roots]);
+            length_part(heap.write_image(&roots, &mut lent[Image])?)
+        }
+        Call::OpenImage => opened_parts(open_on_list(heap, lent)?),
+        _ => call_on_list(call, heap)?,
+    })
 }
 
 /// The list becomes that of the file.
@@ -251,9 +330,11 @@ fn open_on_list(heap: &mut ListHeap, lent: &mut Lent) -> Result<(u64, u64), Refu
 fn call_on_list(call: &Call, heap: &mut ListHeap) -> Result<Vec<i64>, Refusal> {
     let placed = |placed: listheap::Placed| vec![placed.block as i64, placed.change];
     Ok(match *call {
-        Call::Init | Call::Collect | Call::WriteImage | Call::OpenImage => {
-            unreachable!("handled by the callers")
-        }
+        Call::Init
+        | Call::Collect
+        | Call::WriteImage
+        | Call::OpenImage
+        | Call::LogAppend { .. } => unreachable!("handled by the callers"),
         Call::Allocate { bytes } => placed(heap.allocate(bytes)?),
         Call::Free { block } => vec![heap.free(block)?],
         Call::Reallocate { block, bytes } => placed(heap.reallocate(block, bytes)?),
@@ -266,7 +347,20 @@ fn call_on_list(call: &Call, heap: &mut ListHeap) -> Result<Vec<i64>, Refusal> {
             heap.store(block, word, value)?;
             vec![]
         }
+        Call::LogRead { first, index } => {
+            let Entry { time, tips } = heap.log_read(first, index)?;
+            vec![time.into(), tips.into()]
+        }
+        Call::LogDrop { first } => {
+            let Dropped { first, change } = heap.log_drop(first)?;
+            vec![first as i64, change]
+        }
     })
+}
+
+fn appended_parts(Appended { first, change, .. }: Appended) -> Result<Vec<i64>, Refused> {
+    let first = first.ok_or(Refused { number: Refusal::NoRoom.number(), change })?;
+    Ok(vec![first as i64, change])
 }
 
 fn collected_parts(collected: listheap::Collected) -> Vec<i64> {
@@ -281,10 +375,14 @@ fn length_part(length: u64) -> Vec<i64> {
     vec![length as i64]
 }
 
-fn reply(call: &Call, result: Result<Vec<i64>, u32>) -> Reply {
+fn reply(call: &Call, result: Result<Vec<i64>, Refused>) -> Reply {
     match result {
         Ok(parts) => Reply::accepted(call, &parts),
-        Err(refusal) => Reply::refused(call, refusal),
+        Err(Refused { number, change }) => {
+            let mut reply = Reply::refused(call, number);
+            reply.parts.get_mut("change").into_iter().for_each(|part| *part = change);
+            reply
+        }
     }
 }
 

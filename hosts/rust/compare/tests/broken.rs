@@ -1,7 +1,9 @@
 //! The comparison must notice a wrong heap: each heap here follows all rules but one.
 
 use compare::aligned::{aligned, lowest_start, stays_aligned, unaligned_head};
+use compare::chains::{Chain, End};
 use compare::image::{self, bytes_of, whole_sections, Section};
+use compare::lasting::{log_is_a_list, spared_logs_last};
 use compare::laws::{self, run_law, Law};
 use compare::places::{anywhere, free_run, right_start, search, MayBegin, Places, RIGHT};
 use compare::planes::{entries_in, table_bytes, SpareBit, FREE, HEAD, MARK};
@@ -9,7 +11,7 @@ use compare::readings::{self, collect_reading, Reading};
 use compare::Buffer::{self, Image, Pool, Roots, Stack, Table};
 use compare::{on_list, run_pairs, run_walks, second, Call, Guarded, Lent, Reply};
 use compare::{Coverage, Sizes, Subject};
-use listheap::{Collected, ListHeap, Marking, Object, Placed, Refusal};
+use listheap::{Appended, Collected, Entry, ListHeap, Marking, Object, Placed, Refusal};
 use std::os::unix::process::ExitStatusExt;
 use std::process::Command;
 
@@ -118,6 +120,18 @@ fn opened_files_are_written_otherwise(name: &str, subject: Subject) {
 fn leaves_unaligned_objects(name: &str, subject: Subject) {
     let outcome = stays_aligned(subject, 8, 5, 2_000);
     say_noticed(name, &outcome.expect_err("all large objects are aligned"));
+}
+
+/// The heap must lose what it has of a log that all calls spare.
+fn loses_spared_logs(name: &str, subject: Subject) {
+    let outcome = spared_logs_last(subject, SMALL, 5, 1_000);
+    say_noticed(name, &outcome.expect_err("all logs read as before"));
+}
+
+/// The heap must have a log that is no list of pairs, from an init on.
+fn is_no_list_of_pairs(name: &str, subject: Subject) {
+    let outcome = (1..=8).try_for_each(|t| log_is_a_list(subject, t, t, 200).map(|_| ()));
+    say_noticed(name, &outcome.expect_err("all logs are lists of pairs"));
 }
 
 fn dead_data_is_heard(name: &str, subject: Subject) {
@@ -287,12 +301,58 @@ each! { must_be_noticed:
     answers_the_entries_of_the_list
     answers_the_roots_of_a_refused_image
     answers_the_base_of_a_refused_image
+    forgets_the_log_among_the_roots
+    forgets_the_roots_beside_the_log
+    collects_before_every_append
+    never_collects_for_an_append
+    appends_at_the_front
+    joins_the_oldest_entry
+    leaves_the_next_word_of_the_last
+    answers_the_address_of_the_new_entry
+    swaps_time_and_tips
+    leaves_words_in_a_new_entry
+    forgets_the_collection_in_the_sum
+    forgets_the_collection_after_9
+    takes_the_collection_back_after_9
+    takes_the_table_back_after_9
+    answers_the_first_address_after_9
+    clears_the_stack_without_a_collection
+    leaves_the_stack_of_an_append
+    leaves_the_stack_after_9
+    takes_a_repetition_for_the_end
+    takes_any_wrong_next_word_for_the_end
+    takes_entries_of_one_block
+    takes_entries_of_three_blocks
+    takes_later_entries_of_three_blocks
+    leads_a_tail_to_its_entry
+    leads_an_address_inside_a_block_to_its_entry
+    cuts_the_first_address_to_32_bits
+    cuts_the_index_to_32_bits
+    reads_a_free_entry
+    tests_the_other_words_of_an_entry
+    refuses_the_empty_log
+    tests_the_log_before_the_roots
+    tests_the_log_before_the_stack
+    tests_the_room_before_the_log
+    takes_4096_roots_beside_the_log
+    takes_4096_roots_beside_the_empty_log
+    takes_4094_roots_beside_the_log
+    takes_a_piece_of_a_root_in_an_append
+    reads_from_the_newest
+    counts_entries_from_1
+    reads_zeros_behind_the_newest
+    drops_the_newest
+    drops_nothing_from_the_empty_log
+    reads_the_next_word_after_the_free
+    clears_a_dropped_entry
+    frees_the_head_of_an_entry_alone
 }
 
 each! { must_be_noticed_at_each_spare_bit:
     ignores_a_spare_bit
     ignores_a_spare_bit_in_a_survey
     ignores_a_spare_bit_in_an_image
+    ignores_a_spare_bit_in_a_log
     clears_a_spare_bit
     clears_a_spare_bit_in_a_refusal
     leaves_a_spare_bit_at_init
@@ -345,6 +405,33 @@ each! { dead_data_is_heard:
     leaves_the_mark_stack
     writes_free_blocks
     keeps_bits_of_the_output
+    leaves_the_stack_of_an_append
+    leaves_words_in_a_new_entry
+    reads_a_free_entry
+}
+
+each! { loses_spared_logs:
+    forgets_the_log_among_the_roots
+    skips_word_zero
+    frees_tails_of_kept_objects
+    loses_the_object_of_the_last_root
+}
+
+each! { is_no_list_of_pairs:
+    forgets_the_log_among_the_roots
+    appends_at_the_front
+    joins_the_oldest_entry
+    leaves_the_next_word_of_the_last
+    answers_the_address_of_the_new_entry
+    swaps_time_and_tips
+    forgets_the_collection_in_the_sum
+    forgets_the_collection_after_9
+    never_collects_for_an_append
+    reads_from_the_newest
+    drops_the_newest
+    reads_the_next_word_after_the_free
+    frees_the_head_of_an_entry_alone
+    refuses_every_call
 }
 
 each! { frees_do_not_commute:
@@ -416,10 +503,14 @@ each! { opened_files_are_written_otherwise:
 
 #[test]
 fn a_right_heap_is_not_noticed() {
-    for subject in [&second as Subject, &right_places, &right_sections] {
+    for subject in [&second as Subject, &right_hands] {
         run_walks(subject, SMALL, 5, MOST_CALLS, &mut Coverage::default()).expect("a right heap");
     }
     stays_aligned(&second, 8, 5, 2_000).expect("a right heap");
+    spared_logs_last(&second, SMALL, 5, 100).expect("a right heap");
+    for t in 1..=8 {
+        log_is_a_list(&second, t, t, 200).expect("a right heap");
+    }
     let all: [Law; 8] = [
         laws::frees_commute,
         laws::roots_are_a_set,
@@ -442,7 +533,18 @@ fn an_empty_run_has_reached_nothing() {
     let pairs = Call::DESCRIPTIONS.iter().map(|call| call.refusals.len()).sum();
     assert_eq!(numbers, pairs, "pairs of a call and a refusal number");
     let seen = faults.iter().filter(|fault| fault.contains("never seen")).count();
-    assert_eq!(seen, 115, "situations and kinds of words");
+    assert_eq!(seen, 171, "situations and kinds of words");
+}
+
+/// A right heap, by the hands from which others differ in one point.
+fn right_hands(call: &Call, lent: &mut Lent) -> Reply {
+    match call {
+        Call::Allocate { .. } | Call::Reallocate { .. } => placing(call, lent, RIGHT),
+        Call::Collect => collect_from(call, lent, <[u32]>::to_vec),
+        Call::WriteImage => image_of(call, lent, |_, _| ()),
+        Call::LogAppend { .. } => appending(call, lent, RIGHT_APPENDING),
+        _ => second(call, lent),
+    }
 }
 
 /// The heads of a heap whose lengths fit.
@@ -721,11 +823,6 @@ fn placing(call: &Call, lent: &mut Lent, places: Places) -> Reply {
         Ok(placed) => Reply::accepted(call, &[placed.block as i64, placed.change]),
         Err(refusal) => Reply::refused(call, refusal.number()),
     }
-}
-
-/// A right heap: what the others differ from in one point.
-fn right_places(call: &Call, lent: &mut Lent) -> Reply {
-    placing(call, lent, RIGHT)
 }
 
 /// As before large objects were aligned, and as MicroPython does.
@@ -1084,6 +1181,15 @@ fn ignores_a_spare_bit_in_an_image(spare: SpareBit, call: &Call, lent: &mut Lent
     ignoring_spare_bit_in(Call::WriteImage, spare, call, lent)
 }
 
+/// In all of its calls.
+fn ignores_a_spare_bit_in_a_log(spare: SpareBit, call: &Call, lent: &mut Lent) -> Reply {
+    if call.first().is_some() {
+        ignores_a_spare_bit(spare, call, lent)
+    } else {
+        second(call, lent)
+    }
+}
+
 fn clears_a_spare_bit(spare: SpareBit, call: &Call, lent: &mut Lent) -> Reply {
     without_spare_bit(spare, call, lent).0
 }
@@ -1416,11 +1522,6 @@ fn image_of(call: &Call, lent: &mut Lent, change: impl Fn(&Lent, &mut [Section; 
     })
 }
 
-/// A right heap: what the others differ from in one point.
-fn right_sections(call: &Call, lent: &mut Lent) -> Reply {
-    image_of(call, lent, |_, _| ())
-}
-
 fn counts_highest_byte_first(call: &Call, lent: &mut Lent) -> Reply {
     image_of(call, lent, |_, sections| {
         sections.iter_mut().for_each(|section| section.count = section.count.swap_bytes());
@@ -1634,10 +1735,11 @@ fn takes_4095_roots_at_most(call: &Call, lent: &mut Lent) -> Reply {
 
 /// A right heap that is handed a part of the roots for an image.
 fn image_from_roots(call: &Call, lent: &mut Lent, bytes: usize) -> Reply {
-    let roots = lent[Roots].clone();
-    if *call == Call::WriteImage {
-        lent[Roots] = Guarded::new(&roots[..bytes]);
+    if *call != Call::WriteImage {
+        return second(call, lent);
     }
+    let roots = lent[Roots].clone();
+    lent[Roots] = Guarded::new(&roots[..bytes]);
     let reply = second(call, lent);
     lent[Roots] = roots;
     reply
@@ -1978,4 +2080,516 @@ fn answers_the_base_of_a_refused_image(call: &Call, lent: &mut Lent) -> Reply {
         reply.parts.insert("base", listheap::words_of(&sections[0].items)[0].into());
     }
     reply
+}
+
+/// How an append goes about it.
+#[derive(Clone, Copy)]
+struct Appending {
+    /// Whether it collects, by whether there is room.
+    collects: fn(bool) -> bool,
+    /// The roots of its collection, of the first address and the caller's.
+    roots: fn(u32, &[u32]) -> Vec<u32>,
+    /// Joins the new entry at a block to the log and answers the first address.
+    join: fn(&mut ListHeap, log: &[u64], first: u64, block: u64) -> u64,
+}
+
+const RIGHT_APPENDING: Appending = Appending {
+    collects: |room| !room,
+    roots: |first, roots| [&[first], roots].concat(),
+    join: join_last,
+};
+
+fn address(heap: &ListHeap, block: u64) -> u64 {
+    heap.base + 16 * block
+}
+
+/// Writes a word of an entry, if that is still an object.
+fn set_word(heap: &mut ListHeap, block: u64, word: u64, value: u64) {
+    let _ = heap.store(block, word, value as u32);
+}
+
+fn join_last(heap: &mut ListHeap, log: &[u64], first: u64, block: u64) -> u64 {
+    let new = address(heap, block);
+    match log.last() {
+        Some(last) => {
+            set_word(heap, *last, 0, new);
+            first
+        }
+        None => new,
+    }
+}
+
+impl Appending {
+    fn append(
+        &self,
+        heap: &mut ListHeap,
+        (first, entry): (u64, Entry),
+        roots: &[u32],
+        stack_entries: usize,
+    ) -> Appended {
+        let log = heap.log(first).expect("a log");
+        let collected = (self.collects)(heap.clone().allocate(32).is_ok());
+        let mut change = 0;
+        if collected {
+            let roots = (self.roots)(first as u32, roots);
+            change = heap.collect(&roots, stack_entries).expect("an accepted collection").change;
+        }
+        let Ok(placed) = heap.allocate(32) else {
+            return Appended { first: None, change, collected };
+        };
+        set_word(heap, placed.block, 1, entry.time.into());
+        set_word(heap, placed.block, 2, entry.tips.into());
+        let first = (self.join)(heap, &log, first, placed.block);
+        Appended { first: Some(first), change: change + placed.change, collected }
+    }
+}
+
+/// An append that is accepted or without room, made so.
+fn appending(call: &Call, lent: &mut Lent, appending: Appending) -> Reply {
+    let right = second(call, &mut lent.clone());
+    let Call::LogAppend { first, time, tips } = *call else { return second(call, lent) };
+    if !matches!(right.refusal, 0 | 9) {
+        return right;
+    }
+    let (roots, entries) = (listheap::words_of(&lent[Roots]), lent[Stack].len() / 4);
+    let appended = on_list(lent, |heap| {
+        Ok(appending.append(heap, (first, Entry { time, tips }), &roots, entries))
+    });
+    let Appended { first, change, collected } = appended.expect("a heap in order");
+    if collected {
+        lent[Stack].fill(0);
+    }
+    match first {
+        Some(first) => Reply::accepted(call, &[first as i64, change]),
+        None => Reply::without_room(call, change),
+    }
+}
+
+fn forgets_the_log_among_the_roots(call: &Call, lent: &mut Lent) -> Reply {
+    appending(call, lent, Appending { roots: |_, roots| roots.to_vec(), ..RIGHT_APPENDING })
+}
+
+fn forgets_the_roots_beside_the_log(call: &Call, lent: &mut Lent) -> Reply {
+    appending(call, lent, Appending { roots: |first, _| vec![first], ..RIGHT_APPENDING })
+}
+
+fn collects_before_every_append(call: &Call, lent: &mut Lent) -> Reply {
+    appending(call, lent, Appending { collects: |_| true, ..RIGHT_APPENDING })
+}
+
+fn never_collects_for_an_append(call: &Call, lent: &mut Lent) -> Reply {
+    appending(call, lent, Appending { collects: |_| false, ..RIGHT_APPENDING })
+}
+
+fn joining(
+    call: &Call,
+    lent: &mut Lent,
+    join: fn(&mut ListHeap, log: &[u64], first: u64, block: u64) -> u64,
+) -> Reply {
+    appending(call, lent, Appending { join, ..RIGHT_APPENDING })
+}
+
+fn appends_at_the_front(call: &Call, lent: &mut Lent) -> Reply {
+    joining(call, lent, |heap, _, first, block| {
+        set_word(heap, block, 0, first);
+        address(heap, block)
+    })
+}
+
+/// In the place of the newest.
+fn joins_the_oldest_entry(call: &Call, lent: &mut Lent) -> Reply {
+    joining(call, lent, |heap, log, first, block| {
+        join_last(heap, &log[..log.len().min(1)], first, block)
+    })
+}
+
+fn leaves_the_next_word_of_the_last(call: &Call, lent: &mut Lent) -> Reply {
+    joining(call, lent, |heap, log, first, block| match log {
+        [] => address(heap, block),
+        _ => first,
+    })
+}
+
+fn answers_the_address_of_the_new_entry(call: &Call, lent: &mut Lent) -> Reply {
+    joining(call, lent, |heap, log, first, block| {
+        join_last(heap, log, first, block);
+        address(heap, block)
+    })
+}
+
+fn swaps_time_and_tips(call: &Call, lent: &mut Lent) -> Reply {
+    joining(call, lent, |heap, log, first, block| {
+        let [time, tips] = [1, 2].map(|word| heap.load(block, word).expect("a word of an entry"));
+        set_word(heap, block, 1, tips.into());
+        set_word(heap, block, 2, time.into());
+        join_last(heap, log, first, block)
+    })
+}
+
+/// What the blocks held before, in the last word.
+fn leaves_words_in_a_new_entry(call: &Call, lent: &mut Lent) -> Reply {
+    let before = lent.clone();
+    let reply = second(call, lent);
+    if let (Call::LogAppend { .. }, 0) = (call, reply.refusal) {
+        let chain = lent.chain(reply.parts["first"] as u64);
+        let word = 4 * chain.heads[chain.heads.len() - 1] as usize + 7;
+        lent.set_word(word, before.word(word));
+    }
+    reply
+}
+
+/// A right append with another answer to one question, by its refusal number and whether it collects.
+fn append_answering(
+    call: &Call,
+    lent: &mut Lent,
+    (number, part): (u32, &'static str),
+    answer: impl Fn(u64) -> i64,
+) -> Reply {
+    let mut reply = second(call, lent);
+    if let (Call::LogAppend { first, .. }, true) = (call, call.collects(&reply)) {
+        if reply.refusal == number {
+            reply.parts.insert(part, answer(*first));
+        }
+    }
+    reply
+}
+
+fn forgets_the_collection_in_the_sum(call: &Call, lent: &mut Lent) -> Reply {
+    append_answering(call, lent, (0, "change"), |_| 2)
+}
+
+fn forgets_the_collection_after_9(call: &Call, lent: &mut Lent) -> Reply {
+    append_answering(call, lent, (9, "change"), |_| 0)
+}
+
+fn answers_the_first_address_after_9(call: &Call, lent: &mut Lent) -> Reply {
+    append_answering(call, lent, (9, "first"), |first| first as i64)
+}
+
+/// A right append, after which some of the buffers are what they were if `wrong` says so of the reply.
+fn append_leaving(
+    call: &Call,
+    lent: &mut Lent,
+    buffers: &[Buffer],
+    wrong: impl Fn(&Reply) -> bool,
+) -> Reply {
+    let before = lent.clone();
+    let reply = second(call, lent);
+    if matches!(call, Call::LogAppend { .. }) && wrong(&reply) {
+        buffers.iter().for_each(|buffer| lent[*buffer] = before[*buffer].clone());
+    }
+    reply
+}
+
+/// As every other refusal leaves what is lent.
+fn takes_the_collection_back_after_9(call: &Call, lent: &mut Lent) -> Reply {
+    let reply = append_leaving(call, lent, &[Table, Stack], |reply| reply.refusal == 9);
+    match (call, reply.refusal) {
+        (Call::LogAppend { .. }, 9) => Reply::refused(call, 9),
+        _ => reply,
+    }
+}
+
+/// And answers the change of the collection.
+fn takes_the_table_back_after_9(call: &Call, lent: &mut Lent) -> Reply {
+    append_leaving(call, lent, &[Table], |reply| reply.refusal == 9)
+}
+
+fn leaves_the_stack_of_an_append(call: &Call, lent: &mut Lent) -> Reply {
+    append_leaving(call, lent, &[Stack], |_| true)
+}
+
+fn leaves_the_stack_after_9(call: &Call, lent: &mut Lent) -> Reply {
+    append_leaving(call, lent, &[Stack], |reply| reply.refusal == 9)
+}
+
+fn clears_the_stack_without_a_collection(call: &Call, lent: &mut Lent) -> Reply {
+    let reply = second(call, lent);
+    if let (Call::LogAppend { .. }, 0) = (call, reply.refusal) {
+        lent[Stack].fill(0);
+    }
+    reply
+}
+
+/// The chain that is no log, if that is why the call is refused.
+fn broken_chain(call: &Call, lent: &Lent) -> Option<Chain> {
+    let refused = second(call, &mut lent.clone()).refusal == Refusal::NoLog.number();
+    call.first().filter(|_| refused).map(|first| lent.chain(first))
+}
+
+/// A right heap that takes what is behind the entries of a broken chain for its end.
+fn ending(call: &Call, lent: &mut Lent, ends: impl Fn(End) -> bool) -> Reply {
+    let broken = broken_chain(call, lent).filter(|chain| ends(chain.end));
+    let Some(last) = broken.and_then(|chain| chain.heads.last().copied()) else {
+        return second(call, lent);
+    };
+    let word = 4 * last as usize;
+    let next = lent.word(word);
+    lent.set_word(word, 0);
+    let reply = second(call, lent);
+    if lent.word(word) == 0 {
+        lent.set_word(word, next);
+    }
+    reply
+}
+
+fn takes_a_repetition_for_the_end(call: &Call, lent: &mut Lent) -> Reply {
+    ending(call, lent, |end| matches!(end, End::Again(_)))
+}
+
+fn takes_any_wrong_next_word_for_the_end(call: &Call, lent: &mut Lent) -> Reply {
+    ending(call, lent, |end| !matches!(end, End::Again(_)))
+}
+
+/// A right heap that reads entries of so many blocks too, any of them or later ones alone.
+fn reading_entries_of(call: &Call, lent: &mut Lent, blocks: u64, later: bool) -> Reply {
+    let reply = second(call, lent);
+    let Call::LogRead { first, index } = *call else { return reply };
+    if reply.refusal != Refusal::NoLog.number() {
+        return reply;
+    }
+    let read = on_list(&mut lent.clone(), |heap| {
+        let spared = heap.block_at(first as u32).filter(|_| later);
+        let others = heap.objects.iter_mut().filter(|object| Some(object.start) != spared);
+        for object in others.filter(|object| object.blocks == blocks) {
+            object.blocks = 2;
+            object.words.resize(8, 0);
+        }
+        heap.log_read(first, index)
+    });
+    match read {
+        Ok(Entry { time, tips }) => Reply::accepted(call, &[time.into(), tips.into()]),
+        Err(refusal) => Reply::refused(call, refusal.number()),
+    }
+}
+
+fn takes_entries_of_one_block(call: &Call, lent: &mut Lent) -> Reply {
+    reading_entries_of(call, lent, 1, false)
+}
+
+fn takes_entries_of_three_blocks(call: &Call, lent: &mut Lent) -> Reply {
+    reading_entries_of(call, lent, 3, false)
+}
+
+/// The first one must have two.
+fn takes_later_entries_of_three_blocks(call: &Call, lent: &mut Lent) -> Reply {
+    reading_entries_of(call, lent, 3, true)
+}
+
+/// The call with another first address.
+fn from_first(call: &Call, of: impl Fn(u64) -> u64) -> Call {
+    let mut call = *call;
+    if let Call::LogAppend { first, .. } | Call::LogRead { first, .. } | Call::LogDrop { first } =
+        &mut call
+    {
+        *first = of(*first);
+    }
+    call
+}
+
+/// As a root does.
+fn leads_a_tail_to_its_entry(call: &Call, lent: &mut Lent) -> Reply {
+    let heap = on_list(&mut lent.clone(), |heap| Ok(heap.clone()));
+    let Ok(heap) = heap else { return second(call, lent) };
+    let to_head = |first: u64| {
+        let head = u32::try_from(first).ok().and_then(|word| head_of_root(&heap, word));
+        head.map_or(first, u64::from)
+    };
+    second(&from_first(call, to_head), lent)
+}
+
+fn leads_an_address_inside_a_block_to_its_entry(call: &Call, lent: &mut Lent) -> Reply {
+    second(&from_first(call, |first| first - first % 16), lent)
+}
+
+fn cuts_the_first_address_to_32_bits(call: &Call, lent: &mut Lent) -> Reply {
+    second(&from_first(call, |first| u64::from(first as u32)), lent)
+}
+
+fn cuts_the_index_to_32_bits(call: &Call, lent: &mut Lent) -> Reply {
+    match *call {
+        Call::LogRead { first, index } => {
+            second(&Call::LogRead { first, index: u64::from(index as u32) }, lent)
+        }
+        _ => second(call, lent),
+    }
+}
+
+/// What the free block to which a broken chain leads holds.
+fn reads_a_free_entry(call: &Call, lent: &mut Lent) -> Reply {
+    match (call, broken_chain(call, lent)) {
+        (Call::LogRead { first, .. }, Some(Chain { heads, end: End::Free })) => {
+            let next = heads.last().map_or(*first as u32, |last| lent.word(4 * *last as usize));
+            let word = (next - lent.base as u32) as usize / 4;
+            let parts = [word + 1, word + 2].map(|word| lent.word(word).into());
+            Reply::accepted(call, &parts)
+        }
+        _ => second(call, lent),
+    }
+}
+
+/// A call on a log is refused so where the test says it, in the place of these right answers.
+fn log_refused(
+    call: &Call,
+    lent: &mut Lent,
+    number: u32,
+    right: &[u32],
+    test: impl Fn(&Lent, &Chain) -> bool,
+) -> Reply {
+    let refusal = second(call, &mut lent.clone()).refusal;
+    match call.first() {
+        Some(first) if right.contains(&refusal) && test(lent, &lent.chain(first)) => {
+            Reply::refused(call, number)
+        }
+        _ => second(call, lent),
+    }
+}
+
+fn tests_the_other_words_of_an_entry(call: &Call, lent: &mut Lent) -> Reply {
+    log_refused(call, lent, 18, &[0, 9, 19], |lent, chain| {
+        let words =
+            chain.heads.iter().flat_map(|head| 4 * *head as usize + 3..4 * *head as usize + 8);
+        words.into_iter().any(|word| lent.word(word) != 0)
+    })
+}
+
+fn refuses_the_empty_log(call: &Call, lent: &mut Lent) -> Reply {
+    log_refused(call, lent, 18, &[0, 9], |_, chain| chain.is_log() && chain.heads.is_empty())
+}
+
+fn tests_the_log_before_the_roots(call: &Call, lent: &mut Lent) -> Reply {
+    log_refused(call, lent, 18, &[3], |_, chain| !chain.is_log())
+}
+
+fn tests_the_log_before_the_stack(call: &Call, lent: &mut Lent) -> Reply {
+    log_refused(call, lent, 18, &[4], |_, chain| !chain.is_log())
+}
+
+fn tests_the_room_before_the_log(call: &Call, lent: &mut Lent) -> Reply {
+    match call {
+        Call::LogAppend { .. } => {
+            log_refused(call, lent, 9, &[18], |lent, _| lowest_start(lent, 2, |_| true).is_none())
+        }
+        _ => second(call, lent),
+    }
+}
+
+/// An append that is handed a part of the roots.
+fn append_from_roots(call: &Call, lent: &mut Lent, bytes: usize) -> Reply {
+    let Call::LogAppend { .. } = call else { return second(call, lent) };
+    let roots = lent[Roots].clone();
+    lent[Roots] = Guarded::new(&roots[..bytes]);
+    let reply = second(call, lent);
+    lent[Roots] = roots;
+    reply
+}
+
+/// And leaves the last one out.
+fn takes_4096_roots_beside_the_log(call: &Call, lent: &mut Lent) -> Reply {
+    match lent[Roots].len() {
+        16384 => append_from_roots(call, lent, 4 * 4095),
+        _ => second(call, lent),
+    }
+}
+
+/// Its first address needs no place.
+fn takes_4096_roots_beside_the_empty_log(call: &Call, lent: &mut Lent) -> Reply {
+    match call.first() {
+        Some(0) => takes_4096_roots_beside_the_log(call, lent),
+        _ => second(call, lent),
+    }
+}
+
+fn takes_4094_roots_beside_the_log(call: &Call, lent: &mut Lent) -> Reply {
+    match call {
+        Call::LogAppend { .. } => {
+            log_refused(call, lent, 3, &[0, 9], |lent, _| lent[Roots].len() == 4 * 4095)
+        }
+        _ => second(call, lent),
+    }
+}
+
+fn takes_a_piece_of_a_root_in_an_append(call: &Call, lent: &mut Lent) -> Reply {
+    append_from_roots(call, lent, lent[Roots].len() / 4 * 4)
+}
+
+/// A right read of another entry, of a log that has so many.
+fn read_at(call: &Call, lent: &mut Lent, index_of: impl Fn(u64, u64) -> u64) -> Reply {
+    let right = second(call, &mut lent.clone());
+    match *call {
+        Call::LogRead { first, index } if matches!(right.refusal, 0 | 19) => {
+            let length = lent.chain(first).heads.len() as u64;
+            second(&Call::LogRead { first, index: index_of(index, length) }, lent)
+        }
+        _ => second(call, lent),
+    }
+}
+
+fn reads_from_the_newest(call: &Call, lent: &mut Lent) -> Reply {
+    read_at(call, lent, |index, length| (length.wrapping_sub(1)).wrapping_sub(index))
+}
+
+fn counts_entries_from_1(call: &Call, lent: &mut Lent) -> Reply {
+    read_at(call, lent, |index, _| index.wrapping_sub(1))
+}
+
+/// In the place of 19.
+fn accepts_what_is_no_entry(call: &Call, lent: &mut Lent, wrong: impl Fn(&Call) -> bool) -> Reply {
+    let mut reply = second(call, lent);
+    if reply.refusal == Refusal::NoEntry.number() && wrong(call) {
+        reply.refusal = 0;
+    }
+    reply
+}
+
+fn reads_zeros_behind_the_newest(call: &Call, lent: &mut Lent) -> Reply {
+    accepts_what_is_no_entry(call, lent, |call| matches!(call, Call::LogRead { .. }))
+}
+
+fn drops_nothing_from_the_empty_log(call: &Call, lent: &mut Lent) -> Reply {
+    accepts_what_is_no_entry(call, lent, |call| matches!(call, Call::LogDrop { .. }))
+}
+
+/// A right drop, after which more is done with the entry and the reply.
+fn dropped_and(
+    call: &Call,
+    lent: &mut Lent,
+    more: impl Fn(&mut Lent, &Chain, &mut Reply),
+) -> Reply {
+    let before = lent.clone();
+    let mut reply = second(call, lent);
+    if let (Call::LogDrop { first }, 0) = (call, reply.refusal) {
+        more(lent, &before.chain(*first), &mut reply);
+    }
+    reply
+}
+
+/// The entry before it is the last one then.
+fn drops_the_newest(call: &Call, lent: &mut Lent) -> Reply {
+    let first = call.first();
+    dropped_and(call, lent, |lent, chain, reply| {
+        let [oldest, .., newest] = chain.heads[..] else { return };
+        lent.set_object(oldest..oldest + 2);
+        lent.set_entries(newest..newest + 2, FREE);
+        lent.set_word(4 * chain.heads[chain.heads.len() - 2] as usize, 0);
+        reply.parts.insert("first", first.expect("a first address") as i64);
+    })
+}
+
+/// As if that had cleared the entry.
+fn reads_the_next_word_after_the_free(call: &Call, lent: &mut Lent) -> Reply {
+    dropped_and(call, lent, |_, _, reply| {
+        reply.parts.insert("first", 0);
+    })
+}
+
+fn clears_a_dropped_entry(call: &Call, lent: &mut Lent) -> Reply {
+    dropped_and(call, lent, |lent, chain, _| {
+        lent[Pool][16 * chain.heads[0] as usize..][..32].fill(0);
+    })
+}
+
+/// Its second block becomes an object.
+fn frees_the_head_of_an_entry_alone(call: &Call, lent: &mut Lent) -> Reply {
+    dropped_and(call, lent, |lent, chain, _| lent.set_entry(chain.heads[0] + 1, HEAD))
 }

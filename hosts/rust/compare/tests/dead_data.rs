@@ -10,20 +10,11 @@ fn pairs_wanted() -> u64 {
 
 fn pairs_agree(sizes: Sizes, seed: u64, pairs: u64) {
     let counts = run_pairs(&library, sizes, seed, pairs).unwrap_or_else(|fault| panic!("{fault}"));
-    println!(
-        "t from {} to {}: {} pairs with {} different bytes answer {} calls alike ({} refused, {} images, \
-         {} openings)",
-        sizes.least,
-        sizes.most,
-        counts.pairs,
-        counts.different_bytes,
-        counts.calls,
-        counts.refused,
-        counts.images,
-        counts.openings
-    );
+    println!("t from {} to {}, answered alike: {counts:?}", sizes.least, sizes.most);
     assert!(counts.different_bytes > 0 && counts.refused > 0 && counts.different_rescans > 0);
     assert!(counts.images > 0 && counts.openings > 0);
+    assert!(counts.appends > 0 && counts.reads > 0 && counts.drops > 0);
+    assert!(counts.room_made > 0 && counts.without_room > 0);
 }
 
 #[test]

@@ -1,17 +1,18 @@
 //! From an accepted init on, the library answers as a list of objects that is never read back from
 //! pool or table would. An opened image is a new beginning, at its objects.
 
-use compare::Buffer::{Image, Roots};
+use compare::Buffer::{Image, Roots, Stack};
 use compare::{
     draw_call, image, library, noise, on_list, second_on_list, Call, Lent, Random, Reply,
 };
 use listheap::ListHeap;
 
-fn library_and_list_agree(seed: u64, t: u64, calls: usize) {
+/// Answers how many calls on logs were accepted.
+fn library_and_list_agree(seed: u64, t: u64, calls: usize) -> usize {
     let mut random = Random::new(seed);
     let mut lent = noise(&mut random, t);
     let mut list = ListHeap::empty(lent.base, 4 * t);
-    let mut used = 0;
+    let (mut used, mut on_logs) = (0, 0);
     assert_eq!(library(&Call::Init, &mut lent).refusal, 0);
     for number in 0..calls {
         let call = draw_call(&mut random, &mut lent);
@@ -19,7 +20,7 @@ fn library_and_list_agree(seed: u64, t: u64, calls: usize) {
         let expected_reply = second_on_list(&call, &mut list, &mut expected);
         let reply = library(&call, &mut lent);
         assert_eq!(reply, expected_reply, "seed {seed}, call {number}: {call:?}");
-        for buffer in [Image, Roots] {
+        for buffer in [Image, Roots, Stack] {
             let same = lent[buffer][..] == expected[buffer][..];
             assert!(same, "seed {seed}, call {number}: the {buffer}");
         }
@@ -34,7 +35,9 @@ fn library_and_list_agree(seed: u64, t: u64, calls: usize) {
             list,
             "seed {seed}, call {number}: objects after {call:?}"
         );
+        on_logs += usize::from(call.first().is_some() && reply.refusal == 0);
     }
+    on_logs
 }
 
 /// The used blocks after a call, by what it answers alone.
@@ -55,13 +58,14 @@ fn read_back(lent: &mut Lent) -> ListHeap {
 
 #[test]
 fn the_library_answers_as_a_plain_list_on_small_heaps() {
-    for seed in 0..40 {
-        library_and_list_agree(seed, 1 + seed % 16, 500);
-    }
+    let on_logs: usize = (0..40).map(|seed| library_and_list_agree(seed, 1 + seed % 16, 500)).sum();
+    assert!(on_logs > 1000, "{on_logs} accepted calls on logs");
 }
 
 #[test]
 fn the_library_answers_as_a_plain_list_on_the_largest_heaps() {
-    library_and_list_agree(76, 1023, 3000);
-    library_and_list_agree(77, 1024, 3000);
+    for (seed, t) in [(76, 1023), (77, 1024)] {
+        let on_logs = library_and_list_agree(seed, t, 3000);
+        assert!(on_logs > 100, "{on_logs} accepted calls on logs");
+    }
 }

@@ -45,6 +45,6 @@ fn the_library_agrees_with_the_plain_list_heap() {
 
 #[test]
 fn the_wrapper_agrees_with_the_plain_list_heap() {
-    let coverage = run_all_sizes("wrapper", &wrapper, 1117, calls_wanted() / 10);
+    let coverage = run_all_sizes("wrapper", &wrapper, 1117, calls_wanted() / 8);
     assert_eq!(coverage.faults(), [] as [String; 0]);
 }

@@ -1,6 +1,6 @@
 //! The plain-list heap behind the C header, so that the benchmark can run it as it runs the library.
 
-use listheap::{Collected, Lent, Placed, Refusal};
+use listheap::{Appended, Collected, Dropped, Entry, Lent, Placed, Refusal};
 use std::slice::{from_raw_parts, from_raw_parts_mut};
 
 /// The refusal number, with the answer's parts in their places, zero on a refusal.
@@ -68,6 +68,12 @@ export!(blockheap_write_image(roots: *const u8, roots_len: usize, image: *mut u8
     let image = from_raw_parts_mut(image, image_len);
     lent.write_image(roots, image).map(|length| [length as i64])
 });
+export!(blockheap_log_read(first: u64, index: u64) -> [time, tips], lent =>
+    lent.on_list(|heap| heap.log_read(first, index))
+        .map(|Entry { time, tips }| [time.into(), tips.into()]));
+export!(blockheap_log_drop(first: u64) -> [new_first, change], lent =>
+    lent.on_list(|heap| heap.log_drop(first))
+        .map(|Dropped { first, change }| [first as i64, change]));
 
 /// # Safety
 /// As `include/blockheap.h` asks.
@@ -90,4 +96,37 @@ pub unsafe extern "C" fn blockheap_open_image(
         .map(|(bytes, length)| from_raw_parts_mut(bytes, length));
     let opened = Lent { base: 0, t, pool, table }.open_image(image, roots);
     answer(opened.map(|(base, count)| [base as i64, count as i64]), [base, count])
+}
+
+/// # Safety
+/// As `include/blockheap.h` asks.
+#[no_mangle]
+pub unsafe extern "C" fn blockheap_log_append(
+    base: u64,
+    t: u64,
+    pool: *mut u8,
+    pool_len: usize,
+    table: *mut u8,
+    table_len: usize,
+    first: u64,
+    time: u32,
+    tips: u32,
+    roots: *const u8,
+    roots_len: usize,
+    stack: *mut u8,
+    stack_len: usize,
+    new_first: *mut u32,
+    change: *mut u32,
+) -> u32 {
+    let roots = from_raw_parts(roots, roots_len);
+    let [pool, table, stack] = [(pool, pool_len), (table, table_len), (stack, stack_len)]
+        .map(|(bytes, length)| from_raw_parts_mut(bytes, length));
+    let lent = Lent { base, t, pool, table };
+    let appended = lent.log_append(first, Entry { time, tips }, roots, stack);
+    let parts = appended.map(|appended| [appended.first.unwrap_or(0) as i64, appended.change]);
+    let refusal = answer(parts, [new_first, change]);
+    match appended {
+        Ok(Appended { first: None, .. }) => Refusal::NoRoom.number(),
+        _ => refusal,
+    }
 }

@@ -1,7 +1,7 @@
 //! A list of objects out of a lent table and pool, and back.
 
 use crate::heap::{BLOCK_BYTES, WORDS_PER_BLOCK};
-use crate::{Collected, File, ListHeap, Object, Refusal};
+use crate::{Appended, Collected, Entry, File, ListHeap, Object, Refusal};
 
 const WORD_BYTES: usize = 4;
 const BLOCKS_PER_T: u64 = 4;
@@ -50,6 +50,26 @@ impl Lent<'_> {
         let collected = self.on_list(|heap| heap.collect(&words_of(roots), entries))?;
         stack.fill(0);
         Ok(collected)
+    }
+
+    /// Append to a log, with roots and mark stack as bytes. Only a collection touches the stack.
+    pub fn log_append(
+        self,
+        first: u64,
+        entry: Entry,
+        roots: &[u8],
+        stack: &mut [u8],
+    ) -> Result<Appended, Refusal> {
+        if roots.len() % WORD_BYTES != 0 || stack.len() % WORD_BYTES != 0 {
+            return Err(Refusal::Shape);
+        }
+        let entries = stack.len() / WORD_BYTES;
+        let appended =
+            self.on_list(|heap| heap.log_append(first, entry, &words_of(roots), entries))?;
+        if appended.collected {
+            stack.fill(0);
+        }
+        Ok(appended)
     }
 
     /// Write image, with roots as bytes.

@@ -3,7 +3,7 @@
 use crate::{ListHeap, Refusal};
 
 pub(crate) const MAX_ROOTS: usize = 4096;
-const MAX_STACK_ENTRIES: usize = 64;
+pub(crate) const MAX_STACK_ENTRIES: usize = 64;
 
 #[derive(Clone, Copy, Debug, PartialEq, Eq)]
 pub struct Collected {

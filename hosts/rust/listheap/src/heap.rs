@@ -1,4 +1,4 @@
-//! The list and the calls on it, all but collect.
+//! The list and the calls on it, but for collect, those of images and those of the log.
 
 use crate::Refusal;
 

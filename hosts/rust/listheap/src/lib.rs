@@ -10,10 +10,12 @@ mod collect;
 mod file;
 mod heap;
 mod image;
+mod log;
 mod refusal;
 
 pub use bytes::{words_of, Lent};
 pub use collect::{Collected, Marking};
 pub use file::File;
 pub use heap::{ListHeap, Object, Placed, Survey};
+pub use log::{Appended, Dropped, Entry};
 pub use refusal::Refusal;

@@ -15,6 +15,8 @@ pub enum Refusal {
     BadCount = 15,
     TrailingBytes = 16,
     RootsTooShort = 17,
+    NoLog = 18,
+    NoEntry = 19,
 }
 
 impl Refusal {
