@@ -7,6 +7,8 @@ ghost use Rattle.rules.specs.Outcomes.{onlyRefusal, placement, collection, find
 ghost use Rattle.rules.specs.Runs.{Init, Allocate, Free, Reallocate, Collect, Survey, Load, Store, WriteImage, OpenImage};
 ghost use Rattle.rules.specs.Planes.{planes};
 ghost use Rattle.rules.specs.Memory.{memory, result, filling, withBuffer, perform};
+ghost use Rattle.programs.specs.Programs.{ran, run};
+ghost use Rattle.logs.specs.Log.{logged, readout, append, read, drop};
 use numbers::Address;
 use numbers::Block;
 use numbers::Bytes;
@@ -240,4 +242,91 @@ pub extern "C" fn blockheap_open_image(
     *base = o.base;
     *count = o.roots;
     o.refusal
+}
+
+#[no_mangle]
+pub extern "C" fn blockheap_log_append(
+    base: u64,
+    t: u64,
+    pool: &mut [u8],
+    table: &mut [u8],
+    first: u64,
+    time: u32,
+    tips: u32,
+    roots: &[u8],
+    stack: &mut [u8],
+    new_first: &mut u32,
+    change: &mut i32,
+) -> u32
+    ensures { λ r. ⌜ ran (logged r (now («new_first» .exit)) (now (change .exit))) (memory (now (pool .exit)) (now (table .exit))) (now (stack .exit))
+        ≡ run (planes t) (append base first time tips (now (roots .entry)) (now (stack .entry))) (now (stack .entry)) (memory (now (pool .entry)) (now (table .entry))) ⌝ }
+{
+    let l = rainlog::append(
+        Address::of_number(base),
+        t as usize,
+        pool,
+        table,
+        Address::of_number(first),
+        time,
+        tips,
+        roots,
+        stack,
+    );
+    *new_first = l.first;
+    let d = l.change;
+    *change = d;
+    l.refusal
+}
+
+#[no_mangle]
+pub extern "C" fn blockheap_log_read(
+    base: u64,
+    t: u64,
+    pool: &[u8],
+    table: &[u8],
+    first: u64,
+    index: u64,
+    time: &mut u32,
+    tips: &mut u32,
+) -> u32
+    ensures { λ r. ⌜ ran (readout r (now (time .exit)) (now (tips .exit))) (memory (now (pool .entry)) (now (table .entry))) []
+        ≡ run (planes t) (read base first index) [] (memory (now (pool .entry)) (now (table .entry))) ⌝ }
+{
+    let e = rainlog::read(
+        Address::of_number(base),
+        t as usize,
+        pool,
+        table,
+        Address::of_number(first),
+        index as usize,
+    );
+    *time = e.time;
+    *tips = e.tips;
+    e.refusal
+}
+
+#[no_mangle]
+pub extern "C" fn blockheap_log_drop(
+    base: u64,
+    t: u64,
+    pool: &[u8],
+    table: &mut [u8],
+    first: u64,
+    new_first: &mut u32,
+    change: &mut i32,
+) -> u32
+    ensures { λ r. ⌜ ran (logged r (now («new_first» .exit)) (now (change .exit))) (memory (now (pool .entry)) (now (table .exit))) []
+        ≡ run (planes t) (drop base first) [] (memory (now (pool .entry)) (now (table .entry))) ⌝ }
+{
+    let l = rainlog::drop(
+        Address::of_number(base),
+        t as usize,
+        pool,
+        table,
+        Address::of_number(first),
+    );
+    *new_first = l.first;
+    let d = l.change;
+    *change = d;
+    l.refusal
 }

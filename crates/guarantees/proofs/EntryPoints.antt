@@ -12,6 +12,9 @@ use Rattle.blockheap.proofs.blockheap_load.Met as load
 use Rattle.blockheap.proofs.blockheap_store.Met as store
 use Rattle.blockheap.proofs.blockheap_write_image.Met as write-image
 use Rattle.blockheap.proofs.blockheap_open_image.Met as open-image
+use Rattle.blockheap.proofs.blockheap_log_append.Met as log-append
+use Rattle.blockheap.proofs.blockheap_log_read.Met as log-read
+use Rattle.blockheap.proofs.blockheap_log_drop.Met as log-drop
 
 pub entry-points : EntryPoints
 entry-points = record {
@@ -45,4 +48,13 @@ entry-points = record {
   open-image-meets = open-image.met;
   open-image-asks-nothing = λ M 𝓤 H A mem run κs a. (tt, refl);
   open-image-says = λ M 𝓤 H A mem run κs a g r. refl;
+  log-append-meets = log-append.met;
+  log-append-asks-nothing = λ M 𝓤 H A mem run κs a. (tt, refl);
+  log-append-says = λ M 𝓤 H A mem run κs a g r. refl;
+  log-read-meets = log-read.met;
+  log-read-asks-nothing = λ M 𝓤 H A mem run κs a. (tt, refl);
+  log-read-says = λ M 𝓤 H A mem run κs a g r. refl;
+  log-drop-meets = log-drop.met;
+  log-drop-asks-nothing = λ M 𝓤 H A mem run κs a. (tt, refl);
+  log-drop-says = λ M 𝓤 H A mem run κs a g r. refl;
 }

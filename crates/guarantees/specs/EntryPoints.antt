@@ -1,4 +1,4 @@
--- What is proved of the code that C calls: each entry point meets its contract, and asks nothing of its caller; and its contract says the equation with the call of the rules that stands here, for every input.
+-- What is proved of the code that C calls: each entry point meets its contract, and asks nothing of its caller; and its contract says the equation with the call of the rules, or with the program of the log, that stands here, for every input.
 -- The contracts themselves stand in crates/blockheap/src/lib.rt: with one that says less, or more, this page is not proved.
 -- Assumes nothing.
 use mathlib.Core.Path.{_≡_}
@@ -26,6 +26,8 @@ use Rattle.rules.specs.Outcomes.{onlyRefusal, placement, collection, findings, 
 use Rattle.rules.specs.Runs.{Init, Allocate, Free, Reallocate, Collect, Survey, Load, Store, WriteImage, OpenImage}
 use Rattle.rules.specs.Planes.{planes}
 use Rattle.rules.specs.Memory.{memory, result, filling, withBuffer, perform}
+use Rattle.programs.specs.Programs.{ran, run}
+use Rattle.logs.specs.Log.{logged, readout, append, read, drop}
 use Rattle.blockheap.proofs.blockheap_init as init
 use Rattle.blockheap.proofs.blockheap_init.Statement as init-statement
 use Rattle.blockheap.proofs.blockheap_allocate as allocate
@@ -46,6 +48,12 @@ use Rattle.blockheap.proofs.blockheap_write_image as write-image
 use Rattle.blockheap.proofs.blockheap_write_image.Statement as write-image-statement
 use Rattle.blockheap.proofs.blockheap_open_image as open-image
 use Rattle.blockheap.proofs.blockheap_open_image.Statement as open-image-statement
+use Rattle.blockheap.proofs.blockheap_log_append as log-append
+use Rattle.blockheap.proofs.blockheap_log_append.Statement as log-append-statement
+use Rattle.blockheap.proofs.blockheap_log_read as log-read
+use Rattle.blockheap.proofs.blockheap_log_read.Statement as log-read-statement
+use Rattle.blockheap.proofs.blockheap_log_drop as log-drop
+use Rattle.blockheap.proofs.blockheap_log_drop.Statement as log-drop-statement
 
 -- a function's contract, as the toolchain makes it of its `requires` and `ensures`
 abbrev pub Contract : Signature → Type 2
@@ -128,3 +136,19 @@ pub record EntryPoints : Type 2 where
       filling (opening r (now (base .exit)) (now (count .exit))) (memory (now (pool .exit)) (now (table .exit))) (now (roots .exit))
       ≡ withBuffer (now (roots .entry))
       (perform (planes (t .entry)) (OpenImage (now (image .entry)) (lengthOf (now (roots .entry)))) [] (memory (now (pool .entry)) (now (table .entry)))))
+  -- of each call of the log: that the answer and the lent memory at exit are what its program of heap calls comes to
+  pub log-append-meets : {M : Type 1} → log-append-statement.statement M
+  pub log-append-asks-nothing : AsksNothing log-append.signature (λ M. log-append.spec {M = M})
+  pub log-append-says : Says log-append.ended (λ M. log-append.spec {M = M}) (λ κs base t pool table first time tips roots stack new-first change r.
+      ran (logged r (now (new-first .exit)) (now (change .exit))) (memory (now (pool .exit)) (now (table .exit))) (now (stack .exit))
+      ≡ run (planes (t .entry)) (append (base .entry) (first .entry) (time .entry) (tips .entry) (now (roots .entry)) (now (stack .entry))) (now (stack .entry)) (memory (now (pool .entry)) (now (table .entry))))
+  pub log-read-meets : {M : Type 1} → log-read-statement.statement M
+  pub log-read-asks-nothing : AsksNothing log-read.signature (λ M. log-read.spec {M = M})
+  pub log-read-says : Says log-read.ended (λ M. log-read.spec {M = M}) (λ κs base t pool table first index time tips r.
+      ran (readout r (now (time .exit)) (now (tips .exit))) (memory (now (pool .entry)) (now (table .entry))) []
+      ≡ run (planes (t .entry)) (read (base .entry) (first .entry) (index .entry)) [] (memory (now (pool .entry)) (now (table .entry))))
+  pub log-drop-meets : {M : Type 1} → log-drop-statement.statement M
+  pub log-drop-asks-nothing : AsksNothing log-drop.signature (λ M. log-drop.spec {M = M})
+  pub log-drop-says : Says log-drop.ended (λ M. log-drop.spec {M = M}) (λ κs base t pool table first new-first change r.
+      ran (logged r (now (new-first .exit)) (now (change .exit))) (memory (now (pool .entry)) (now (table .exit))) []
+      ≡ run (planes (t .entry)) (drop (base .entry) (first .entry)) [] (memory (now (pool .entry)) (now (table .entry))))

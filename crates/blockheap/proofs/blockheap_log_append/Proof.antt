@@ -1,0 +1,41 @@
+-- `blockheap::blockheap_log_append` meets its contract: the numbers go on as they came. Assumes nothing.
+use borrow.Author.Needs.{needs}
+use mir.Syntax.{w32}
+use mir.ValLaws.{toZ-ofZ}
+use Rattle.blockheap.proofs.blockheap_log_append.Statement.{statement}
+use Rattle.blockheap.proofs.blockheap_log_append.Tie as tie
+
+of-number-requires : tie.Need-of-number-requires
+of-number-requires c κs = search needs
+
+of-number-requires-2 : tie.Need-of-number-requires-2
+of-number-requires-2 c κs = search needs
+
+append-requires : tie.Need-append-requires
+append-requires c κs = search needs
+
+same-length : tie.Need-same-length
+same-length c = search needs
+
+same-length-2 : tie.Need-same-length-2
+same-length-2 c = search needs
+
+same-length-3 : tie.Need-same-length-3
+same-length-3 c = search needs
+
+returns : tie.Need-returns
+returns c =
+    rw (toZ-ofZ w32 (c .before .before .before .before .before .before .before .append .result .change) (search (needs, c .struct-told .given)))
+    (rw (c .before .before .before .before .before .before .before .before .before .before .before .before .of-number .ensures, c .before .before .before .before .before .before .before .before .before .of-number2 .ensures) at (c .before .before .before .before .before .before .before .append .ensures))
+
+pub blockheap-log-append-spec : {M : Type 1} → statement M
+blockheap-log-append-spec =
+    tie.close
+    (tie.spec
+    of-number-requires
+    of-number-requires-2
+    append-requires
+    same-length
+    same-length-2
+    same-length-3
+    returns)

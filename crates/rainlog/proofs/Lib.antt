@@ -1,0 +1,4 @@
+pub mod Asking
+pub mod Walking
+pub mod Bounds
+pub mod Replies

@@ -1,0 +1,101 @@
+-- The four ends: an address of no block, an object that is too short, one that is too long, and an entry that is passed.
+-- Assumes nothing.
+use mathlib.Core.Path.{_≡_, refl, sym, ap, _∙_}
+use mathlib.Core.Option.{some}
+use native.Mathlib.Omega.{arith}
+use borrow.Author.Needs.{needs}
+use Rattle.numbers.specs.Places.{found}
+use Rattle.rules.specs.Pointers.{targetOf}
+use Rattle.rules.specs.Memory.{Result}
+use Prim.Native.Nat.{suc, _+_}
+use Rattle.rainlog.specs.Walks.{passedBy, pass, loadsIn}
+use Rattle.rainlog.proofs.Walking.{steps-nowhere, steps-short, steps-long, steps-on}
+use Rattle.rainlog.proofs.advance.Statement.{statement}
+use Rattle.rainlog.proofs.advance.Tie as tie
+
+block-at-requires : tie.Need-block-at-requires
+block-at-requires c κs = search needs
+
+enum-known-there : tie.Need-enum-known-there
+enum-known-there c = search needs
+
+enum-told : tie.Need-enum-told
+enum-told c = search needs
+
+broken-requires : tie.Need-broken-requires
+broken-requires c κs = search needs
+
+returns : tie.Need-returns
+returns c =
+    let a = c .before .before .before .before .before .before .args in
+    steps-nowhere (loadsIn (a .base .0) (a .t) (a .pool .now) (a .table .now)) _ _ _ _ (sym (ap found (c .before .enum-told .given .1)) ∙ c .before .before .before .block-at .ensures) (c .broken .ensures)
+
+-- the block at the address where the walk stands
+at : (c : tie.After-there) → some (c .there .given .0 .0 .0) ≡ targetOf (c .before .before .before .before .before .args .base .0) 4096 (c .before .before .before .before .before .args .w .at .0)
+at c = sym (ap found (c .there .given .1)) ∙ c .before .before .block-at .ensures
+
+load-checked-requires : tie.Need-load-checked-requires
+load-checked-requires c κs = search needs
+
+broken-requires-2 : tie.Need-broken-requires-2
+broken-requires-2 c κs = search needs
+
+returns-2 : tie.Need-returns-2
+returns-2 c =
+    let a = c .before .before .before .before .before .before .before .before .before .before .args in
+    steps-short (loadsIn (a .base .0) (a .t) (a .pool .now) (a .table .now)) _ _ _ _ _ (at (c .before .before .before .before .before)) (ap (λ (x : Result). x .answer .refusal) (c .before .before .before .load-checked .ensures)) (c .before .if1 .taken) (c .broken2 .ensures)
+
+load-checked-requires-2 : tie.Need-load-checked-requires-2
+load-checked-requires-2 c κs = search needs
+
+broken-requires-3 : tie.Need-broken-requires-3
+broken-requires-3 c κs = search needs
+
+returns-3 : tie.Need-returns-3
+returns-3 c =
+    let a = c .before .before .before .before .before .before .before .before .before .before .before .before .before .args in
+    steps-long (loadsIn (a .base .0) (a .t) (a .pool .now) (a .table .now)) _ _ _ _ _ (at (c .before .before .before .before .before .before .before .before)) (ap (λ (x : Result). x .answer .refusal) (c .before .before .before .before .before .before .load-checked .ensures)) (c .before .before .before .before .if1 .left)
+    (ap (λ (x : Result). x .answer .refusal) (c .before .before .before .load-checked2 .ensures)) (c .before .if2 .taken) (c .broken3 .ensures)
+
+load-checked-requires-3 : tie.Need-load-checked-requires-3
+load-checked-requires-3 c κs = search needs
+
+add-passed : tie.Need-add-passed
+add-passed c = record { fits = omega (arith, c .before .before .before .before .before .before .before .before .before .before .before .before .before .before .pre .1) }
+
+of-word-requires : tie.Need-of-word-requires
+of-word-requires c κs = search needs
+
+wanted-requires : tie.Need-wanted-requires
+wanted-requires c κs = search needs
+
+returns-4 : tie.Need-returns-4
+returns-4 c =
+    let a = c .before .before .before .before .before .before .before .before .before .before .before .before .before .before .before .before .args in
+    let k = c .before .before .before .before .before .before .before .before .before .before .before .there .given .0 .0 .0 in
+    let n : a .w .count + 1 ≡ suc (a .w .count) = omega arith in
+    let by : record { count = a .w .count + 1; last = k; wanted = c .wanted .result .0 } ≡ pass (a .index) (passedBy (a .w)) k = rw (n, c .wanted .ensures) in
+    steps-on (loadsIn (a .base .0) (a .t) (a .pool .now) (a .table .now)) _ _ _ _ k (at (c .before .before .before .before .before .before .before .before .before .before .before)) (ap (λ (x : Result). x .answer .refusal) (c .before .before .before .before .before .before .before .before .before .load-checked .ensures)) (c .before .before .before .before .before .before .before .if1 .left)
+    (ap (λ (x : Result). x .answer .refusal) (c .before .before .before .before .before .before .load-checked2 .ensures)) (c .before .before .before .before .if2 .left) refl
+    (c .before .of-word .ensures ∙ ap (λ (x : Result). x .answer .value) (c .before .before .before .load-checked3 .ensures)) by
+
+pub advance-spec : {M : Type 1} → statement M
+advance-spec =
+    tie.close
+    (tie.spec
+    block-at-requires
+    enum-known-there
+    enum-told
+    broken-requires
+    returns
+    load-checked-requires
+    broken-requires-2
+    returns-2
+    load-checked-requires-2
+    broken-requires-3
+    returns-3
+    load-checked-requires-3
+    add-passed
+    of-word-requires
+    wanted-requires
+    returns-4)
