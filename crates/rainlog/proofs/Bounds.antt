@@ -50,7 +50,7 @@ sum-fits (negsuc a) (pos b) ha hb = difference-fits b (suc a) hb (omega arith)
 sum-fits (negsuc a) (negsuc b) ha hb = record { sfits = omega arith }
 
 -- a small change as the code has it
-read-back : (a : ℤ) → natAbs a ≤ 4096 → toZ w32 (ofZ w32 a) ≡ a
+pub read-back : (a : ℤ) → natAbs a ≤ 4096 → toZ w32 (ofZ w32 a) ≡ a
 read-back (pos a) h = toZ-ofZ w32 (pos a) (record { sfits = omega arith })
 read-back (negsuc a) h = toZ-ofZ w32 (negsuc a) (record { sfits = omega arith })
 

@@ -3,10 +3,8 @@ use mathlib.Core.Path.{_∙_}
 use Prim.Native.Nat.{_≤_}
 use lib.IntN.{natAbs}
 use borrow.Author.Needs.{needs}
-use mir.Syntax.{w32}
-use mir.ValLaws.{toZ-ofZ}
 use Rattle.rules.specs.Memory.{memory}
-use Rattle.rainlog.proofs.Bounds.{changes-fit, changes-sum, allocate-change, collect-change, entry-address}
+use Rattle.rainlog.proofs.Bounds.{read-back, changes-fit, changes-sum, allocate-change, collect-change, entry-address}
 use Rattle.rainlog.proofs.Replies.{again-adds, again-full}
 use Rattle.rainlog.proofs.add_again.Statement.{statement}
 use Rattle.rainlog.proofs.add_again.Tie as tie
@@ -29,14 +27,6 @@ same-length-2 c = search needs
 same-length-3 : tie.Need-same-length-3
 same-length-3 c = search needs
 
-returns : tie.Need-returns
-returns c ks last =
-    let got = c .before .before .before .before .before .before .before in
-    let made = got .before .before .before .before .before .before .before .before in
-    let a = made .before .before .before .before .before .before .before .before .args in
-    again-full (a .t) (a .base .0) (a .first) (a .time) (a .tips) (a .roots .now) ks (a .stack .now) (a .pool .now) (a .table .now) (made .collect-with .result) (got .allocate .result) _ _ _ _ (made .collect-with .ensures)
-    (rw (got .before .of-number .ensures) at (got .allocate .ensures)) (c .before .if1 .taken) (toZ-ofZ w32 (made .collect-with .result .change) (search (needs, c .struct-told .given)))
-
 -- both changes are small
 collected-small : (c : tie.After-collect-with) → natAbs (c .collect-with .result .change) ≤ 4096
 collected-small c =
@@ -47,6 +37,14 @@ placed-small : (c : tie.After-allocate) → natAbs (c .allocate .result .change)
 placed-small c =
     let a = c .before .before .before .before .before .before .before .before .before .before .before .before .before .before .before .before .args in
     allocate-change (a .t) (a .base .0) _ _ (c .allocate .ensures)
+
+returns : tie.Need-returns
+returns c ks last =
+    let got = c .before .before .before .before .before .before .before in
+    let made = got .before .before .before .before .before .before .before .before in
+    let a = made .before .before .before .before .before .before .before .before .args in
+    again-full (a .t) (a .base .0) (a .first) (a .time) (a .tips) (a .roots .now) ks (a .stack .now) (a .pool .now) (a .table .now) (made .collect-with .result) (got .allocate .result) _ _ _ _ (made .collect-with .ensures)
+    (rw (got .before .of-number .ensures) at (got .allocate .ensures)) (c .before .if1 .taken) (read-back (made .collect-with .result .change) (collected-small made))
 
 add-change : tie.Need-add-change
 add-change c =
@@ -64,9 +62,7 @@ same-length-4 : tie.Need-same-length-4
 same-length-4 c = search needs
 
 same-length-5 : tie.Need-same-length-5
-same-length-5 c =
-    let got = c .before .before .before .before .before .before .before .before .before .before .before .before .before .before .before in
-    got .allocate .kept .1 .1 .1 .0 ∙ got .before .before .before .before .before .before .before .before .collect-with .kept .1 .1 .1 .0
+same-length-5 c = c .before .before .before .before .before .before .before .before .before .before .before .before .before .before .before .allocate .kept .1 .1 .1 .0 ∙ c .before .before .before .before .before .before .before .before .before .before .before .before .before .before .before .before .before .before .before .before .before .before .before .collect-with .kept .1 .1 .1 .0
 
 same-length-6 : tie.Need-same-length-6
 same-length-6 c = c .before .before .before .before .before .before .before .before .before .before .before .before .before .before .before .before .before .before .before .before .before .before .before .collect-with .kept .1 .1 .1 .1 .1 .1 .0
