@@ -4,14 +4,15 @@ use mathlib.Core.Path.{_≡_, refl, sym, ap, subst, _∙_}
 use mathlib.Core.List.{List, [], _++_}
 use Prim.Native.Nat.{ℕ}
 use Rattle.rules.specs.Words.{wordsOf}
-use Rattle.rules.specs.Forms.{Form, Faithful}
+use Rattle.rules.specs.Forms.{Form}
+use Rattle.laws.specs.Faithful.{Faithful}
 use Rattle.rules.specs.Outcomes.{Heap, Answer, Outcome}
 use Rattle.rules.specs.Calls.{free, collect, survey}
 use Rattle.rules.specs.Runs.{Call, Free, Collect, Survey, step}
-use Rattle.rules.specs.Meaning.{Passed, Accepted}
+use Rattle.laws.specs.Meaning.{Passed, Accepted}
 use Rattle.rules.specs.Memory.{Memory, memory, heapIn, Sound, Result, AcceptedIn, perform}
-use Rattle.rules.proofs.Refusals.{passed}
-use Rattle.rules.proofs.Memory.{Written, passes-in, perform-accepted, accepted-sound, follows-sound, refusal-in}
+use Rattle.laws.proofs.Refusals.{passed}
+use Rattle.laws.proofs.Memory.{Written, passes-in, perform-accepted, accepted-sound, follows-sound, refusal-in}
 use Rattle.keeping.specs.Keeping.{Keeps}
 use Rattle.keeping.proofs.Collections.{collect-keeps}
 use Rattle.promises.proofs.Checked.{survey-checked, no-refusal}

@@ -14,14 +14,14 @@ use Rattle.rules.specs.Words.{wordAt, wordsOf}
 use Rattle.rules.specs.Entries.{FREE, HEAD}
 use Rattle.rules.specs.Tables.{entryAt, used, objects}
 use Rattle.rules.specs.Pointers.{leadsTo}
-use Rattle.rules.specs.Forms.{Small}
+use Rattle.laws.specs.Faithful.{Small}
 use Rattle.rules.specs.Outcomes.{Heap, Outcome, changeFrom}
 use Rattle.rules.specs.Reach.{Edge, Reachable, root, edge}
 use Rattle.rules.specs.Calls.{collecting, collect}
-use Rattle.rules.specs.Meaning.{Accepted}
-use Rattle.rules.proofs.Words.{wordsOf-append}
-use Rattle.rules.proofs.Pointers.{leads-stays}
-use Rattle.rules.proofs.Calls.{sub-same}
+use Rattle.laws.specs.Meaning.{Accepted}
+use Rattle.laws.proofs.Words.{wordsOf-append}
+use Rattle.laws.proofs.Pointers.{leads-stays}
+use Rattle.laws.proofs.Calls.{sub-same}
 use Rattle.keeping.specs.Keeping.{collected, Held, Keeps, Collected, butRescans, GoodRoots, GoodStack}
 use Rattle.keeping.proofs.Owners.{reachable-head}
 use Rattle.keeping.proofs.Same.{keeps-one, collected-same}

@@ -11,11 +11,11 @@ use lib.IntN.{pos, negℤ}
 use lib.ListN.{getD}
 use Rattle.rules.specs.Entries.{FREE}
 use Rattle.rules.specs.Tables.{entryAt}
-use Rattle.rules.specs.Meaning.{Passed, Accepted}
+use Rattle.laws.specs.Meaning.{Passed, Accepted}
 use Rattle.rules.specs.Outcomes.{Heap, placedAt}
 use Rattle.rules.specs.Calls.{free}
 use Rattle.rules.specs.Runs.{Free, step}
-use Rattle.rules.proofs.Tables.{entry-inside, well-says}
+use Rattle.laws.proofs.Tables.{entry-inside, well-says}
 use Rattle.promises.specs.Conditions.{First, ofFree}
 use Rattle.promises.specs.Promises.{Object, blocksOf, Among, Same, Freed}
 use Rattle.promises.specs.Determined.{Sized}

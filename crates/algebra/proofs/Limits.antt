@@ -20,9 +20,9 @@ use Rattle.rules.specs.Marking.{pushed, visitTo, visit, walkWords, walk, drainF
 use Rattle.rules.specs.Calls.{init, placing, freed, free, collecting, collect, survey, store}
 use Rattle.rules.specs.Runs.{Init, Collect, Store, step}
 use Rattle.rules.specs.Memory.{Memory, heapIn, Result, AcceptedIn, orRefused, perform}
-use Rattle.rules.proofs.Tables.{well-says}
-use Rattle.rules.proofs.Memory.{accepted-sound, refusal-in}
-use Rattle.rules.proofs.Planes.{planes-faithful}
+use Rattle.laws.proofs.Tables.{well-says}
+use Rattle.laws.proofs.Memory.{accepted-sound, refusal-in}
+use Rattle.laws.proofs.Planes.{planes-faithful}
 use Rattle.keeping.specs.Keeping.{GoodRoots, GoodStack}
 use Rattle.keeping.specs.Samples.{sampleBase}
 use Rattle.keeping.proofs.Collections.{collect-asks}

@@ -15,7 +15,8 @@ use Rattle.rules.specs.Bits.{bitOf, bitAt, byteOf}
 use Rattle.rules.specs.Words.{number, bytesOf, wordAt, withWord, wordsOf}
 use Rattle.rules.specs.Entries.{entryOf, entriesOf, tableOf}
 use Rattle.rules.specs.Tables.{entryAt, mayFollow, wellAfter, wellFormed, blockCount, startOf, released, used, objects, longest}
-use Rattle.rules.specs.Forms.{Form, Faithful, packed}
+use Rattle.rules.specs.Forms.{Form, packed}
+use Rattle.laws.specs.Faithful.{Faithful}
 use Rattle.rules.specs.Planes.{planeBytes, entryIn as entryOfBlock, entriesIn, spare, spareFree, plane, planesOf, planes}
 use Rattle.rules.specs.Pointers.{addressOf, goodBase, targetOf, headsObject, headAt, leadsTo}
 use Rattle.rules.specs.Outcomes.{Answer, changeFrom, placedAt, collectedTo, unlessRefused}
@@ -24,10 +25,10 @@ use Rattle.rules.specs.Marking.{pushed, visitTo, visit, walkWords, walk, drainF
 use Rattle.rules.specs.Calls.{placing, freed as freedHeap, free, collecting, collect, survey}
 use Rattle.rules.specs.Runs.{step}
 use Rattle.rules.specs.Memory.{Memory, Result, AcceptedIn, orRefused, perform}
-use Rattle.rules.proofs.Below.{below}
-use Rattle.rules.proofs.Tables.{entry-outside}
-use Rattle.rules.proofs.Memory.{packed-faithful}
-use Rattle.rules.proofs.Planes.{planes-faithful}
+use Rattle.laws.proofs.Below.{below}
+use Rattle.laws.proofs.Tables.{entry-outside}
+use Rattle.laws.proofs.Memory.{packed-faithful}
+use Rattle.laws.proofs.Planes.{planes-faithful}
 use Rattle.keeping.specs.Keeping.{butRescans, GoodRoots, GoodStack}
 use Rattle.keeping.specs.Samples.{sampleBase, addressAt}
 use Rattle.algebra.specs.Algebra.{freeIn, collectIn, Usable, entryIn, ObjectIn, Commute, SameMembers, SameCollection, unlessFree, Union, NothingMore}

@@ -9,7 +9,7 @@ use native.Mathlib.Omega.{arith}
 use lib.ListN.{length, length-append}
 use Rattle.rules.specs.Tests.{tabulate}
 use Rattle.rules.specs.Words.{wordsOf}
-use Rattle.rules.proofs.Words.{wordsOf-append}
+use Rattle.laws.proofs.Words.{wordsOf-append}
 use Rattle.algebra.specs.Algebra.{SameMembers}
 use Rattle.algebra.specs.Samples.{times}
 

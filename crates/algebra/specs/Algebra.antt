@@ -11,7 +11,8 @@ use Rattle.rules.specs.Tests.{pick}
 use Rattle.rules.specs.Words.{wordsOf}
 use Rattle.rules.specs.Entries.{HEAD}
 use Rattle.rules.specs.Tables.{entryAt, isFree}
-use Rattle.rules.specs.Forms.{Form, Faithful}
+use Rattle.rules.specs.Forms.{Form}
+use Rattle.laws.specs.Faithful.{Faithful}
 use Rattle.rules.specs.Runs.{Free, Collect, Survey}
 use Rattle.rules.specs.Memory.{Memory, Result, AcceptedIn, perform}
 use Rattle.keeping.specs.Keeping.{butRescans, GoodRoots, GoodStack}

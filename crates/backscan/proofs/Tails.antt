@@ -16,8 +16,8 @@ use Rattle.rules.specs.Tests.{pick}
 use Rattle.rules.specs.Bits.{bitOf}
 use Rattle.rules.specs.Entries.{TAIL}
 use Rattle.rules.specs.Tables.{entryAt, isTail, startOf}
-use Rattle.rules.proofs.Bits.{two-bits, bitOf-lt, bitOf-zero, bitOf-above, bitOf-and, bitOf-or, bitOf-shr, bitOf-not, bitOf-ones, TopBit, top-bit}
-use Rattle.rules.proofs.Tables.{start-says, start-one}
+use Rattle.laws.proofs.Bits.{two-bits, bitOf-lt, bitOf-zero, bitOf-above, bitOf-and, bitOf-or, bitOf-shr, bitOf-not, bitOf-ones, TopBit, top-bit}
+use Rattle.laws.proofs.Tables.{start-says, start-one}
 use Rattle.entries.specs.Groups.{InGroup}
 use Rattle.backscan.specs.Tails.{NonTails, Last, Back}
 

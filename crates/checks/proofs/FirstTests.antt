@@ -14,9 +14,9 @@ use Rattle.rules.specs.Outcomes.{Heap}
 use Rattle.rules.specs.Refusals.{Test, firstOf, goodShape, goodRoots, goodLists, manyRoots, longStack, firstTests, heapTests, rootTests, collectionTests}
 use Rattle.rules.specs.Memory.{memory}
 use Rattle.rules.specs.Planes.{entriesIn, spareFree, Sized, IsTable, planes, heapAt}
-use Rattle.rules.proofs.Refusals.{both-left, both-right, not-true, not-false, shape-true, first-passed}
-use Rattle.rules.proofs.Memory.{later, sound-of, refused-first-in}
-use Rattle.rules.proofs.Planes.{length-entriesIn}
+use Rattle.laws.proofs.Refusals.{both-left, both-right, not-true, not-false, shape-true, first-passed}
+use Rattle.laws.proofs.Memory.{later, sound-of, refused-first-in}
+use Rattle.laws.proofs.Planes.{length-entriesIn}
 use Rattle.checks.specs.Refusal.{refusalBy}
 
 -- ---- what the code answers

@@ -12,7 +12,7 @@ use Rattle.rules.specs.Words.{bytesOf, wordsOf}
 use Rattle.rules.specs.Pointers.{addressOf, leadsTo}
 use Rattle.rules.specs.Tables.{used}
 use Rattle.rules.specs.Planes.{planes, entriesIn, IsTable, heapAt}
-use Rattle.rules.specs.Meaning.{AllBytes, Leads, Shape as GoodShape}
+use Rattle.laws.specs.Meaning.{AllBytes, Leads, Shape as GoodShape}
 use Rattle.rules.specs.Tests.{tabulate}
 use Rattle.rules.specs.Outcomes.{Heap, Outcome, changeFrom}
 use Rattle.rules.specs.Refusals.{firstOf, goodLists, collectionTests}
@@ -20,14 +20,14 @@ use Rattle.rules.specs.Marking.{Context, Marked, markedIn, rootTo, markRoot, ma
 use Rattle.rules.specs.Calls.{collecting, collect}
 use Rattle.rules.specs.Runs.{Collect, step}
 use Rattle.rules.specs.Memory.{Memory, memory, Sound, testsIn, perform}
-use Rattle.rules.proofs.Words.{length-bytesOf, wordAt-bytesOf, wordsOf-append}
-use Rattle.rules.proofs.Pointers.{leads-says, leads-one}
-use Rattle.rules.proofs.Planes.{planes-faithful, table-sound}
+use Rattle.laws.proofs.Words.{length-bytesOf, wordAt-bytesOf, wordsOf-append}
+use Rattle.laws.proofs.Pointers.{leads-says, leads-one}
+use Rattle.laws.proofs.Planes.{planes-faithful, table-sound}
 use Rattle.checks.proofs.FirstTests.{is-table-lists}
-use Rattle.rules.proofs.Refusals.{refusal-is, accepts, lists-say, first-passed}
-use Rattle.rules.proofs.Calls.{sub-less}
-use Rattle.rules.proofs.Used.{marking-used}
-use Rattle.rules.proofs.Memory.{sound-of, left-in, acted-in}
+use Rattle.laws.proofs.Refusals.{refusal-is, accepts, lists-say, first-passed}
+use Rattle.laws.proofs.Calls.{sub-less}
+use Rattle.laws.proofs.Used.{marking-used}
+use Rattle.laws.proofs.Memory.{sound-of, left-in, acted-in}
 use Rattle.checks.specs.Refusal.{refusalBy}
 use Rattle.sweeper.specs.declared.Swept.{Swept}
 use Rattle.collector.specs.declared.Collected.{Collected}

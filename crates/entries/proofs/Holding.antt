@@ -9,8 +9,8 @@ use Rattle.rules.specs.Bits.{bitOf, bitAt}
 use Rattle.rules.specs.Entries.{FREE}
 use Rattle.rules.specs.Tables.{entryAt}
 use Rattle.rules.specs.Planes.{planeBytes, entryIn, entriesIn}
-use Rattle.rules.proofs.Bits.{bitOf-lt, bitAt-stored, bitAt-kept}
-use Rattle.rules.proofs.Planes.{length-entriesIn, room-entries, getD-entriesIn, entryIn-byte}
+use Rattle.laws.proofs.Bits.{bitOf-lt, bitAt-stored, bitAt-kept}
+use Rattle.laws.proofs.Planes.{length-entriesIn, room-entries, getD-entriesIn, entryIn-byte}
 use Rattle.entries.specs.Groups.{lane}
 
 -- ---- in which byte an entry lies

@@ -5,7 +5,7 @@ use Prim.Native.Nat.{ℕ, _-_, _*_, _/_, _%_, _^_, _<_}
 use lib.Dec.{T, eqb, leb, ltb}
 use Rattle.rules.specs.Tests.{pick}
 use Rattle.rules.specs.Bits.{bitOf}
-use Rattle.rules.proofs.Below.{allBelow, below, equal-below}
+use Rattle.laws.proofs.Below.{allBelow, below, equal-below}
 
 -- an equation that holds at all places s and j of a byte, by computing
 places : (f g : ℕ → ℕ → ℕ) → T (allBelow 8 (λ (s : ℕ). allBelow 8 (λ (j : ℕ). eqb (f s j) (g s j)))) → (s j : ℕ) → s < 8 → j < 8 → f s j ≡ g s j

@@ -15,9 +15,9 @@ use Rattle.rules.specs.Tests.{pick}
 use Rattle.rules.specs.Bits.{bitOf}
 use Rattle.rules.specs.Entries.{FREE, HEAD}
 use Rattle.rules.specs.Tables.{entryAt, isFree}
-use Rattle.rules.specs.Meaning.{Run}
-use Rattle.rules.proofs.Bits.{bitOf-lt, bitOf-zero, bitOf-above, bitOf-and, bitOf-or, bitOf-not, bitOf-ones}
-use Rattle.rules.proofs.Planes.{neither-bit}
+use Rattle.laws.specs.Meaning.{Run}
+use Rattle.laws.proofs.Bits.{bitOf-lt, bitOf-zero, bitOf-above, bitOf-and, bitOf-or, bitOf-not, bitOf-ones}
+use Rattle.laws.proofs.Planes.{neither-bit}
 use Rattle.entries.specs.Groups.{InGroup}
 use Rattle.freeruns.specs.Rows.{FreeIn, Row}
 use Rattle.freeruns.proofs.Rows.{ALL, set-lt}

@@ -10,7 +10,7 @@ use lib.Bits.{bitAnd, bitOr, and-le-l}
 use lib.Count.{trailingZeros, leadingZeros, leading-of-zero}
 use lib.Pow.{pow-mono, shr-le}
 use Rattle.rules.specs.Bits.{bitOf}
-use Rattle.rules.proofs.Bits.{bitOf-lt, bitOf-first, bitOf-suc, bitOf-zero, bitOf-above, bitOf-and, bitOf-or, bitOf-shr, bitOf-shl, bitOf-below, bitOf-not, bitOf-mod, bits-same, TopBit, top-bit}
+use Rattle.laws.proofs.Bits.{bitOf-lt, bitOf-first, bitOf-suc, bitOf-zero, bitOf-above, bitOf-and, bitOf-or, bitOf-shr, bitOf-shl, bitOf-below, bitOf-not, bitOf-mod, bits-same, TopBit, top-bit}
 use Rattle.freeruns.specs.Rows.{Zeros, ZerosAbove, Row, RowStarts, WholeRow}
 
 -- 64 bits, all set

@@ -9,9 +9,9 @@ use native.Mathlib.Omega.{arith}
 use lib.ListN.{length, getD}
 use Rattle.rules.specs.Bits.{bitOf}
 use Rattle.rules.specs.Entries.{FREE, HEAD}
-use Rattle.rules.specs.Meaning.{Run, Longest}
-use Rattle.rules.proofs.Bits.{bitOf-lt, bitOf-zero, bitOf-not}
-use Rattle.rules.proofs.Tables.{run-shorter}
+use Rattle.laws.specs.Meaning.{Run, Longest}
+use Rattle.laws.proofs.Bits.{bitOf-lt, bitOf-zero, bitOf-not}
+use Rattle.laws.proofs.Tables.{run-shorter}
 use Rattle.freeruns.specs.Rows.{FreeIn, Zeros, ZerosAbove, LongestRow}
 use Rattle.freeruns.specs.Scans.{Scanned}
 use Rattle.freeruns.proofs.Rows.{ALL, first-lt}

@@ -5,7 +5,7 @@ use mathlib.Core.List.{List}
 use Prim.Native.Nat.{ℕ, suc, _+_, _*_, _≤_, _<_}
 use lib.ListN.{getD}
 use Rattle.rules.specs.Entries.{FREE, HEAD}
-use Rattle.rules.specs.Meaning.{Run}
+use Rattle.laws.specs.Meaning.{Run}
 use Rattle.freeruns.specs.Rows.{FreeIn}
 
 pub record Scanned (es : List ℕ) (p longest ending : ℕ) : Type 0 where

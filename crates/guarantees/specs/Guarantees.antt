@@ -33,11 +33,11 @@ use Rattle.requests.specs.Sums.{RequestsSum}
 use Rattle.guarantees.specs.EntryPoints.{EntryPoints}
 
 pub record Guarantees : Type 2 where
-  -- The worked examples 1 to 12, a chain through the middle of an object, a rescan and large objects come out, the order of the marking shows in its rescans, and words have their lowest byte first; the worked examples come
+  -- The worked examples 1 to 12, a chain through the middle of an object, a rescan, large objects and a load come out, the order of the marking shows in its rescans, and words have their lowest byte first; the worked examples come
   -- out in the bytes of two planes too, where a spare bit is refused by 2, and another t or another length by 1.
   pub examples-hold : map (λ (x : Example). x .is) examples ≡ map (λ (x : Example). x .ought) examples
   pub orders-hold : map (λ (x : Example). x .is) orders ≡ map (λ (x : Example). x .ought) orders
-  pub examples-number : length examples ≡ 43
+  pub examples-number : length examples ≡ 44
   pub orders-number : length orders ≡ 4
   pub words-hold : (wordAt (0 ∷ 16 ∷ 0 ∷ 0 ∷ []) 0 ≡ 4096) × (bytesOf 4096 ≡ 0 ∷ 16 ∷ 0 ∷ 0 ∷ [])
   pub plane-examples-hold : map (λ (x : PlaneExample). x .is) planeExamples ≡ map (λ (x : PlaneExample). x .ought) planeExamples

@@ -13,19 +13,19 @@ use lib.ListN.{length, replicate}
 use Rattle.rules.specs.Tests.{both, either, isNone}
 use Rattle.rules.specs.Words.{wordAt, withWord}
 use Rattle.rules.specs.Tables.{blockCount, firstFit, released, used, objects, longest}
-use Rattle.rules.specs.Meaning.{AllBytes, Shape, Named}
+use Rattle.laws.specs.Meaning.{AllBytes, Shape, Named}
 use Rattle.rules.specs.Outcomes.{Heap, Answer, Outcome, changeFrom, onlyRefusal, placedAt, leaves, findings, reading}
 use Rattle.rules.specs.Refusals.{Test, test, firstOf, goodShape, badShape, noBytes, outside, noHead, noWord, noRoom, initTests, heapTests, nameTests, requestTests, objectTests, resizeTests, wordTests}
 use Rattle.rules.specs.Planes.{planesOf, planes, entriesIn, Sized, IsTable, Holds, heapAt}
 use Rattle.rules.specs.Calls.{init, blocksFor, taken, placing, allocate, allocateTests, free, freed as freedHeap, Way, stay, shrink, grow, move, noWay, isNoWay, wayOf, along, reallocate, reallocateTests, survey, load, store}
 use Rattle.rules.specs.Runs.{Call, Init, Allocate, Free, Reallocate, Survey, Load, Store, step}
 use Rattle.rules.specs.Memory.{Memory, memory, Sound, Result, result, AcceptedIn, readsTable, stackFor, testsIn, perform}
-use Rattle.rules.proofs.Planes.{planes-faithful, is-table, table-sound}
-use Rattle.rules.proofs.Tables.{first-fits, extent-of}
+use Rattle.laws.proofs.Planes.{planes-faithful, is-table, table-sound}
+use Rattle.laws.proofs.Tables.{first-fits, extent-of}
 use Rattle.checks.proofs.FirstTests.{sized-by}
-use Rattle.rules.proofs.Refusals.{refusal-is, true-not-false, both-false, both-left, both-right, not-false, not-true, numbered, first-yes, first-last, first-more, first-none, first-rest, accepts, passed, asked, named-object, after-names}
-use Rattle.rules.proofs.Calls.{blocks-some, allocate-change, free-change}
-use Rattle.rules.proofs.Memory.{Ended, accepted, refused as refusedBy, step-ended, fault-refuses, tests-own, passes-in, refusal-in, sound-of, refused-first-in, refused-next-in, left-in, acted-in}
+use Rattle.laws.proofs.Refusals.{refusal-is, true-not-false, both-false, both-left, both-right, not-false, not-true, numbered, first-yes, first-last, first-more, first-none, first-rest, accepts, passed, asked, named-object, after-names}
+use Rattle.laws.proofs.Calls.{blocks-some, allocate-change, free-change}
+use Rattle.laws.proofs.Memory.{Ended, accepted, refused as refusedBy, step-ended, fault-refuses, tests-own, passes-in, refusal-in, sound-of, refused-first-in, refused-next-in, left-in, acted-in}
 use Rattle.checks.specs.Refusal.{refusalBy}
 use Rattle.heap.specs.Answers.{status, placeOf, placed, placedIn, unplacedBy, freed, surveyed, loaded}
 use Rattle.heap.specs.declared.Placed.{Placed}

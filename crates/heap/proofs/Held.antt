@@ -10,9 +10,9 @@ use mir.Syntax.{w32}
 use mir.Val.{toZ, ofZ}
 use mir.ValLaws.{toZ-ofZ}
 use Rattle.rules.specs.Planes.{entriesIn}
-use Rattle.rules.specs.Meaning.{Extent}
-use Rattle.rules.proofs.Planes.{few-entries}
-use Rattle.rules.proofs.Tables.{extent-of}
+use Rattle.laws.specs.Meaning.{Extent}
+use Rattle.laws.proofs.Planes.{few-entries}
+use Rattle.laws.proofs.Tables.{extent-of}
 use Rattle.numbers.proofs.Signed.{sub-fits}
 use Rattle.heap.specs.Held.{Held}
 

@@ -6,7 +6,7 @@ ghost use Prim.Native.Nat.{_+_, _-_, _*_, _≤_, _<_};
 ghost use lib.IntN.{pos, negℤ};
 ghost use lib.ListN.{length};
 ghost use Rattle.rules.specs.Tables.{blockCount, firstFit, released};
-ghost use Rattle.rules.specs.Meaning.{GrowsInPlace};
+ghost use Rattle.laws.specs.Meaning.{GrowsInPlace};
 ghost use Rattle.rules.specs.Outcomes.{clearedBlocks};
 ghost use Rattle.rules.specs.Planes.{planes, entriesIn, IsTable, Holds, heapAt};
 ghost use Rattle.rules.specs.Calls.{taken, placing, shrunk, grown, movesTo, along};

@@ -9,7 +9,7 @@ use lib.ListN.{length}
 use lib.Seq.{sets, sets-eq}
 use borrow.Author.Tests.{lt-ltb, le-ltb}
 use Rattle.rules.specs.Tables.{used}
-use Rattle.rules.specs.Meaning.{AllBytes}
+use Rattle.laws.specs.Meaning.{AllBytes}
 use Rattle.rules.specs.Outcomes.{Heap, writing}
 use Rattle.rules.specs.Refusals.{firstOf, shortBuffer, rootTests}
 use Rattle.rules.specs.Planes.{planes, entriesIn, IsTable, heapAt}
@@ -17,11 +17,11 @@ use Rattle.rules.specs.Images.{imageOf}
 use Rattle.rules.specs.Calls.{imageTests, writeImage}
 use Rattle.rules.specs.Runs.{Call, WriteImage, step}
 use Rattle.rules.specs.Memory.{Memory, memory, Sound, withBuffer, testsIn, perform}
-use Rattle.rules.proofs.Tables.{used-le}
-use Rattle.rules.proofs.Planes.{length-entriesIn, planes-faithful}
-use Rattle.rules.proofs.Refusals.{refusal-is, first-yes, first-last, first-more, accepts, roots-passed}
-use Rattle.rules.proofs.Images.{length-image}
-use Rattle.rules.proofs.Memory.{sound-of, refused-first-in, refused-next-in, left-in, acted-filling}
+use Rattle.laws.proofs.Tables.{used-le}
+use Rattle.laws.proofs.Planes.{length-entriesIn, planes-faithful}
+use Rattle.laws.proofs.Refusals.{refusal-is, first-yes, first-last, first-more, accepts, roots-passed}
+use Rattle.laws.proofs.Images.{length-image}
+use Rattle.laws.proofs.Memory.{sound-of, refused-first-in, refused-next-in, left-in, acted-filling}
 use Rattle.checks.specs.Refusal.{refusalBy}
 use Rattle.checks.proofs.FirstTests.{is-table-roots}
 use Rattle.image.specs.Answers.{written, unwrittenBy}

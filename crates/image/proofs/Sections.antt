@@ -11,8 +11,8 @@ use Rattle.rules.specs.Entries.{tableOf}
 use Rattle.rules.specs.Tables.{used}
 use Rattle.rules.specs.Outcomes.{Heap}
 use Rattle.rules.specs.Images.{section, sections, usedFrom, imageOf}
-use Rattle.rules.proofs.Lists.{sets-next}
-use Rattle.rules.proofs.Images.{length-section}
+use Rattle.laws.proofs.Lists.{sets-next}
+use Rattle.laws.proofs.Images.{length-section}
 
 -- the image begins with `front`, which is n bytes, and behind it is as it was
 pub record Begins (image₀ front image : List ℕ) (n : ℕ) : Type 0 where

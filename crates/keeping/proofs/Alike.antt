@@ -18,8 +18,8 @@ use Rattle.rules.specs.Pointers.{leadsTo}
 use Rattle.rules.specs.Outcomes.{Heap}
 use Rattle.rules.specs.Reach.{Edge, Reachable, root, edge}
 use Rattle.rules.specs.Marking.{Context, State, state, marked, pushed, visitTo, visit, walkWords, walk, drainFor, drain, trace, rootTo, markRoot, markRoots, passBlock, passFrom, pass, rescanFor, rescan, markAll}
-use Rattle.rules.proofs.Words.{wordAt-same}
-use Rattle.rules.proofs.Marks.{marks-count, marks-leads, mark-here}
+use Rattle.laws.proofs.Words.{wordAt-same}
+use Rattle.laws.proofs.Marks.{marks-count, marks-leads, mark-here}
 use Rattle.keeping.specs.Keeping.{contextOf, marking, collected, Proper, Agree, AgreeInWords}
 use Rattle.keeping.proofs.Sound.{Sound, sound-start, sound-mark, sound-walk, sound-popped, sound-root, sound-roots, sound-block, sound-pass}
 use Rattle.keeping.proofs.Owners.{well-fresh}

@@ -14,11 +14,11 @@ use Rattle.rules.specs.Tables.{entryAt, wellFormed, blockCount, used}
 use Rattle.rules.specs.Outcomes.{Heap, Outcome, unlessRefused}
 use Rattle.rules.specs.Refusals.{firstOf, goodLists, badShape, illFormed, manyRoots, longStack, collectionTests}
 use Rattle.rules.specs.Calls.{collecting, collect}
-use Rattle.rules.specs.Meaning.{Passed, Accepted}
+use Rattle.laws.specs.Meaning.{Passed, Accepted}
 use Rattle.rules.specs.Memory.{heapIn}
-use Rattle.rules.proofs.Refusals.{first-no, first-last, first-none, first-passed, lists-of, lists-say, accepts, accepted-none}
-use Rattle.rules.proofs.Tables.{extent-of, extent-used}
-use Rattle.rules.proofs.Marking.{head-inside}
+use Rattle.laws.proofs.Refusals.{first-no, first-last, first-none, first-passed, lists-of, lists-say, accepts, accepted-none}
+use Rattle.laws.proofs.Tables.{extent-of, extent-used}
+use Rattle.laws.proofs.Marking.{head-inside}
 use Rattle.keeping.specs.Keeping.{marking, collected, Collected, KeepsExactly, AnyStack, Agree, GoodRoots, GoodStack}
 use Rattle.keeping.proofs.Owners.{reachable-head}
 use Rattle.keeping.proofs.Kept.{keeps}

@@ -17,9 +17,9 @@ use Rattle.rules.specs.Pointers.{leadsTo}
 use Rattle.rules.specs.Outcomes.{Heap}
 use Rattle.rules.specs.Reach.{Edge, Reachable, root, edge}
 use Rattle.rules.specs.Marking.{Context, State, state, marked, visit, walkWords, walk, drain, trace, markRoot, markRoots, passFrom, pass, rescan, markAll}
-use Rattle.rules.proofs.Marking.{mark-inside, Visits, stays, pushes, loses, visits, Rooted, idle, takes, rooted, Passed, skips, walks, passed, words-keep, walk-keeps, drain-keeps, pass-keeps, rescan-keeps, traced, rescanned}
-use Rattle.rules.proofs.Marks.{Marks, marks-none, marks-more, mark-stays, mark-cases, mark-here, marks-count, marks-leads}
-use Rattle.rules.proofs.Pointers.{leads-head}
+use Rattle.laws.proofs.Marking.{mark-inside, Visits, stays, pushes, loses, visits, Rooted, idle, takes, rooted, Passed, skips, walks, passed, words-keep, walk-keeps, drain-keeps, pass-keeps, rescan-keeps, traced, rescanned}
+use Rattle.laws.proofs.Marks.{Marks, marks-none, marks-more, mark-stays, mark-cases, mark-here, marks-count, marks-leads}
+use Rattle.laws.proofs.Pointers.{leads-head}
 use Rattle.keeping.specs.Keeping.{contextOf, marking}
 
 module _ (base : ℕ) (h : Heap) (room : ℕ) where

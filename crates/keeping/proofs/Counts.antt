@@ -13,8 +13,8 @@ use Rattle.rules.specs.Entries.{FREE, HEAD, MARK}
 use Rattle.rules.specs.Tables.{entryAt, isUsed, isHead, wellFormed, used, objects}
 use Rattle.rules.specs.Outcomes.{Heap}
 use Rattle.rules.specs.Marking.{sweptEntry, freeingAfter, sweepFrom, sweep}
-use Rattle.rules.proofs.Lists.{one, count-cons}
-use Rattle.rules.proofs.Marks.{Marks}
+use Rattle.laws.proofs.Lists.{one, count-cons}
+use Rattle.laws.proofs.Marks.{Marks}
 use Rattle.keeping.specs.Keeping.{contextOf, marking, collected, FewRescans}
 use Rattle.keeping.proofs.Sound.{sound}
 use Rattle.keeping.proofs.Rescans.{rescans-few, rescans-none}

@@ -9,13 +9,13 @@ use native.Mathlib.Omega.{arith}
 use lib.ListN.{length}
 use Rattle.rules.specs.Entries.{FREE, HEAD, TAIL, MARK}
 use Rattle.rules.specs.Tables.{entryAt, wellFormed, blockCount}
-use Rattle.rules.specs.Meaning.{Extent}
+use Rattle.laws.specs.Meaning.{Extent}
 use Rattle.rules.specs.Outcomes.{Heap}
 use Rattle.rules.specs.Reach.{Reachable}
 use Rattle.rules.specs.Marking.{freeingAt, sweep}
-use Rattle.rules.proofs.Tables.{well-of, extent-of, count-is}
-use Rattle.rules.proofs.Marking.{head-inside, mark-inside, sweep-length}
-use Rattle.rules.proofs.Marks.{Marks, marks-count}
+use Rattle.laws.proofs.Tables.{well-of, extent-of, count-is}
+use Rattle.laws.proofs.Marking.{head-inside, mark-inside, sweep-length}
+use Rattle.laws.proofs.Marks.{Marks, marks-count}
 use Rattle.keeping.specs.Keeping.{marking, collected, Proper, Owns, Held, Keeps}
 use Rattle.keeping.proofs.Sound.{Sound, sound}
 use Rattle.keeping.proofs.Owners.{well-fresh, well-first, owns-cases, owns-used, Owned, owner}

@@ -12,9 +12,9 @@ use Rattle.rules.specs.Tables.{entryAt, wellFormed, blockCount}
 use Rattle.rules.specs.Words.{wordAt}
 use Rattle.rules.specs.Outcomes.{Heap}
 use Rattle.rules.specs.Reach.{Reachable, root, edge}
-use Rattle.rules.proofs.Pointers.{leads-head}
-use Rattle.rules.proofs.Tables.{entry-inside, well-says, extent-of}
-use Rattle.rules.proofs.Marking.{head-inside, mark-inside}
+use Rattle.laws.proofs.Pointers.{leads-head}
+use Rattle.laws.proofs.Tables.{entry-inside, well-says, extent-of}
+use Rattle.laws.proofs.Marking.{head-inside, mark-inside}
 use Rattle.keeping.specs.Keeping.{Proper, Owns}
 
 -- a well-formed table has no MARK, no TAIL in block 0, and none after a FREE

@@ -12,8 +12,8 @@ use Rattle.rules.specs.Words.{wordAt}
 use Rattle.rules.specs.Entries.{HEAD}
 use Rattle.rules.specs.Tables.{entryAt, objects}
 use Rattle.rules.specs.Marking.{Context, State, state, marked, walk, drain, trace, markRoot, markRoots, pass, Marked, rescanFor, rescan, markAll}
-use Rattle.rules.proofs.Lists.{one}
-use Rattle.rules.proofs.Marking.{objects-mark, Visits, stays, pushes, loses, visits, Rooted, idle, takes, rooted, walk-keeps, drain-keeps, traced, potential, pass-potential, rescan-done, rescan-more}
+use Rattle.laws.proofs.Lists.{one}
+use Rattle.laws.proofs.Marking.{objects-mark, Visits, stays, pushes, loses, visits, Rooted, idle, takes, rooted, walk-keeps, drain-keeps, traced, potential, pass-potential, rescan-done, rescan-more}
 
 -- m HEADs at the start, and something was marked since: fewer HEADs with the stack, fewer with the flag,
 -- and if the flag is set, then more objects than the stack has room for were marked after the first

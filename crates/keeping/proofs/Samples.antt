@@ -20,9 +20,9 @@ use Rattle.rules.specs.Refusals.{firstOf, goodShape, wholeWords}
 use Rattle.rules.specs.Reach.{Reachable, root, edge}
 use Rattle.rules.specs.Marking.{pushed, visitTo, visit, walkWords, walk, drainFor, drain, trace, rootTo, markRoot, markRoots, passBlock, passFrom, pass, rescanFor, rescan, markAll, sweptEntry, freeingAfter, sweepFrom, sweep}
 use Rattle.rules.specs.Calls.{collecting, collect}
-use Rattle.rules.specs.Meaning.{Accepted}
-use Rattle.rules.proofs.Tables.{well-says}
-use Rattle.rules.proofs.Planes.{planes-faithful}
+use Rattle.laws.specs.Meaning.{Accepted}
+use Rattle.laws.proofs.Tables.{well-says}
+use Rattle.laws.proofs.Planes.{planes-faithful}
 use Rattle.keeping.specs.Keeping.{Collected, butRescans}
 use Rattle.keeping.specs.Samples.{sampleBase, addressAt, samplePool, sampleMemory, sampleHeap, sampleRoots, sampleWith}
 use Rattle.keeping.proofs.Collections.{keeps-exactly, any-stack}

@@ -14,8 +14,8 @@ use Rattle.rules.specs.Pointers.{leadsTo}
 use Rattle.rules.specs.Outcomes.{Heap}
 use Rattle.rules.specs.Reach.{Reachable, root, edge}
 use Rattle.rules.specs.Marking.{Context, State, state, marked, walk, drain, trace, markRoot, markRoots, passBlock, pass, markAll}
-use Rattle.rules.proofs.Marking.{Visits, stays, pushes, loses, visits, Rooted, idle, takes, rooted, Passed, skips, walks, passed, walk-keeps, drain-keeps, pass-keeps, rescan-keeps}
-use Rattle.rules.proofs.Marks.{Marks, marks-none, marks-more, mark-stays, mark-cases, mark-here, marks-count, marks-leads}
+use Rattle.laws.proofs.Marking.{Visits, stays, pushes, loses, visits, Rooted, idle, takes, rooted, Passed, skips, walks, passed, walk-keeps, drain-keeps, pass-keeps, rescan-keeps}
+use Rattle.laws.proofs.Marks.{Marks, marks-none, marks-more, mark-stays, mark-cases, mark-here, marks-count, marks-leads}
 use Rattle.keeping.specs.Keeping.{contextOf, marking}
 
 module _ (base : ℕ) (h : Heap) (roots : List ℕ) (room : ℕ) where

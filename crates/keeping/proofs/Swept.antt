@@ -12,7 +12,7 @@ use borrow.Author.Tests.{ne-eqb}
 use Rattle.rules.specs.Entries.{FREE, HEAD, TAIL, MARK}
 use Rattle.rules.specs.Tables.{entryAt}
 use Rattle.rules.specs.Marking.{sweptEntry, freeingAfter, freeingAt, sweep}
-use Rattle.rules.proofs.Swept.{swept-at}
+use Rattle.laws.proofs.Swept.{swept-at}
 
 -- ---- one entry
 

@@ -13,8 +13,9 @@ use Rattle.rules.specs.Outcomes.{Heap, Answer, Outcome, changeFrom}
 use Rattle.rules.specs.Reach.{Reachable}
 use Rattle.rules.specs.Marking.{Context, Marked, markAll, sweep}
 use Rattle.rules.specs.Calls.{collect}
-use Rattle.rules.specs.Meaning.{Accepted}
-use Rattle.rules.specs.Forms.{Form, Faithful}
+use Rattle.laws.specs.Meaning.{Accepted}
+use Rattle.rules.specs.Forms.{Form}
+use Rattle.laws.specs.Faithful.{Faithful}
 use Rattle.rules.specs.Memory.{Memory, heapIn}
 
 -- what the marking of a heap reads, with a mark stack that has room for so many entries

@@ -12,15 +12,16 @@ use lib.ListN.{length}
 use borrow.Author.Tests.{eqb-true, leb-true, leb-false, ltb-true, ltb-false}
 use Rattle.rules.specs.Tests.{both}
 use Rattle.rules.specs.Words.{bytesOf}
-use Rattle.rules.specs.Meaning.{AllBytes, Lowest, Passed, Accepted}
+use Rattle.laws.specs.Meaning.{AllBytes, Lowest, Passed, Accepted}
 use Rattle.rules.specs.Outcomes.{Heap, Answer, Outcome}
 use Rattle.rules.specs.Refusals.{wholeWords}
 use Rattle.rules.specs.Calls.{blocksFor, allocate, collect}
 use Rattle.rules.specs.Runs.{Collect, step}
-use Rattle.rules.specs.Forms.{Form, Faithful}
+use Rattle.rules.specs.Forms.{Form}
+use Rattle.laws.specs.Faithful.{Faithful}
 use Rattle.rules.specs.Memory.{Memory, heapIn, Sound, Result}
-use Rattle.rules.proofs.Refusals.{true-not-false}
-use Rattle.rules.proofs.Memory.{Written, Follows, follows-sound}
+use Rattle.laws.proofs.Refusals.{true-not-false}
+use Rattle.laws.proofs.Memory.{Written, Follows, follows-sound}
 use Rattle.keeping.specs.Keeping.{GoodStack}
 use Rattle.promises.specs.Conditions.{First, NoFit}
 use Rattle.promises.proofs.Promised.{promises}

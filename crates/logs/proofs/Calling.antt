@@ -12,14 +12,15 @@ use lib.ListN.{length, length-append}
 use Rattle.rules.specs.Tests.{pick, tabulate}
 use Rattle.rules.specs.Words.{bytesOf, wordsOf}
 use Rattle.rules.specs.Pointers.{addressOf}
-use Rattle.rules.specs.Meaning.{Passed, Accepted}
+use Rattle.laws.specs.Meaning.{Passed, Accepted}
 use Rattle.rules.specs.Outcomes.{Heap, Answer, Outcome}
 use Rattle.rules.specs.Calls.{blocksFor, allocate, free, collect, store}
 use Rattle.rules.specs.Runs.{Allocate, Free, Collect, Load, Store, step}
-use Rattle.rules.specs.Forms.{Form, Faithful}
+use Rattle.rules.specs.Forms.{Form}
+use Rattle.laws.specs.Faithful.{Faithful}
 use Rattle.rules.specs.Memory.{Memory, heapIn}
-use Rattle.rules.proofs.Words.{length-bytesOf, wordsOf-append, wordAt-bytesOf}
-use Rattle.rules.proofs.Tables.{entry-inside, well-says}
+use Rattle.laws.proofs.Words.{length-bytesOf, wordsOf-append, wordAt-bytesOf}
+use Rattle.laws.proofs.Tables.{entry-inside, well-says}
 use Rattle.keeping.specs.Keeping.{GoodStack}
 use Rattle.keeping.proofs.Collections.{collect-accepts}
 use Rattle.promises.specs.Conditions.{First, ofAllocate, NoFit}

@@ -9,10 +9,10 @@ use native.Mathlib.Omega.{arith}
 use Rattle.rules.specs.Words.{bytesOf, wordAt}
 use Rattle.rules.specs.Tables.{blockCount}
 use Rattle.rules.specs.Pointers.{addressOf, leadsTo}
-use Rattle.rules.specs.Meaning.{Leads}
+use Rattle.laws.specs.Meaning.{Leads}
 use Rattle.rules.specs.Outcomes.{Heap, Outcome}
 use Rattle.rules.specs.Reach.{Reachable, root, edge}
-use Rattle.rules.proofs.Words.{wordAt-same, wordAt-bytesOf}
+use Rattle.laws.proofs.Words.{wordAt-same, wordAt-bytesOf}
 use Rattle.promises.specs.Promises.{Object, blocksOf, Same, Stored}
 use Rattle.promises.proofs.Observed.{same-words, lead-one}
 use Rattle.logs.specs.Log.{lastOf}

@@ -9,13 +9,14 @@ use native.Mathlib.Omega.{arith}
 use lib.Dec.{eqb}
 use borrow.Author.Tests.{ne-eqb}
 use Rattle.rules.specs.Tests.{pick}
-use Rattle.rules.specs.Meaning.{Passed}
+use Rattle.laws.specs.Meaning.{Passed}
 use Rattle.rules.specs.Outcomes.{Heap, onlyRefusal}
 use Rattle.rules.specs.Calls.{survey}
 use Rattle.rules.specs.Runs.{Survey, step}
-use Rattle.rules.specs.Forms.{Form, Faithful}
+use Rattle.rules.specs.Forms.{Form}
+use Rattle.laws.specs.Faithful.{Faithful}
 use Rattle.rules.specs.Memory.{Memory, memory, heapIn, Sound, Result, result, perform}
-use Rattle.rules.proofs.Memory.{Written, follows-accepted, accepted-sound, Performed, acted, left, performed}
+use Rattle.laws.proofs.Memory.{Written, follows-accepted, accepted-sound, Performed, acted, left, performed}
 use Rattle.promises.specs.Conditions.{First, ofSurvey}
 use Rattle.promises.proofs.Promised.{promises}
 use Rattle.promises.proofs.Bytes.{on-bytes}

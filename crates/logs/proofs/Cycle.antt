@@ -16,20 +16,21 @@ use Rattle.rules.specs.Words.{bytesOf, wordsOf}
 use Rattle.rules.specs.Bits.{byteOf}
 use Rattle.rules.specs.Entries.{HEAD, TAIL}
 use Rattle.rules.specs.Tables.{entryAt, used}
-use Rattle.rules.specs.Meaning.{AllBytes, Lowest, Passed, Accepted}
+use Rattle.laws.specs.Meaning.{AllBytes, Lowest, Passed, Accepted}
 use Rattle.rules.specs.Outcomes.{Heap, Answer, Outcome}
 use Rattle.rules.specs.Refusals.{firstOf, wholeWords}
 use Rattle.rules.specs.Reach.{Reachable}
 use Rattle.rules.specs.Calls.{init, collect}
-use Rattle.rules.specs.Forms.{Form, Faithful}
+use Rattle.rules.specs.Forms.{Form}
+use Rattle.laws.specs.Faithful.{Faithful}
 use Rattle.rules.specs.Planes.{plane, planesOf, planes}
 use Rattle.rules.specs.Runs.{Init, Collect, step}
 use Rattle.rules.specs.Memory.{Memory, Result, heapIn, Sound, AcceptedIn, perform}
-use Rattle.rules.proofs.Lists.{bounded-append}
-use Rattle.rules.proofs.Words.{length-bytesOf}
-use Rattle.rules.proofs.Planes.{length-entriesIn, planes-faithful}
-use Rattle.rules.proofs.Tables.{used-le}
-use Rattle.rules.proofs.Memory.{Written, follows-accepted, Performed, acted, left, performed}
+use Rattle.laws.proofs.Lists.{bounded-append}
+use Rattle.laws.proofs.Words.{length-bytesOf}
+use Rattle.laws.proofs.Planes.{length-entriesIn, planes-faithful}
+use Rattle.laws.proofs.Tables.{used-le}
+use Rattle.laws.proofs.Memory.{Written, follows-accepted, Performed, acted, left, performed}
 use Rattle.keeping.specs.Keeping.{Keeps, Proper}
 use Rattle.keeping.proofs.Owners.{owner, reachable-head}
 use Rattle.keeping.proofs.Same.{keeps-one}

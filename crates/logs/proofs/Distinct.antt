@@ -11,10 +11,10 @@ use Rattle.rules.specs.Tests.{count}
 use Rattle.rules.specs.Entries.{FREE, HEAD}
 use Rattle.rules.specs.Tables.{entryAt, isHead, objects}
 use Rattle.rules.specs.Pointers.{addressOf}
-use Rattle.rules.specs.Meaning.{Shape}
+use Rattle.laws.specs.Meaning.{Shape}
 use Rattle.rules.specs.Outcomes.{Heap}
-use Rattle.rules.proofs.Lists.{one, count-set}
-use Rattle.rules.proofs.Tables.{entry-inside, objects-le}
+use Rattle.laws.proofs.Lists.{one, count-set}
+use Rattle.laws.proofs.Tables.{entry-inside, objects-le}
 use Rattle.logs.specs.Chains.{Entry, entryIn, Chain, ends, leads, heads, Distinct, empty, fresh}
 use Rattle.logs.proofs.Chaining.{chain-one, chain-object, distinct-front}
 

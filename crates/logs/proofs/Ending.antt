@@ -8,12 +8,13 @@ use mathlib.Core.Option.{Option, some, none}
 use Prim.Native.Nat.{ℕ, zero, suc, _+_, _≤_}
 use native.Mathlib.Omega.{arith}
 use lib.ListN.{length, length-append}
-use Rattle.rules.specs.Meaning.{AllBytes, Passed}
+use Rattle.laws.specs.Meaning.{AllBytes, Passed}
 use Rattle.rules.specs.Outcomes.{Heap}
-use Rattle.rules.specs.Forms.{Form, Faithful}
+use Rattle.rules.specs.Forms.{Form}
+use Rattle.laws.specs.Faithful.{Faithful}
 use Rattle.rules.specs.Memory.{Memory, memory, heapIn, Sound}
-use Rattle.rules.proofs.Memory.{Written}
-use Rattle.rules.proofs.Refusals.{true-not-false}
+use Rattle.laws.proofs.Memory.{Written}
+use Rattle.laws.proofs.Refusals.{true-not-false}
 use Rattle.promises.specs.Conditions.{First}
 use Rattle.programs.specs.Programs.{Program, Ran, ran, run}
 use Rattle.programs.proofs.OnHeaps.{RanOn, runOn, RunsAs}

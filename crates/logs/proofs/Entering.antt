@@ -11,10 +11,10 @@ use Rattle.rules.specs.Words.{wordAt}
 use Rattle.rules.specs.Entries.{FREE}
 use Rattle.rules.specs.Tables.{entryAt, used}
 use Rattle.rules.specs.Pointers.{addressOf}
-use Rattle.rules.specs.Meaning.{Lowest, Passed, Accepted}
+use Rattle.laws.specs.Meaning.{Lowest, Passed, Accepted}
 use Rattle.rules.specs.Outcomes.{Heap, Answer, Outcome, loaded}
 use Rattle.rules.specs.Calls.{blocksFor, allocate, store}
-use Rattle.rules.proofs.Tables.{entry-inside, well-says}
+use Rattle.laws.proofs.Tables.{entry-inside, well-says}
 use Rattle.promises.specs.Conditions.{First, ofWord}
 use Rattle.promises.specs.Promises.{Object, blocksOf, byteAt, Among, Within, Same, Allocated, Stored}
 use Rattle.promises.proofs.Promised.{promises}

@@ -16,9 +16,9 @@ use Rattle.rules.specs.Words.{wordAt}
 use Rattle.rules.specs.Entries.{HEAD}
 use Rattle.rules.specs.Tables.{entryAt}
 use Rattle.rules.specs.Pointers.{addressOf, targetOf}
-use Rattle.rules.specs.Meaning.{Points, Passed}
+use Rattle.laws.specs.Meaning.{Points, Passed}
 use Rattle.rules.specs.Outcomes.{Heap, Answer}
-use Rattle.rules.proofs.Tables.{entry-inside}
+use Rattle.laws.proofs.Tables.{entry-inside}
 use Rattle.promises.specs.Conditions.{First, ofWord}
 use Rattle.promises.specs.Promises.{Object, blocksOf}
 use Rattle.promises.proofs.Promised.{promises}

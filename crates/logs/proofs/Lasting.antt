@@ -9,15 +9,16 @@ use native.Mathlib.Omega.{arith}
 use Rattle.rules.specs.Words.{wordsOf}
 use Rattle.rules.specs.Tables.{wellFormed}
 use Rattle.rules.specs.Refusals.{goodShape}
-use Rattle.rules.specs.Meaning.{Shape, Passed, Accepted}
+use Rattle.laws.specs.Meaning.{Shape, Passed, Accepted}
 use Rattle.rules.specs.Outcomes.{Heap, Answer}
 use Rattle.rules.specs.Calls.{survey}
-use Rattle.rules.specs.Forms.{Form, Faithful}
+use Rattle.rules.specs.Forms.{Form}
+use Rattle.laws.specs.Faithful.{Faithful}
 use Rattle.rules.specs.Runs.{Call, Init, Allocate, Free, Reallocate, Collect, Survey, Load, Store, WriteImage, OpenImage, step, Turn}
 use Rattle.rules.specs.Memory.{Memory, heapIn, Sound, AcceptedIn, perform, turnIn, afterIn}
-use Rattle.rules.proofs.Refusals.{true-not-false, shape-true, shape-of, shape-lengths}
-use Rattle.rules.proofs.Tables.{well-says, well-of}
-use Rattle.rules.proofs.Memory.{accepted-sound, follows-accepted, kept-by}
+use Rattle.laws.proofs.Refusals.{true-not-false, shape-true, shape-of, shape-lengths}
+use Rattle.laws.proofs.Tables.{well-says, well-of}
+use Rattle.laws.proofs.Memory.{accepted-sound, follows-accepted, kept-by}
 use Rattle.promises.specs.Conditions.{First, ofSurvey}
 use Rattle.promises.specs.Determined.{Sized}
 use Rattle.promises.proofs.Promised.{promises}

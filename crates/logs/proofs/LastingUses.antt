@@ -4,7 +4,8 @@ use mathlib.Core.Path.{refl}
 use mathlib.Core.List.{List, [], _∷_, List·Memᴰ}
 use Prim.Native.Nat.{ℕ}
 use Rattle.rules.specs.Words.{wordsOf}
-use Rattle.rules.specs.Forms.{Form, Faithful}
+use Rattle.rules.specs.Forms.{Form}
+use Rattle.laws.specs.Faithful.{Faithful}
 use Rattle.rules.specs.Runs.{Call, Allocate, Free, Reallocate, Collect, Survey, Load, Store, WriteImage, Turn}
 use Rattle.rules.specs.Memory.{Memory, heapIn, afterIn}
 use Rattle.logs.specs.Chains.{Entry, Chain}

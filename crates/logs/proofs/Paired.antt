@@ -12,9 +12,9 @@ use lib.ListN.{length}
 use borrow.Author.Tests.{eqb-true}
 use Rattle.rules.specs.Entries.{FREE, HEAD, TAIL}
 use Rattle.rules.specs.Tables.{entryAt, isFree, isUsed, blockCount, used}
-use Rattle.rules.specs.Meaning.{Fits, Lowest}
-use Rattle.rules.proofs.Lists.{one, count-cons}
-use Rattle.rules.proofs.Tables.{entry-inside, extent-of, used-le}
+use Rattle.laws.specs.Meaning.{Fits, Lowest}
+use Rattle.laws.proofs.Lists.{one, count-cons}
+use Rattle.laws.proofs.Tables.{entry-inside, extent-of, used-le}
 use Rattle.promises.specs.Promises.{Among}
 
 -- ---- used blocks, and all

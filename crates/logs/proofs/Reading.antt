@@ -11,12 +11,13 @@ use lib.ListN.{length}
 use Rattle.rules.specs.Words.{wordAt}
 use Rattle.rules.specs.Tables.{used}
 use Rattle.rules.specs.Pointers.{addressOf}
-use Rattle.rules.specs.Meaning.{AllBytes, Passed, Accepted}
+use Rattle.laws.specs.Meaning.{AllBytes, Passed, Accepted}
 use Rattle.rules.specs.Outcomes.{Heap, Answer}
 use Rattle.rules.specs.Calls.{free}
-use Rattle.rules.specs.Forms.{Form, Faithful}
+use Rattle.rules.specs.Forms.{Form}
+use Rattle.laws.specs.Faithful.{Faithful}
 use Rattle.rules.specs.Memory.{Memory, heapIn, Sound}
-use Rattle.rules.proofs.Tables.{entry-inside, well-says}
+use Rattle.laws.proofs.Tables.{entry-inside, well-says}
 use Rattle.promises.specs.Conditions.{First, ofFree}
 use Rattle.promises.specs.Promises.{Object, blocksOf}
 use Rattle.promises.proofs.Promised.{promises}

@@ -17,17 +17,18 @@ use Rattle.rules.specs.Entries.{TAIL}
 use Rattle.rules.specs.Tables.{entryAt, mayFollow, wellAfter, wellFormed, used, objects, longest, firstFit}
 use Rattle.rules.specs.Pointers.{addressOf, goodBase}
 use Rattle.rules.specs.Planes.{planeBytes, entryIn, entriesIn, spare, spareFree, plane, planesOf, planes}
-use Rattle.rules.specs.Meaning.{AllBytes, Extent, Lowest, Passed, Accepted}
+use Rattle.laws.specs.Meaning.{AllBytes, Extent, Lowest, Passed, Accepted}
 use Rattle.rules.specs.Outcomes.{Heap, Answer, unlessRefused}
 use Rattle.rules.specs.Refusals.{firstOf, goodShape}
 use Rattle.rules.specs.Calls.{collect, survey}
-use Rattle.rules.specs.Forms.{Form, Faithful}
+use Rattle.rules.specs.Forms.{Form}
+use Rattle.laws.specs.Faithful.{Faithful}
 use Rattle.rules.specs.Runs.{Collect, step, Turn}
 use Rattle.rules.specs.Memory.{Memory, Result, heapIn, Sound, AcceptedIn, orRefused, perform, afterIn}
-use Rattle.rules.proofs.Words.{wordAt-same}
-use Rattle.rules.proofs.Tables.{entry-inside, extent-of, extent-used, count-is, run-apart, objects-apart, first-lowest}
-use Rattle.rules.proofs.Planes.{planes-faithful}
-use Rattle.rules.proofs.Memory.{Follows, follows-sound}
+use Rattle.laws.proofs.Words.{wordAt-same}
+use Rattle.laws.proofs.Tables.{entry-inside, extent-of, extent-used, count-is, run-apart, objects-apart, first-lowest}
+use Rattle.laws.proofs.Planes.{planes-faithful}
+use Rattle.laws.proofs.Memory.{Follows, follows-sound}
 use Rattle.keeping.specs.Keeping.{GoodStack}
 use Rattle.keeping.proofs.Collections.{keeps-exactly}
 use Rattle.promises.specs.Conditions.{Condition, when, First, NoFit}

@@ -10,9 +10,10 @@ use lib.ListN.{length}
 use Rattle.rules.specs.Words.{bytesOf, wordAt}
 use Rattle.rules.specs.Entries.{FREE}
 use Rattle.rules.specs.Tables.{entryAt, used}
-use Rattle.rules.specs.Meaning.{AllBytes, Lowest, Passed}
+use Rattle.laws.specs.Meaning.{AllBytes, Lowest, Passed}
 use Rattle.rules.specs.Outcomes.{Heap}
-use Rattle.rules.specs.Forms.{Form, Faithful}
+use Rattle.rules.specs.Forms.{Form}
+use Rattle.laws.specs.Faithful.{Faithful}
 use Rattle.rules.specs.Runs.{Collect, Survey}
 use Rattle.rules.specs.Memory.{Memory, Result, heapIn, Sound, perform}
 use Rattle.promises.specs.Conditions.{Condition, when, First, NoFit}

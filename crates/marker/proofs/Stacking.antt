@@ -14,8 +14,8 @@ use Rattle.rules.specs.Entries.{HEAD, MARK}
 use Rattle.rules.specs.Tables.{entryAt, startOf}
 use Rattle.rules.specs.Planes.{entriesIn, Holds}
 use Rattle.rules.specs.Marking.{State, marked, pushed}
-use Rattle.rules.proofs.Words.{length-withWord, wordAt-withWord, wordAt-other}
-use Rattle.rules.proofs.Marks.{start-marked}
+use Rattle.laws.proofs.Words.{length-withWord, wordAt-withWord, wordAt-other}
+use Rattle.laws.proofs.Marks.{start-marked}
 use Rattle.marker.specs.declared.Marking.{Marking}
 use Rattle.marker.specs.Variables.{stacked, contextOf, stateOf, Knows, Remembers, Came}
 

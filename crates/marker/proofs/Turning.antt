@@ -12,8 +12,8 @@ use Rattle.rules.specs.Tables.{entryAt, blockCount, startOf}
 use Rattle.rules.specs.Entries.{MARK}
 use Rattle.rules.specs.Planes.{entriesIn, IsTable}
 use Rattle.rules.specs.Marking.{Context, State, state, markedIn, visit, walkWords, walk, drain, trace, markRoot, markRoots, passBlock, passFrom, pass, rescan, markAll}
-use Rattle.rules.proofs.Planes.{same-length}
-use Rattle.rules.proofs.Marking.{words-turn, words-end, roots-turn, pass-walks, pass-turn, pass-end, toDrain, pop-less, walk-measure, drain-pop, drain-nil, toRescan, pass-measure, rescan-more, rescan-done, markAll-from, Sane, sane-pop, sane-walk}
+use Rattle.laws.proofs.Planes.{same-length}
+use Rattle.laws.proofs.Marking.{words-turn, words-end, roots-turn, pass-walks, pass-turn, pass-end, toDrain, pop-less, walk-measure, drain-pop, drain-nil, toRescan, pass-measure, rescan-more, rescan-done, markAll-from, Sane, sane-pop, sane-walk}
 use Rattle.marker.specs.declared.Marking.{Marking}
 use Rattle.marker.specs.Variables.{stacked, contextOf, stateOf, idle, Shape, Came, CanTrace}
 use Rattle.marker.proofs.Stacking.{stacked-length, stacked-pop}

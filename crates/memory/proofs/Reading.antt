@@ -10,7 +10,7 @@ use lib.ListN.{getD}
 use borrow.Author.Tests.{ltb-true, ltb-false, lt-ltb, le-ltb}
 use Rattle.rules.specs.Tests.{pick}
 use Rattle.rules.specs.Bits.{bitOf, bitAt}
-use Rattle.rules.proofs.Bits.{bitOf-zero, bitAt-byte, joined-low, joined-high}
+use Rattle.laws.proofs.Bits.{bitOf-zero, bitAt-byte, joined-low, joined-high}
 use Rattle.memory.specs.Bits.{BitsFrom}
 
 -- no bytes have no bits

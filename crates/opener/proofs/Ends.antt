@@ -11,7 +11,7 @@ use lib.Seq.{sets-eq, length-take-le}
 use borrow.Author.Tests.{eqb-true, ne-eqb}
 use Rattle.rules.specs.Tests.{pick, both, either}
 use Rattle.rules.specs.Tables.{wellFormed}
-use Rattle.rules.specs.Meaning.{AllBytes}
+use Rattle.laws.specs.Meaning.{AllBytes}
 use Rattle.rules.specs.Outcomes.{Heap, openedAt}
 use Rattle.rules.specs.Refusals.{firstOf, firstTests, shortRoots}
 use Rattle.rules.specs.Planes.{planes, heapAt}
@@ -19,11 +19,11 @@ use Rattle.rules.specs.Files.{File as FileOf, sectionTests, fileOf, fileTests, 
 use Rattle.rules.specs.Calls.{goodTarget, openTests, openImage}
 use Rattle.rules.specs.Runs.{Call, OpenImage, step}
 use Rattle.rules.specs.Memory.{Memory, memory, withBuffer, testsIn, perform}
-use Rattle.rules.proofs.Refusals.{refusal-is, first-yes, first-more, accepts}
-use Rattle.rules.proofs.Entries.{length-entriesOf}
-use Rattle.rules.proofs.Planes.{length-entriesIn, planes-faithful, table-sound}
-use Rattle.rules.proofs.Memory.{Passes, tests-passed, left-in, acted-filling}
-use Rattle.rules.proofs.Opening.{Opens, open-passed}
+use Rattle.laws.proofs.Refusals.{refusal-is, first-yes, first-more, accepts}
+use Rattle.laws.proofs.Entries.{length-entriesOf}
+use Rattle.laws.proofs.Planes.{length-entriesIn, planes-faithful, table-sound}
+use Rattle.laws.proofs.Memory.{Passes, tests-passed, left-in, acted-filling}
+use Rattle.laws.proofs.Opening.{Opens, open-passed}
 use Rattle.parser.specs.declared.File.{File}
 use Rattle.parser.specs.Reading.{Says}
 use Rattle.opener.specs.Answers.{opened, unopenedBy}

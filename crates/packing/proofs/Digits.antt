@@ -9,7 +9,7 @@ use lib.Bits.{bitAnd, bitOr, and-zero-r, and-mask, and-block, or-block}
 use lib.Pow.{high, low}
 use Rattle.rules.specs.Words.{twoBytesOf}
 use Rattle.rules.specs.Bits.{bitOf}
-use Rattle.rules.proofs.Bits.{two-bits, bitOf-first, bitOf-shr}
+use Rattle.laws.proofs.Bits.{two-bits, bitOf-first, bitOf-shr}
 use Rattle.packing.specs.Packing.{base4}
 
 -- numbers with the same digits

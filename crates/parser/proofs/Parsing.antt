@@ -9,9 +9,9 @@ use Rattle.rules.specs.Words.{wordAt}
 use Rattle.rules.specs.Tables.{used}
 use Rattle.rules.specs.Refusals.{Test}
 use Rattle.rules.specs.Files.{Kind, oneBase, tableBytes, rootWords, Section as SectionOf, sectionIn, sectionTests, File as FileOf, entriesFor, usedIn, fileOf, faultOf}
-use Rattle.rules.proofs.Entries.{length-entriesOf}
-use Rattle.rules.proofs.Tables.{used-le}
-use Rattle.rules.proofs.Sections.{LiesAt, Left, left-all, left-lies, left-next, fromTable, fromBlocks, fromRoots, fromEnd}
+use Rattle.laws.proofs.Entries.{length-entriesOf}
+use Rattle.laws.proofs.Tables.{used-le}
+use Rattle.laws.proofs.Sections.{LiesAt, Left, left-all, left-lies, left-next, fromTable, fromBlocks, fromRoots, fromEnd}
 use Rattle.parser.specs.declared.Section.{Section}
 use Rattle.parser.specs.declared.File.{File}
 use Rattle.parser.specs.Reading.{Small, Reads, Says}

@@ -12,13 +12,13 @@ use lib.Seq.{getD-set-same, getD-set-other}
 use borrow.Author.Tests.{leb-false}
 use Rattle.rules.specs.Words.{wordAt, withWord}
 use Rattle.rules.specs.Entries.{FREE}
-use Rattle.rules.specs.Meaning.{Extent}
+use Rattle.laws.specs.Meaning.{Extent}
 use Rattle.rules.specs.Outcomes.{Heap, unlessRefused}
 use Rattle.rules.specs.Refusals.{firstOf, goodShape, badShape, outside, noHead, noWord}
 use Rattle.rules.specs.Calls.{init, survey, load, store}
 use Rattle.rules.specs.Runs.{Init, Survey, Load, Store}
-use Rattle.rules.proofs.Words.{length-withWord, wordAt-other}
-use Rattle.rules.proofs.Tables.{count-is}
+use Rattle.laws.proofs.Words.{length-withWord, wordAt-other}
+use Rattle.laws.proofs.Tables.{count-is}
 use Rattle.plain.specs.Objects.{Object, object, Plain}
 use Rattle.plain.specs.Replies.{misplaced, loadedFrom, storedIn, reply}
 use Rattle.plain.proofs.Laid.{Lies, Laid, done}

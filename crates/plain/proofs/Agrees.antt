@@ -13,11 +13,11 @@ use lib.ListN.{length}
 use borrow.Author.Tests.{eq-eqb, ne-eqb, le-leb}
 use Rattle.rules.specs.Pointers.{goodBase}
 use Rattle.rules.specs.Entries.{HEAD}
-use Rattle.rules.specs.Meaning.{AllBytes, Extent}
+use Rattle.laws.specs.Meaning.{AllBytes, Extent}
 use Rattle.rules.specs.Outcomes.{Heap, Outcome, onlyRefusal, changeFrom, leavesWith, unlessRefused}
 use Rattle.rules.specs.Refusals.{Test, firstOf, goodShape, badShape, illFormed, heapTests, outside, noHead}
 use Rattle.rules.specs.Calls.{placing}
-use Rattle.rules.proofs.Refusals.{numbered, first-yes, first-no, first-more, first-less, refuses}
+use Rattle.laws.proofs.Refusals.{numbered, first-yes, first-no, first-more, first-less, refuses}
 use Rattle.plain.specs.Objects.{Object, Plain, find}
 use Rattle.plain.specs.Replies.{Reply, refuse, refuseIf, places, onObject, named, misplaced}
 use Rattle.plain.proofs.Laid.{Lies, Laid, laid-well, Found, missing, there, finds}

@@ -14,16 +14,17 @@ use Rattle.rules.specs.Tests.{pick, both, isNone, orElse}
 use Rattle.rules.specs.Words.{wordsOf}
 use Rattle.rules.specs.Pointers.{goodBase}
 use Rattle.rules.specs.Tables.{used}
-use Rattle.rules.specs.Forms.{Form, Faithful}
-use Rattle.rules.specs.Meaning.{AllBytes}
+use Rattle.rules.specs.Forms.{Form}
+use Rattle.laws.specs.Faithful.{Faithful}
+use Rattle.laws.specs.Meaning.{AllBytes}
 use Rattle.rules.specs.Outcomes.{Answer}
 use Rattle.rules.specs.Refusals.{wholeWords}
 use Rattle.rules.specs.Runs.{Call, Collect, fileIn, startsAnew, Turn, EveryFile}
 use Rattle.rules.specs.Runs as runs
 use Rattle.rules.specs.Memory.{Memory, heapIn, AcceptedIn, perform, turnIn, afterIn, answersIn, filledIn}
-use Rattle.rules.proofs.Below.{allBytes, bytes-below}
-use Rattle.rules.proofs.Refusals.{true-not-false}
-use Rattle.rules.proofs.Memory.{passes-in}
+use Rattle.laws.proofs.Below.{allBytes, bytes-below}
+use Rattle.laws.proofs.Refusals.{true-not-false}
+use Rattle.laws.proofs.Memory.{passes-in}
 use Rattle.plain.specs.Objects.{Object, Plain, end, Rising, done, next}
 use Rattle.plain.specs.Tracing.{isIn, ledTo, trace, among}
 use Rattle.plain.specs.Reaching.{Reachable, root, edge, Keeps}

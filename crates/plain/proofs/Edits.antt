@@ -12,7 +12,7 @@ use borrow.Author.Tests.{eq-eqb, ne-eqb, lt-ltb, le-ltb}
 use Rattle.rules.specs.Words.{wordAt}
 use Rattle.rules.specs.Entries.{FREE}
 use Rattle.rules.specs.Tables.{entryAt}
-use Rattle.rules.specs.Meaning.{Run}
+use Rattle.laws.specs.Meaning.{Run}
 use Rattle.plain.specs.Objects.{Object, end, find, insert, remove, replace}
 use Rattle.plain.proofs.Laid.{Clear, Lies, lies-used, Laid, done, next, laid-room, find-below}
 

@@ -16,10 +16,10 @@ use borrow.Author.Tests.{eq-eqb, ne-eqb, lt-ltb, le-ltb, leb-true, leb-false}
 use Rattle.rules.specs.Tests.{pick, count, leading}
 use Rattle.rules.specs.Entries.{FREE}
 use Rattle.rules.specs.Tables.{entryAt, isFree, isUsed, isHead, freeFrom, aligned, firstFit, used, objects, longest}
-use Rattle.rules.specs.Meaning.{Run, Aligned, Fits, Lowest}
-use Rattle.rules.proofs.Lists.{count-cons, leading-is}
-use Rattle.rules.proofs.Tables.{run-le, run-longest, aligned-of, aligned-says, first-is}
-use Rattle.rules.proofs.Refusals.{true-not-false}
+use Rattle.laws.specs.Meaning.{Run, Aligned, Fits, Lowest}
+use Rattle.laws.proofs.Lists.{count-cons, leading-is}
+use Rattle.laws.proofs.Tables.{run-le, run-longest, aligned-of, aligned-says, first-is}
+use Rattle.laws.proofs.Refusals.{true-not-false}
 use Rattle.plain.specs.Objects.{Object, end, total, find, placeFrom, lowestGap, longestGap, nextStart}
 use Rattle.plain.proofs.Laid.{Clear, Lies, lies-used, Laid, done, next, find-below}
 

@@ -14,14 +14,14 @@ use Rattle.rules.specs.Words.{bytesOf, wordAt}
 use Rattle.rules.specs.Entries.{FREE, HEAD, TAIL}
 use Rattle.rules.specs.Tables.{entryAt}
 use Rattle.rules.specs.Images.{usedFrom, imageOf}
-use Rattle.rules.specs.Meaning.{AllBytes}
+use Rattle.laws.specs.Meaning.{AllBytes}
 use Rattle.rules.specs.Outcomes.{Heap, writtenTo, unlessRefused}
 use Rattle.rules.specs.Refusals.{Test, firstOf, wholeWords, goodRoots, badShape, illFormed, manyRoots, shortBuffer}
 use Rattle.rules.specs.Calls.{writeImage}
 use Rattle.rules.specs.Runs.{WriteImage}
-use Rattle.rules.proofs.Lists.{drop-part}
-use Rattle.rules.proofs.Words.{length-bytesOf, bytesOf-wordAt}
-use Rattle.rules.proofs.Images.{used-append, used-gap, used-run, length-used, length-sections}
+use Rattle.laws.proofs.Lists.{drop-part}
+use Rattle.laws.proofs.Words.{length-bytesOf, bytesOf-wordAt}
+use Rattle.laws.proofs.Images.{used-append, used-gap, used-run, length-used, length-sections}
 use Rattle.plain.specs.Objects.{Object, Plain, end, total}
 use Rattle.plain.specs.Images.{entriesFrom, bytesOfAll, contents, imageOfList}
 use Rattle.plain.specs.Replies.{imageIn, reply}

@@ -17,10 +17,10 @@ use Rattle.rules.specs.Refusals.{goodShape, badShape}
 use Rattle.rules.specs.Calls.{init, openImage}
 use Rattle.rules.specs.Runs.{Call, Init, Allocate, Free, Reallocate, Collect, Survey, Load, Store, WriteImage, OpenImage, startsAnew, step}
 use Rattle.rules.specs.Memory.{Memory, heapIn, lengthsFit, AcceptedIn, perform}
-use Rattle.rules.specs.Meaning.{Shape, Accepted}
-use Rattle.rules.proofs.Refusals.{true-not-false, shape-true, first-last, first-none, accepts, accepted-none, not-false}
-use Rattle.rules.proofs.Opening.{Opens, open-passed}
-use Rattle.rules.proofs.Memory.{perform-accepted, passes-in}
+use Rattle.laws.specs.Meaning.{Shape, Accepted}
+use Rattle.laws.proofs.Refusals.{true-not-false, shape-true, first-last, first-none, accepts, accepted-none, not-false}
+use Rattle.laws.proofs.Opening.{Opens, open-passed}
+use Rattle.laws.proofs.Memory.{perform-accepted, passes-in}
 
 -- the base of a good shape suits as many blocks
 pub shape-base : {base : ℕ} {h : Heap} {n : ℕ} → Shape base h → n ≡ length (h .entries) → goodBase base n ≡ true

@@ -15,8 +15,8 @@ use Rattle.rules.specs.Tests.{pick}
 use Rattle.rules.specs.Words.{wordAt}
 use Rattle.rules.specs.Entries.{FREE, HEAD, TAIL, MARK}
 use Rattle.rules.specs.Tables.{entryAt, wellFormed}
-use Rattle.rules.specs.Meaning.{Extent}
-use Rattle.rules.proofs.Tables.{entry-outside, well-of}
+use Rattle.laws.specs.Meaning.{Extent}
+use Rattle.laws.proofs.Tables.{entry-outside, well-of}
 use Rattle.plain.specs.Objects.{Object, end, find}
 
 -- the b blocks from s on hold these words

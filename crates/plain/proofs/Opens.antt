@@ -16,23 +16,23 @@ use Rattle.rules.specs.Words.{wordsOf}
 use Rattle.rules.specs.Entries.{FREE, HEAD, TAIL}
 use Rattle.rules.specs.Tables.{entryAt, isTail, wellFormed, blockCount}
 use Rattle.rules.specs.Pointers.{goodBase}
-use Rattle.rules.specs.Forms.{Small}
+use Rattle.laws.specs.Faithful.{Small}
 use Rattle.rules.specs.Images.{blockBytes, usedFrom}
-use Rattle.rules.specs.Meaning.{Well}
+use Rattle.laws.specs.Meaning.{Well}
 use Rattle.rules.specs.Outcomes.{Heap, fills, openedAt, unlessRefused}
 use Rattle.rules.specs.Refusals.{Test, firstOf, badShape, illFormed, firstTests, shortRoots}
 use Rattle.rules.specs.Files.{tableBytes, File, sectionTests, fileOf, fileTests, faultOf, entriesFor, baseOf, heapOfFile, rootsOf}
 use Rattle.rules.specs.Calls.{goodTarget, openTests, openImage}
 use Rattle.rules.specs.Runs.{OpenImage}
-use Rattle.rules.proofs.Lists.{leading-is}
-use Rattle.rules.proofs.Entries.{length-entriesOf, entriesOf-lt}
-use Rattle.rules.proofs.Words.{length-wordsOf, getD-wordsOf}
-use Rattle.rules.proofs.Tables.{entry-inside, entry-outside, well-says, extent-of, extent-used}
-use Rattle.rules.proofs.Refusals.{numbered, both-left, both-right, not-false, accepts}
-use Rattle.rules.proofs.Images.{length-block, used-split, used-run}
-use Rattle.rules.proofs.Files.{length-pool, used-pool}
-use Rattle.rules.proofs.Faults.{length-body, Faultless, faultless, no-fault, length-blocks}
-use Rattle.rules.proofs.Opening.{Opens, open-passes}
+use Rattle.laws.proofs.Lists.{leading-is}
+use Rattle.laws.proofs.Entries.{length-entriesOf, entriesOf-lt}
+use Rattle.laws.proofs.Words.{length-wordsOf, getD-wordsOf}
+use Rattle.laws.proofs.Tables.{entry-inside, entry-outside, well-says, extent-of, extent-used}
+use Rattle.laws.proofs.Refusals.{numbered, both-left, both-right, not-false, accepts}
+use Rattle.laws.proofs.Images.{length-block, used-split, used-run}
+use Rattle.laws.proofs.Files.{length-pool, used-pool}
+use Rattle.laws.proofs.Faults.{length-body, Faultless, faultless, no-fault, length-blocks}
+use Rattle.laws.proofs.Opening.{Opens, open-passes}
 use Rattle.plain.specs.Objects.{Object, object, Plain}
 use Rattle.plain.specs.Images.{objectsFrom}
 use Rattle.plain.specs.Replies.{suited, opens, openedIn, reply}

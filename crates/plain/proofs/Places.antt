@@ -13,13 +13,13 @@ use borrow.Author.Tests.{eqb-false}
 use Rattle.rules.specs.Tests.{isNone, orElse}
 use Rattle.rules.specs.Words.{wordAt}
 use Rattle.rules.specs.Tables.{blockCount, firstFit, placed, released}
-use Rattle.rules.specs.Meaning.{Run}
+use Rattle.laws.specs.Meaning.{Run}
 use Rattle.rules.specs.Outcomes.{Heap, unlessRefused, clearedBlocks}
 use Rattle.rules.specs.Refusals.{firstOf, noBytes, outside, noHead, noRoom}
 use Rattle.rules.specs.Calls.{blocksFor, taken, placing, allocate, freed, free}
 use Rattle.rules.specs.Runs.{Allocate, Free}
-use Rattle.rules.proofs.Tables.{count-is, first-fits}
-use Rattle.rules.proofs.Changes.{placed-length, released-length, placed-head, placed-tail, placed-out, released-in, released-out}
+use Rattle.laws.proofs.Tables.{count-is, first-fits}
+use Rattle.laws.proofs.Changes.{placed-length, released-length, placed-head, placed-tail, placed-out, released-in, released-out}
 use Rattle.plain.specs.Objects.{Object, object, Plain, end, find, lowestGap, insert, remove}
 use Rattle.plain.specs.Replies.{places, allocatedAt, reply}
 use Rattle.plain.proofs.Laid.{Clear, Lies, Laid}

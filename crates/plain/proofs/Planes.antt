@@ -20,8 +20,8 @@ use Rattle.rules.specs.Files.{sectionIn, sectionTests, fileOf, fileTests, fault
 use Rattle.rules.specs.Calls.{init, goodTarget, openImage}
 use Rattle.rules.specs.Runs.{Init, OpenImage, step}
 use Rattle.rules.specs.Memory.{Memory, memory, AcceptedIn, orRefused, perform, afterIn, answersIn, filledIn}
-use Rattle.rules.proofs.Memory.{packed-faithful}
-use Rattle.rules.proofs.Planes.{same-length, planes-faithful}
+use Rattle.laws.proofs.Memory.{packed-faithful}
+use Rattle.laws.proofs.Planes.{same-length, planes-faithful}
 use Rattle.plain.specs.Refines.{counted}
 use Rattle.plain.specs.Examples.{runBase, filling, ending, run, garbage, run-accepted, runAnswers, imaging, imageRun, imageFillings, strewn, reopened, openRun, openAnswers, openFillings, spent, spent-accepted}
 use Rattle.plain.proofs.Consequences.{forms-alike, images-alike, summed, used-answered}

@@ -8,14 +8,14 @@ use Prim.Native.Nat.{ℕ, _*_}
 use lib.ListN.{length, replicate, length-replicate}
 use Rattle.rules.specs.Entries.{FREE}
 use Rattle.rules.specs.Outcomes.{Heap}
-use Rattle.rules.specs.Meaning.{AllBytes}
+use Rattle.laws.specs.Meaning.{AllBytes}
 use Rattle.rules.specs.Refusals.{goodShape}
 use Rattle.rules.specs.Calls.{init}
 use Rattle.rules.specs.Runs.{Call, Init, Allocate, Free, Reallocate, Collect, Survey, Load, Store, WriteImage, OpenImage, Turn, EveryFile, next, step, answers, fillings as filledOn}
 use Rattle.rules.specs.Memory.{heapIn, perform, answersIn, filledIn}
-use Rattle.rules.proofs.Refusals.{shape-true}
-use Rattle.rules.proofs.Sizes.{step-keeps}
-use Rattle.rules.proofs.Memory.{passes-in, follows-accepted, answers-in, filled-in}
+use Rattle.laws.proofs.Refusals.{shape-true}
+use Rattle.laws.proofs.Sizes.{step-keeps}
+use Rattle.laws.proofs.Memory.{passes-in, follows-accepted, answers-in, filled-in}
 use Rattle.plain.specs.Objects.{Plain}
 use Rattle.plain.specs.Replies.{reply, replies, fillings}
 use Rattle.plain.specs.Refines.{AnswersAsList, ImagesAsList}

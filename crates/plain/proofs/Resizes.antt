@@ -16,14 +16,14 @@ use Rattle.rules.specs.Tests.{pick, both}
 use Rattle.rules.specs.Words.{wordAt}
 use Rattle.rules.specs.Entries.{TAIL}
 use Rattle.rules.specs.Tables.{entryAt, freeFrom, firstFit, growsInPlace, placed, released, extended}
-use Rattle.rules.specs.Meaning.{Extent, Run}
+use Rattle.laws.specs.Meaning.{Extent, Run}
 use Rattle.rules.specs.Outcomes.{Heap, unlessRefused, clearedBlocks}
 use Rattle.rules.specs.Refusals.{firstOf, noBytes, noRoom}
 use Rattle.rules.specs.Calls.{blocksFor, Way, stay, shrink, grow, isNoWay, shrunk, grown, moved, movesTo, wayToGrow, wayTo, along, reallocate}
 use Rattle.rules.specs.Runs.{Reallocate}
-use Rattle.rules.proofs.Refusals.{both-right}
-use Rattle.rules.proofs.Tables.{count-is, first-fits}
-use Rattle.rules.proofs.Changes.{placed-length, released-length, extended-length, released-in, released-out, extended-in, extended-out}
+use Rattle.laws.proofs.Refusals.{both-right}
+use Rattle.laws.proofs.Tables.{count-is, first-fits}
+use Rattle.laws.proofs.Changes.{placed-length, released-length, extended-length, released-in, released-out, extended-in, extended-out}
 use Rattle.plain.specs.Objects.{Object, object, Plain, end, padded, find, placeFrom, lowestGap, nextStart, insert, remove, replace}
 use Rattle.plain.specs.Replies.{Reply, places, movedInto, resized, reply}
 use Rattle.plain.proofs.Laid.{Clear, Lies, Laid}

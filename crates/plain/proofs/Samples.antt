@@ -15,15 +15,15 @@ use Rattle.rules.specs.Tables.{mayFollow, wellAfter, wellFormed, used}
 use Rattle.rules.specs.Images.{section, sections}
 use Rattle.rules.specs.Pointers.{addressOf, goodBase}
 use Rattle.rules.specs.Planes.{entriesIn, planes}
-use Rattle.rules.specs.Meaning.{AllBytes}
+use Rattle.laws.specs.Meaning.{AllBytes}
 use Rattle.rules.specs.Calls.{blocksFor}
 use Rattle.rules.specs.Outcomes.{onlyRefusal, placedAt}
 use Rattle.rules.specs.Refusals.{firstOf, wholeWords}
 use Rattle.rules.specs.Files.{sectionIn, sectionTests, fileOf, fileTests, faultOf}
 use Rattle.rules.specs.Runs.{Init, Allocate, OpenImage, Turn, EveryFile}
 use Rattle.rules.specs.Memory.{afterIn, answersIn, filledIn}
-use Rattle.rules.proofs.Lists.{bounded-replicate}
-use Rattle.rules.proofs.Planes.{length-entriesIn, planes-faithful}
+use Rattle.laws.proofs.Lists.{bounded-replicate}
+use Rattle.laws.proofs.Planes.{length-entriesIn, planes-faithful}
 use Rattle.plain.specs.Objects.{Object, object, total, find, placeFrom, lowestGap, insert, remove, replace}
 use Rattle.plain.specs.Tracing.{isIn, ledTo, followTo, follow, followAll, emptyFor, empty, subtree, fromRootTo, fromRoots, againFor, trace, among}
 use Rattle.plain.specs.Reaching.{Reachable, root, edge, Keeps}

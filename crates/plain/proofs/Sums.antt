@@ -11,16 +11,17 @@ use native.Mathlib.Omega.{arith}
 use borrow.Author.Tests.{ne-eqb}
 use Rattle.rules.specs.Tables.{used, isUsed}
 use Rattle.rules.specs.Entries.{FREE}
-use Rattle.rules.specs.Forms.{Form, Faithful}
+use Rattle.rules.specs.Forms.{Form}
+use Rattle.laws.specs.Faithful.{Faithful}
 use Rattle.rules.specs.Outcomes.{Heap, Answer, Outcome, onlyRefusal, changeFrom, unlessRefused}
 use Rattle.rules.specs.Calls.{Way, stay, shrink, grow, move, noWay, placing, allocate, free, along, reallocate, collecting, collect, survey, load, store, writeImage, openImage}
 use Rattle.rules.specs.Runs.{Call, Init, Allocate, Free, Reallocate, Collect, Survey, Load, Store, WriteImage, OpenImage, startsAnew, Turn, step}
 use Rattle.rules.specs.Memory.{Memory, Sound, heapIn, AcceptedIn, stackFor, perform, turnIn, afterIn}
-use Rattle.rules.proofs.Lists.{count-none}
-use Rattle.rules.proofs.Calls.{sub-add}
-use Rattle.rules.proofs.Refusals.{true-not-false, both-false, accepts}
-use Rattle.rules.proofs.Opening.{open-passes}
-use Rattle.rules.proofs.Memory.{Ended, accepted, refused, step-ended, Follows, follows-sound, kept-by, passes-in, follows-accepted}
+use Rattle.laws.proofs.Lists.{count-none}
+use Rattle.laws.proofs.Calls.{sub-add}
+use Rattle.laws.proofs.Refusals.{true-not-false, both-false, accepts}
+use Rattle.laws.proofs.Opening.{open-passes}
+use Rattle.laws.proofs.Memory.{Ended, accepted, refused, step-ended, Follows, follows-sound, kept-by, passes-in, follows-accepted}
 use Rattle.plain.specs.Refines.{usedAtStart, counted, changes, UsedIsSum}
 use Rattle.plain.proofs.Inits.{init-accepted, Anew, inits, opened, anew}
 

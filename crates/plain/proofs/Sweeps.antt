@@ -19,8 +19,8 @@ use Rattle.rules.specs.Refusals.{firstOf, wholeWords, badShape, goodLists, illF
 use Rattle.rules.specs.Marking.{Marked, sweep}
 use Rattle.rules.specs.Calls.{collecting, collect}
 use Rattle.rules.specs.Runs.{Collect}
-use Rattle.rules.proofs.Marking.{sweep-length}
-use Rattle.rules.proofs.Marks.{Marks}
+use Rattle.laws.proofs.Marking.{sweep-length}
+use Rattle.laws.proofs.Marks.{Marks}
 use Rattle.keeping.proofs.Swept.{Swept, kept, tail, freed, swept, swept-mark, tail-kept, tail-freed}
 use Rattle.plain.specs.Objects.{Object, Plain, end}
 use Rattle.plain.specs.Tracing.{isIn, Traced, among}

@@ -17,13 +17,13 @@ use Rattle.rules.specs.Words.{wordAt}
 use Rattle.rules.specs.Entries.{FREE, HEAD, MARK}
 use Rattle.rules.specs.Tables.{entryAt, isHead, blockCount, objects}
 use Rattle.rules.specs.Pointers.{addressOf, leadsTo}
-use Rattle.rules.specs.Meaning.{PointsInto, Leads}
+use Rattle.laws.specs.Meaning.{PointsInto, Leads}
 use Rattle.rules.specs.Marking.{Context, State, state, marked, pushed, visitTo, visit, walkWords, walk, drain, trace, rootTo, markRoot, markRoots, passBlock, passFrom, pass, Marked, rescan, markAll}
-use Rattle.rules.proofs.Refusals.{true-not-false}
-use Rattle.rules.proofs.Tables.{count-is}
-use Rattle.rules.proofs.Pointers.{leads-says, leads-one}
-use Rattle.rules.proofs.Marking.{head-inside, objects-mark, toDrain, pop-measure, drain-nil, drain-pop, pass-skips, toRescan, pass-measure, rescan-done, rescan-more}
-use Rattle.rules.proofs.Marks.{Marks, marks-none, marks-more, marks-count, marks-leads}
+use Rattle.laws.proofs.Refusals.{true-not-false}
+use Rattle.laws.proofs.Tables.{count-is}
+use Rattle.laws.proofs.Pointers.{leads-says, leads-one}
+use Rattle.laws.proofs.Marking.{head-inside, objects-mark, toDrain, pop-measure, drain-nil, drain-pop, pass-skips, toRescan, pass-measure, rescan-done, rescan-more}
+use Rattle.laws.proofs.Marks.{Marks, marks-none, marks-more, marks-count, marks-leads}
 use Rattle.plain.specs.Objects.{Object, end, find}
 use Rattle.plain.specs.Tracing.{View, Progress, progress, isIn, addresses, ledTo, mark, push, followTo, follow, followAll, emptyFor, empty, subtree, fromRootTo, fromRoots, goThrough, again, Traced, againFor}
 use Rattle.plain.specs.Tracing as list

@@ -7,8 +7,8 @@ use native.Mathlib.Omega.{arith}
 use lib.ListN.{length, getD, take, drop, replicate, length-append, length-replicate, List·getD-append}
 use lib.Seq.{sets, getD-append-add, getD-take, getD-drop}
 use Rattle.rules.specs.Words.{number, bytesOf, wordAt, withWord}
-use Rattle.rules.proofs.Lists.{sets-out, sets-in}
-use Rattle.rules.proofs.Words.{number-bytesOf, length-bytesOf, wordAt-same}
+use Rattle.laws.proofs.Lists.{sets-out, sets-in}
+use Rattle.laws.proofs.Words.{number-bytesOf, length-bytesOf, wordAt-same}
 
 -- m words stored from word a on
 module _ (pool vs : List ℕ) (a m : ℕ) (whole : length vs ≡ 4 * m) where

@@ -12,8 +12,9 @@ use lib.IntN.{ℤ, pos, _+ℤ_}
 use lib.ListN.{length}
 use Rattle.rules.specs.Tests.{pick, both}
 use Rattle.rules.specs.Tables.{used}
-use Rattle.rules.specs.Forms.{Form, Faithful}
-use Rattle.rules.specs.Meaning.{AllBytes}
+use Rattle.rules.specs.Forms.{Form}
+use Rattle.laws.specs.Faithful.{Faithful}
+use Rattle.laws.specs.Meaning.{AllBytes}
 use Rattle.rules.specs.Outcomes.{Answer}
 use Rattle.rules.specs.Files.{entriesFor, fileOf}
 use Rattle.rules.specs.Runs.{Call, fileIn, startsAnew, Turn, EveryFile}

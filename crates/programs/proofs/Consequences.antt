@@ -10,11 +10,12 @@ use lib.ListN.{length}
 use Rattle.rules.specs.Words.{wordAt, wordsOf}
 use Rattle.rules.specs.Entries.{FREE}
 use Rattle.rules.specs.Tables.{entryAt}
-use Rattle.rules.specs.Forms.{Form, Faithful}
+use Rattle.rules.specs.Forms.{Form}
+use Rattle.laws.specs.Faithful.{Faithful}
 use Rattle.rules.specs.Outcomes.{Answer}
 use Rattle.rules.specs.Runs.{Call, Collect, startsAnew, Turn}
 use Rattle.rules.specs.Memory.{Memory, Result, heapIn, SameBeside, AcceptedIn, perform, afterIn, answersIn}
-use Rattle.rules.proofs.Words.{wordAt-same}
+use Rattle.laws.proofs.Words.{wordAt-same}
 use Rattle.keeping.specs.Keeping.{Agree, butRescans}
 use Rattle.runs.specs.Noninterference.{SameStacks, Alike as CalledAlike, done, next}
 use Rattle.plain.specs.Objects.{Plain}

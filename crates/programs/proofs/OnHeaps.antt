@@ -4,11 +4,12 @@ use mathlib.Core.Path.{_≡_, refl, subst}
 use mathlib.Core.List.{List}
 use Prim.Native.Nat.{ℕ}
 use Rattle.rules.specs.Tests.{pick}
-use Rattle.rules.specs.Forms.{Form, Faithful}
+use Rattle.rules.specs.Forms.{Form}
+use Rattle.laws.specs.Faithful.{Faithful}
 use Rattle.rules.specs.Outcomes.{Heap, Answer, Outcome}
 use Rattle.rules.specs.Runs.{Call, step}
 use Rattle.rules.specs.Memory.{Memory, Result, heapIn, Sound, perform}
-use Rattle.rules.proofs.Memory.{Written, kept-by, follows-sound, sound-next}
+use Rattle.laws.proofs.Memory.{Written, kept-by, follows-sound, sound-next}
 use Rattle.keeping.specs.Keeping.{butRescans}
 use Rattle.runs.specs.Unseen.{collects}
 use Rattle.programs.specs.Programs.{Program, give, ask, Ran, stackAfter, run}

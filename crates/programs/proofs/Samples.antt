@@ -18,7 +18,7 @@ use Rattle.rules.specs.Marking.{pushed, visitTo, visit, walkWords, walk, drainF
 use Rattle.rules.specs.Calls.{blocksFor, collecting, collect, load}
 use Rattle.rules.specs.Runs.{Init, Allocate, Collect, Load, Store, step}
 use Rattle.rules.specs.Memory.{Memory, AcceptedIn, orRefused, perform}
-use Rattle.rules.proofs.Planes.{length-entriesIn, planes-faithful}
+use Rattle.laws.proofs.Planes.{length-entriesIn, planes-faithful}
 use Rattle.runs.specs.Noninterference.{SameStacks}
 use Rattle.runs.specs.Samples.{sampleBase, sampleRoots, firstMemory, secondMemory, thirdMemory}
 use Rattle.runs.proofs.Hypotheses.{stacks-long, stacks-good, also-accepted}

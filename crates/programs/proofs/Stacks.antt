@@ -4,11 +4,12 @@ use mathlib.Core.Path.{_≡_, refl, sym, ap, _∙_}
 use mathlib.Core.List.{List}
 use Prim.Native.Nat.{ℕ}
 use lib.ListN.{length, length-replicate}
-use Rattle.rules.specs.Forms.{Form, Faithful}
+use Rattle.rules.specs.Forms.{Form}
+use Rattle.laws.specs.Faithful.{Faithful}
 use Rattle.rules.specs.Outcomes.{Answer}
 use Rattle.rules.specs.Runs.{Call, Init, Allocate, Free, Reallocate, Collect, Survey, Load, Store, WriteImage, OpenImage, step}
 use Rattle.rules.specs.Memory.{Memory, Result, perform}
-use Rattle.rules.proofs.Memory.{follows-accepted, Performed, acted, left, performed}
+use Rattle.laws.proofs.Memory.{follows-accepted, Performed, acted, left, performed}
 use Rattle.keeping.proofs.Collections.{keeps-exactly}
 use Rattle.runs.specs.Noninterference.{SameStacks, equally-long, both-good}
 use Rattle.programs.specs.Programs.{stackAfter}

@@ -4,7 +4,8 @@
 use mathlib.Core.Path.{_≡_, refl, subst}
 use mathlib.Core.List.{List, [], _∷_}
 use Prim.Native.Nat.{ℕ}
-use Rattle.rules.specs.Forms.{Form, Faithful}
+use Rattle.rules.specs.Forms.{Form}
+use Rattle.laws.specs.Faithful.{Faithful}
 use Rattle.rules.specs.Outcomes.{Answer}
 use Rattle.rules.specs.Runs.{Call, Collect, Turn}
 use Rattle.rules.specs.Memory.{Memory, Result, perform, afterIn, answersIn, filledIn}

@@ -10,7 +10,8 @@ use lib.ListN.{getD}
 use Rattle.rules.specs.Words.{wordsOf}
 use Rattle.rules.specs.Entries.{FREE}
 use Rattle.rules.specs.Tables.{entryAt}
-use Rattle.rules.specs.Forms.{Form, Faithful}
+use Rattle.rules.specs.Forms.{Form}
+use Rattle.laws.specs.Faithful.{Faithful}
 use Rattle.rules.specs.Runs.{Collect}
 use Rattle.rules.specs.Memory.{Memory, Result, heapIn, SameBeside, AcceptedIn, perform}
 use Rattle.keeping.specs.Keeping.{Agree}

@@ -10,17 +10,18 @@ use native.Mathlib.Decide.{ℕ-discrete, decLt}
 use native.Mathlib.Omega.{arith}
 use Rattle.rules.specs.Entries.{HEAD}
 use Rattle.rules.specs.Tables.{entryAt, blockCount}
-use Rattle.rules.specs.Meaning.{Aligned, Accepted}
+use Rattle.laws.specs.Meaning.{Aligned, Accepted}
 use Rattle.rules.specs.Outcomes.{Heap}
-use Rattle.rules.specs.Forms.{Form, Faithful, Small}
+use Rattle.rules.specs.Forms.{Form}
+use Rattle.laws.specs.Faithful.{Faithful, Small}
 use Rattle.rules.specs.Calls.{blocksFor, allocate, free, reallocate, collect}
 use Rattle.rules.specs.Runs.{Call, Init, Allocate, Free, Reallocate, Collect, Survey, Load, Store, WriteImage, OpenImage, Turn, step, FileIs, EveryFile, done, next, startsAnew}
 use Rattle.rules.specs.Memory.{Memory, heapIn, AcceptedIn, perform, turnIn, afterIn}
-use Rattle.rules.proofs.Refusals.{true-not-false, named-resize}
-use Rattle.rules.proofs.Tables.{entry-inside, extent-of}
-use Rattle.rules.proofs.Faults.{no-fault}
-use Rattle.rules.proofs.Opening.{open-passed}
-use Rattle.rules.proofs.Memory.{kept-by, passes-in, follows-accepted}
+use Rattle.laws.proofs.Refusals.{true-not-false, named-resize}
+use Rattle.laws.proofs.Tables.{entry-inside, extent-of}
+use Rattle.laws.proofs.Faults.{no-fault}
+use Rattle.laws.proofs.Opening.{open-passed}
+use Rattle.laws.proofs.Memory.{kept-by, passes-in, follows-accepted}
 use Rattle.keeping.proofs.Owners.{reachable-head}
 use Rattle.keeping.proofs.Collections.{collect-keeps, collect-well}
 use Rattle.promises.specs.Promises.{Object, blocksOf, Among, Same, Allocated, Freed, Reallocated}

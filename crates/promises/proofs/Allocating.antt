@@ -11,15 +11,15 @@ use lib.ListN.{length}
 use borrow.Author.Tests.{eqb-false}
 use Rattle.rules.specs.Tests.{isNone, orElse}
 use Rattle.rules.specs.Tables.{blockCount, firstFit}
-use Rattle.rules.specs.Meaning.{Run, Fits, Lowest, Extent, Passed, Accepted}
+use Rattle.laws.specs.Meaning.{Run, Fits, Lowest, Extent, Passed, Accepted}
 use Rattle.rules.specs.Outcomes.{Heap}
 use Rattle.rules.specs.Refusals.{noBytes, noRoom}
 use Rattle.rules.specs.Calls.{taken, placing, blocksFor, allocate}
-use Rattle.rules.proofs.Refusals.{passed, passes, asks, true-not-false, first-none, first-last, own-tests}
-use Rattle.rules.proofs.Tables.{entry-inside, extent-of, run-apart, first-lowest}
-use Rattle.rules.proofs.Changes.{placed-length, placed-head, placed-tail, placed-out, placed-well, placed-count, placed-apart, placed-other}
-use Rattle.rules.proofs.Pools.{cleared-length, cleared-in, cleared-out}
-use Rattle.rules.proofs.Calls.{blocks-some, allocate-change}
+use Rattle.laws.proofs.Refusals.{passed, passes, asks, true-not-false, first-none, first-last, own-tests}
+use Rattle.laws.proofs.Tables.{entry-inside, extent-of, run-apart, first-lowest}
+use Rattle.laws.proofs.Changes.{placed-length, placed-head, placed-tail, placed-out, placed-well, placed-count, placed-apart, placed-other}
+use Rattle.laws.proofs.Pools.{cleared-length, cleared-in, cleared-out}
+use Rattle.laws.proofs.Calls.{blocks-some, allocate-change}
 use Rattle.promises.specs.Promises.{Object, Same, Allocated}
 use Rattle.promises.proofs.Checked.{startOf, allocate-checked, number, no-refusal, acts}
 use Rattle.promises.proofs.Counting.{counts-of, shape-kept}

@@ -19,15 +19,16 @@ use Rattle.rules.specs.Images.{imageOf}
 use Rattle.rules.specs.Files.{fileOf, rootsOf}
 use Rattle.rules.specs.Calls.{openImage}
 use Rattle.rules.specs.Runs.{Call, Init, Allocate, Free, Reallocate, Collect, Survey, Load, Store, WriteImage, OpenImage, step}
-use Rattle.rules.specs.Forms.{Form, Faithful}
+use Rattle.rules.specs.Forms.{Form}
+use Rattle.laws.specs.Faithful.{Faithful}
 use Rattle.rules.specs.Planes.{planeBytes, entriesIn, spareFree, planesOf, planes, heapAt}
 use Rattle.rules.specs.Memory.{Memory, memory, heapIn, lengthsFit, doneIn, Result, result, withBuffer, AcceptedIn, stackFor, readsTable, faultIn, testsIn, orRefused, perform}
-use Rattle.rules.specs.Meaning.{AllBytes, Shape, Accepted}
-use Rattle.rules.proofs.Refusals.{true-not-false, both-left, both-right, not-true, not-false}
-use Rattle.rules.proofs.Memory.{tests-passed, perform-accepted, passes-in, accepted-sound, Performed, acted, left, performed, packed-faithful, follows-accepted, follows-sound, sound-next}
-use Rattle.rules.proofs.Opening.{open-passed, open-passes}
-use Rattle.rules.proofs.Planes.{length-entriesIn, getD-entriesIn, entryIn-byte, planes-faithful}
-use Rattle.rules.proofs.Agreement.{in-planes, in-packed, planes-agree, call-in-planes, run-in-planes}
+use Rattle.laws.specs.Meaning.{AllBytes, Shape, Accepted}
+use Rattle.laws.proofs.Refusals.{true-not-false, both-left, both-right, not-true, not-false}
+use Rattle.laws.proofs.Memory.{tests-passed, perform-accepted, passes-in, accepted-sound, Performed, acted, left, performed, packed-faithful, follows-accepted, follows-sound, sound-next}
+use Rattle.laws.proofs.Opening.{open-passed, open-passes}
+use Rattle.laws.proofs.Planes.{length-entriesIn, getD-entriesIn, entryIn-byte, planes-faithful}
+use Rattle.laws.proofs.Agreement.{in-planes, in-packed, planes-agree, call-in-planes, run-in-planes}
 use Rattle.promises.specs.Conditions.{Condition, First, when, ofInit, ofAllocate, ofFree, ofReallocate, ofCollect, ofSurvey, ofWord, ofWriteImage}
 use Rattle.promises.specs.Bytes.{OnBytes, AsPacked}
 use Rattle.promises.proofs.Checked.{number as number-of, no-refusal, init-checked, open-checked, acts}

@@ -16,8 +16,8 @@ use Rattle.rules.specs.Marking.{markAll}
 use Rattle.rules.specs.Images.{imageOf}
 use Rattle.rules.specs.Files.{File, fileOf, baseOf, heapOfFile, rootsOf}
 use Rattle.rules.specs.Calls.{Way, stay, shrink, grow, move, noWay, isNoWay, wayOf, allocateTests, reallocateTests, along, placing, taken, freed, blocksFor, init, allocate, free, reallocate, collecting, collect, survey, load, store, imageTests, writeImage, openTests, openImage}
-use Rattle.rules.specs.Meaning.{Accepted}
-use Rattle.rules.proofs.Refusals.{true-not-false, first-none, first-rest, accepts, own-tests}
+use Rattle.laws.specs.Meaning.{Accepted}
+use Rattle.laws.proofs.Refusals.{true-not-false, first-none, first-rest, accepts, own-tests}
 use Rattle.promises.specs.Promises.{Refused}
 
 -- the outcome r is refused by the first of the tests that holds, and else is what the act leaves

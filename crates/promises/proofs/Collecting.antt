@@ -5,11 +5,12 @@ use mathlib.Core.List.{List}
 use Prim.Native.Nat.{ℕ, _+_, _*_}
 use lib.ListN.{length, getD}
 use Rattle.rules.specs.Outcomes.{Heap, Outcome}
-use Rattle.rules.specs.Forms.{Form, Faithful}
+use Rattle.rules.specs.Forms.{Form}
+use Rattle.laws.specs.Faithful.{Faithful}
 use Rattle.rules.specs.Memory.{Memory, heapIn}
 use Rattle.rules.specs.Calls.{collect}
-use Rattle.rules.specs.Meaning.{Shape, Accepted}
-use Rattle.rules.proofs.Calls.{collect-change}
+use Rattle.laws.specs.Meaning.{Shape, Accepted}
+use Rattle.laws.proofs.Calls.{collect-change}
 use Rattle.keeping.specs.Keeping.{Collected}
 use Rattle.keeping.proofs.Collections.{collect-asks, keeps-exactly, collect-less}
 use Rattle.promises.specs.Promises.{Reclaimed}

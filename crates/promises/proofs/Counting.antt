@@ -9,9 +9,9 @@ use lib.ListN.{length}
 use borrow.Author.Tests.{lt-ltb, le-ltb}
 use Rattle.rules.specs.Tables.{used}
 use Rattle.rules.specs.Outcomes.{Heap, Outcome, changeFrom}
-use Rattle.rules.specs.Meaning.{Shape}
-use Rattle.rules.proofs.Tables.{used-le}
-use Rattle.rules.proofs.Calls.{sub-add}
+use Rattle.laws.specs.Meaning.{Shape}
+use Rattle.laws.proofs.Tables.{used-le}
+use Rattle.laws.proofs.Calls.{sub-add}
 use Rattle.promises.specs.Promises.{Counts}
 
 sub-range : (a b m : ℕ) → a ≤ m → b ≤ m → natAbs (subℕ a b) ≤ m

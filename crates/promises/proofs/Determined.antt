@@ -13,10 +13,10 @@ use lib.ListN.{length, getD, take}
 use lib.Seq.{ext-getD}
 use Rattle.rules.specs.Entries.{FREE, TAIL}
 use Rattle.rules.specs.Tables.{entryAt, used}
-use Rattle.rules.specs.Meaning.{Lowest}
+use Rattle.laws.specs.Meaning.{Lowest}
 use Rattle.rules.specs.Outcomes.{Heap, Outcome, onlyRefusal, loaded}
-use Rattle.rules.proofs.Images.{used-nth}
-use Rattle.rules.proofs.Tables.{entry-inside, extent-of, lowest-one, longest-one}
+use Rattle.laws.proofs.Images.{used-nth}
+use Rattle.laws.proofs.Tables.{entry-inside, extent-of, lowest-one, longest-one}
 use Rattle.keeping.specs.Keeping.{Collected}
 use Rattle.keeping.proofs.Same.{keeps-one}
 use Rattle.promises.specs.Conditions.{Condition, First, RoomAfter, fileEntries, rootCount}

@@ -15,7 +15,7 @@ use Rattle.rules.specs.Words.{number, bytesOf, twoBytesOf, firstTwo, wordAt, wi
 use Rattle.rules.specs.Entries.{FREE, entryOf, entriesOf, tableOf}
 use Rattle.rules.specs.Tables.{entryAt, mayFollow, wellAfter, wellFormed, used}
 use Rattle.rules.specs.Pointers.{addressOf, goodBase}
-use Rattle.rules.specs.Meaning.{AllBytes}
+use Rattle.laws.specs.Meaning.{AllBytes}
 use Rattle.rules.specs.Forms.{Form}
 use Rattle.rules.specs.Outcomes.{Heap, Answer, onlyRefusal, openedAt, writtenTo, unlessRefused}
 use Rattle.rules.specs.Refusals.{firstOf, goodShape, wholeWords}
@@ -25,7 +25,7 @@ use Rattle.rules.specs.Calls.{writeImage, openImage}
 use Rattle.rules.specs.Planes.{planeBytes, entryIn, entriesIn, spare, spareFree, plane, planesOf, planes}
 use Rattle.rules.specs.Runs.{WriteImage, OpenImage, step}
 use Rattle.rules.specs.Memory.{Memory, memory, Result, result, filling, withBuffer, AcceptedIn, orRefused, perform}
-use Rattle.rules.proofs.Below.{allBytes, bytes-below}
+use Rattle.laws.proofs.Below.{allBytes, bytes-below}
 use Rattle.promises.specs.Files.{BroughtOver, IsImage, Lends}
 use Rattle.promises.specs.Determined.{Sized}
 use Rattle.promises.proofs.Bytes.{on-bytes, first-at}

@@ -6,13 +6,13 @@ use mathlib.Core.List.{List, []}
 use Prim.Native.Nat.{ℕ, _+_, _-_}
 use native.Mathlib.Omega.{arith}
 use Rattle.rules.specs.Tables.{blockCount}
-use Rattle.rules.specs.Meaning.{Run, Extent, Passed, Named, Accepted}
+use Rattle.laws.specs.Meaning.{Run, Extent, Passed, Named, Accepted}
 use Rattle.rules.specs.Outcomes.{Heap}
 use Rattle.rules.specs.Calls.{freed as freedHeap, placing, blocksFor, free}
-use Rattle.rules.proofs.Refusals.{passed, named-object}
-use Rattle.rules.proofs.Tables.{extent-of, run-shorter}
-use Rattle.rules.proofs.Changes.{released-length, released-in, released-out, freed-well, freed-apart, freed-other}
-use Rattle.rules.proofs.Calls.{free-change}
+use Rattle.laws.proofs.Refusals.{passed, named-object}
+use Rattle.laws.proofs.Tables.{extent-of, run-shorter}
+use Rattle.laws.proofs.Changes.{released-length, released-in, released-out, freed-well, freed-apart, freed-other}
+use Rattle.laws.proofs.Calls.{free-change}
 use Rattle.promises.specs.Promises.{Object, Same, Freed}
 use Rattle.promises.proofs.Checked.{free-checked, no-refusal, acts}
 use Rattle.promises.proofs.Counting.{counts-of, shape-kept}

@@ -10,19 +10,19 @@ use lib.Seq.{ext-getD}
 use Rattle.rules.specs.Words.{bytesOf}
 use Rattle.rules.specs.Entries.{FREE, entriesOf, tableOf}
 use Rattle.rules.specs.Tables.{entryAt, used}
-use Rattle.rules.specs.Forms.{Small}
-use Rattle.rules.specs.Meaning.{Accepted}
+use Rattle.laws.specs.Faithful.{Small}
+use Rattle.laws.specs.Meaning.{Accepted}
 use Rattle.rules.specs.Outcomes.{Heap}
 use Rattle.rules.specs.Planes.{planes}
 use Rattle.rules.specs.Images.{imageOf}
 use Rattle.rules.specs.Calls.{writeImage}
 use Rattle.rules.specs.Runs.{WriteImage, step}
 use Rattle.rules.specs.Memory.{heapIn, Result}
-use Rattle.rules.proofs.Words.{number-bytesOf}
-use Rattle.rules.proofs.Entries.{length-tableOf, getD-tableOf, entriesOf-tableOf}
-use Rattle.rules.proofs.Matching.{Matching}
-use Rattle.rules.proofs.Twice.{image-same}
-use Rattle.rules.proofs.Planes.{length-entriesIn, planes-faithful}
+use Rattle.laws.proofs.Words.{number-bytesOf}
+use Rattle.laws.proofs.Entries.{length-tableOf, getD-tableOf, entriesOf-tableOf}
+use Rattle.laws.proofs.Matching.{Matching}
+use Rattle.laws.proofs.Twice.{image-same}
+use Rattle.laws.proofs.Planes.{length-entriesIn, planes-faithful}
 use Rattle.promises.specs.Promises.{Imaged}
 use Rattle.promises.specs.Images.{SameAllocated, ImageSaysAll}
 use Rattle.promises.proofs.Imaging.{passed, filled-is}

@@ -10,15 +10,15 @@ use borrow.Author.Tests.{ltb-false}
 use Rattle.rules.specs.Words.{bytesOf}
 use Rattle.rules.specs.Entries.{FREE, tableOf}
 use Rattle.rules.specs.Tables.{entryAt, used}
-use Rattle.rules.specs.Meaning.{Passed, Accepted}
+use Rattle.laws.specs.Meaning.{Passed, Accepted}
 use Rattle.rules.specs.Outcomes.{Heap, Outcome}
 use Rattle.rules.specs.Refusals.{firstOf, shortBuffer}
 use Rattle.rules.specs.Images.{section, usedFrom, imageOf}
 use Rattle.rules.specs.Calls.{writeImage}
-use Rattle.rules.proofs.Refusals.{first-none, roots-passed}
-use Rattle.rules.proofs.Entries.{getD-tableOf}
-use Rattle.rules.proofs.Tables.{used-le}
-use Rattle.rules.proofs.Images.{used-at, used-before, length-image, section-low, section-high, section-body, in-base, in-table, in-blocks, in-roots}
+use Rattle.laws.proofs.Refusals.{first-none, roots-passed}
+use Rattle.laws.proofs.Entries.{getD-tableOf}
+use Rattle.laws.proofs.Tables.{used-le}
+use Rattle.laws.proofs.Images.{used-at, used-before, length-image, section-low, section-high, section-body, in-base, in-table, in-blocks, in-roots}
 use Rattle.promises.specs.Promises.{byteAt, Count, packedByte, Imaged}
 use Rattle.promises.proofs.Checked.{acts, no-refusal, image-checked}
 use Rattle.promises.proofs.Storing.{same-heap}

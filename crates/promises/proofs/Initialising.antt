@@ -10,10 +10,10 @@ use Rattle.rules.specs.Tables.{entryAt, isUsed, used}
 use Rattle.rules.specs.Outcomes.{Heap}
 use Rattle.rules.specs.Refusals.{goodShape, badShape}
 use Rattle.rules.specs.Calls.{init}
-use Rattle.rules.specs.Meaning.{Passed, Shape, Accepted}
-use Rattle.rules.proofs.Lists.{count-none}
-use Rattle.rules.proofs.Tables.{well-of}
-use Rattle.rules.proofs.Refusals.{not-false, first-none, shape-true}
+use Rattle.laws.specs.Meaning.{Passed, Shape, Accepted}
+use Rattle.laws.proofs.Lists.{count-none}
+use Rattle.laws.proofs.Tables.{well-of}
+use Rattle.laws.proofs.Refusals.{not-false, first-none, shape-true}
 use Rattle.promises.specs.Promises.{Initialised}
 use Rattle.promises.proofs.Checked.{init-checked, no-refusal, acts}
 use Rattle.promises.proofs.Counting.{shape-kept}

@@ -15,20 +15,21 @@ use Rattle.rules.specs.Words.{number, firstTwo, wordAt}
 use Rattle.rules.specs.Entries.{entryOf, entriesOf}
 use Rattle.rules.specs.Tables.{entryAt, isHead, mayFollow, wellAfter, wellFormed, blockCount, freeFrom, aligned, fits, firstFrom, firstFit, placed, released, used, objects, longest}
 use Rattle.rules.specs.Pointers.{addressOf, goodBase}
-use Rattle.rules.specs.Meaning.{Run, Accepted}
+use Rattle.laws.specs.Meaning.{Run, Accepted}
 use Rattle.rules.specs.Outcomes.{Heap, changeFrom, unlessRefused, clearedBlocks}
 use Rattle.rules.specs.Refusals.{firstOf, goodShape, wholeWords, heapTests}
 use Rattle.rules.specs.Calls.{blocksFor, taken, placing, allocate, freed, free, reallocate, survey, goodTarget, openImage}
 use Rattle.rules.specs.Files.{sectionIn, sectionTests, fileOf, fileTests, faultOf, heapOfFile}
 use Rattle.rules.specs.Planes.{planeBytes, entryIn, entriesIn, spare, spareFree, plane, planesOf, planes}
 use Rattle.rules.specs.Runs.{OpenImage, step, FileIs, Turn, EveryFile, next, startsAnew}
-use Rattle.rules.specs.Forms.{Form, Faithful}
+use Rattle.rules.specs.Forms.{Form}
+use Rattle.laws.specs.Faithful.{Faithful}
 use Rattle.rules.specs.Memory.{Memory, memory, heapIn, AcceptedIn, orRefused, perform, turnIn, afterIn}
 use Rattle.rules.specs.Examples.{small, medium}
-use Rattle.rules.proofs.Below.{allBelow, below}
-use Rattle.rules.proofs.Refusals.{true-not-false, passed}
-use Rattle.rules.proofs.Tables.{entry-inside, aligned-says}
-use Rattle.rules.proofs.Planes.{planes-faithful}
+use Rattle.laws.proofs.Below.{allBelow, below}
+use Rattle.laws.proofs.Refusals.{true-not-false, passed}
+use Rattle.laws.proofs.Tables.{entry-inside, aligned-says}
+use Rattle.laws.proofs.Planes.{planes-faithful}
 use Rattle.promises.specs.Promises.{Object, blocksOf}
 use Rattle.promises.proofs.Promised.{promises}
 use Rattle.promises.proofs.Observed.{free-again, allocate-spare}

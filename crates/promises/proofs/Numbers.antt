@@ -12,16 +12,16 @@ use borrow.Author.Tests.{eqb-true, eqb-false, leb-true, leb-false, ltb-true, ltb
 use Rattle.rules.specs.Tests.{pick, isNone}
 use Rattle.rules.specs.Entries.{HEAD}
 use Rattle.rules.specs.Tables.{entryAt, isHead, wellFormed, blockCount, firstFit}
-use Rattle.rules.specs.Meaning.{Well, Lowest, Shape, Passed, Accepted}
+use Rattle.laws.specs.Meaning.{Well, Lowest, Shape, Passed, Accepted}
 use Rattle.rules.specs.Outcomes.{Heap}
 use Rattle.rules.specs.Refusals.{Test, firstOf, goodShape, badShape, goodRoots, goodLists, illFormed, manyRoots, longStack, shortBuffer, noBytes, outside, noHead, noWord, noRoom, wordTests}
 use Rattle.rules.specs.Calls.{Way, stay, shrink, grow, move, noWay, isNoWay, wayTo, blocksFor, init, allocate, free, reallocate, collect, survey, load, store, wayOf, writeImage}
 use Rattle.rules.specs.Runs.{Call, Init, Allocate, Free, Reallocate, Collect, Survey, Load, Store, WriteImage, OpenImage, step}
-use Rattle.rules.proofs.Refusals.{true-not-false, not-true, not-false, first-yes, first-no, passes, asks, names, shape-true, shape-of, lists-of, lists-say, roots-of, roots-say}
+use Rattle.laws.proofs.Refusals.{true-not-false, not-true, not-false, first-yes, first-no, passes, asks, names, shape-true, shape-of, lists-of, lists-say, roots-of, roots-say}
 use Rattle.rules.specs.Images.{imageOf}
-use Rattle.rules.proofs.Images.{length-image}
-use Rattle.rules.proofs.Tables.{entry-inside, extent-of, well-says, well-of, first-lowest, none-first}
-use Rattle.rules.proofs.Calls.{Ways, stays, shrinks, grows, moves, stuck, way-says, way-is, blocks-some, blocks-enough, blocks-least, blocks-more}
+use Rattle.laws.proofs.Images.{length-image}
+use Rattle.laws.proofs.Tables.{entry-inside, extent-of, well-says, well-of, first-lowest, none-first}
+use Rattle.laws.proofs.Calls.{Ways, stays, shrinks, grows, moves, stuck, way-says, way-is, blocks-some, blocks-enough, blocks-least, blocks-more}
 use Rattle.promises.specs.Conditions.{Condition, when, First, NoFit, NoWay, ofInit, ofAllocate, ofFree, ofReallocate, ofCollect, ofSurvey, ofWord, imageLength, ofWriteImage}
 use Rattle.promises.specs.Promises.{Object, Refused}
 use Rattle.promises.proofs.Checked.{number, refuses, init-checked, allocate-checked, free-checked, reallocate-checked, collect-checked, survey-checked, load-checked, store-checked, image-checked, open-checked}

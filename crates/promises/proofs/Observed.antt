@@ -16,19 +16,20 @@ use Rattle.rules.specs.Words.{number, wordAt, wordsOf}
 use Rattle.rules.specs.Entries.{FREE}
 use Rattle.rules.specs.Tables.{entryAt, used, objects}
 use Rattle.rules.specs.Pointers.{targetOf, leadsTo}
-use Rattle.rules.specs.Meaning.{Points, Leads, Longest, ShapeInBytes, Passed, Accepted}
+use Rattle.laws.specs.Meaning.{Points, Leads, Longest, ShapeInBytes, Passed, Accepted}
 use Rattle.rules.specs.Outcomes.{Heap, Answer, Outcome, placement, collection, findings, onlyRefusal, placedAt, collectedTo, surveyed, loaded, opening, openedAt}
 use Rattle.rules.specs.Reach.{Reachable}
 use Rattle.rules.specs.Calls.{blocksFor, init, allocate, free, reallocate, collect, survey, load, store, writeImage, openImage}
 use Rattle.rules.specs.Runs.{Call, Init, Allocate, Free, Reallocate, Collect, Survey, Load, Store, WriteImage, OpenImage, step}
-use Rattle.rules.specs.Forms.{Form, Faithful}
+use Rattle.rules.specs.Forms.{Form}
+use Rattle.laws.specs.Faithful.{Faithful}
 use Rattle.rules.specs.Planes.{entriesIn, spareFree, planes, heapAt}
 use Rattle.rules.specs.Memory.{Memory, memory, heapIn, lengthsFit, Result, AcceptedIn, readsTable, faultIn, perform}
-use Rattle.rules.proofs.Words.{wordAt-same}
-use Rattle.rules.proofs.Refusals.{true-not-false}
-use Rattle.rules.proofs.Tables.{entry-inside, well-says, run-shorter}
-use Rattle.rules.proofs.Pointers.{points-one, leads-one}
-use Rattle.rules.proofs.Twice.{twin-load}
+use Rattle.laws.proofs.Words.{wordAt-same}
+use Rattle.laws.proofs.Refusals.{true-not-false}
+use Rattle.laws.proofs.Tables.{entry-inside, well-says, run-shorter}
+use Rattle.laws.proofs.Pointers.{points-one, leads-one}
+use Rattle.laws.proofs.Twice.{twin-load}
 use Rattle.keeping.proofs.Owners.{reachable-head}
 use Rattle.promises.specs.Conditions.{when, First, RoomAfter, NoFit, ofInit, ofAllocate, ofFree, ofReallocate, ofCollect, ofSurvey, ofWord, ofWriteImage, baseIn, rootCount, ofOpenImage}
 use Rattle.promises.specs.Promises.{Object, blocksOf, Same, Counts, Surveyed}

@@ -14,20 +14,20 @@ use Rattle.rules.specs.Tests.{both}
 use Rattle.rules.specs.Words.{firstTwo, wordAt}
 use Rattle.rules.specs.Entries.{FREE, entriesOf}
 use Rattle.rules.specs.Tables.{entryAt, used}
-use Rattle.rules.specs.Meaning.{Well, Shape, Accepted}
+use Rattle.laws.specs.Meaning.{Well, Shape, Accepted}
 use Rattle.rules.specs.Outcomes.{Heap, Outcome}
 use Rattle.rules.specs.Refusals.{Test, firstOf, goodShape, badShape, illFormed, shortRoots}
 use Rattle.rules.specs.Images.{blockBytes}
 use Rattle.rules.specs.Files.{Kind, oneBase, tableBytes, rootWords, sectionIn, cutShort, wrongCount, leftOver, sectionTests, File, entriesFor, usedIn, fileOf, fileTests, faultOf, poolOf, baseOf, heapOfFile, rootsOf}
 use Rattle.rules.specs.Calls.{goodTarget, openTests, openImage}
-use Rattle.rules.proofs.Refusals.{true-not-false, both-left, both-right, not-true, not-false, first-yes, first-more, shape-true, shape-of, shape-lengths}
-use Rattle.rules.proofs.Words.{wordAt-same}
-use Rattle.rules.proofs.Entries.{length-entriesOf}
-use Rattle.rules.proofs.Tables.{entry-inside}
-use Rattle.rules.proofs.Images.{block-at, used-before}
-use Rattle.rules.proofs.Files.{pool-block, pool-zero}
-use Rattle.rules.proofs.Faults.{Faultless}
-use Rattle.rules.proofs.Opening.{Opens, open-passed, opened-passed}
+use Rattle.laws.proofs.Refusals.{true-not-false, both-left, both-right, not-true, not-false, first-yes, first-more, shape-true, shape-of, shape-lengths}
+use Rattle.laws.proofs.Words.{wordAt-same}
+use Rattle.laws.proofs.Entries.{length-entriesOf}
+use Rattle.laws.proofs.Tables.{entry-inside}
+use Rattle.laws.proofs.Images.{block-at, used-before}
+use Rattle.laws.proofs.Files.{pool-block, pool-zero}
+use Rattle.laws.proofs.Faults.{Faultless}
+use Rattle.laws.proofs.Opening.{Opens, open-passed, opened-passed}
 use Rattle.promises.specs.Conditions.{Condition, when, First, countAt, baseIn, tableCount, fileEntries, usedCount, blockPlace, rootPlace, rootCount, fileEnd, Suits, ofOpenImage}
 use Rattle.promises.specs.Promises.{byteAt, Opened}
 use Rattle.promises.proofs.Checked.{number, acts, no-refusal, open-checked}

@@ -16,8 +16,8 @@ use Rattle.rules.specs.Runs.{Call, Turn}
 use Rattle.rules.specs.Forms.{Form}
 use Rattle.rules.specs.Planes.{planes}
 use Rattle.rules.specs.Memory.{Memory, heapIn, Result, result, stackFor, faultIn, perform, turnIn, afterIn, answersIn, filledIn}
-use Rattle.rules.proofs.Memory.{kept-by}
-use Rattle.rules.proofs.Sizes.{step-keeps}
+use Rattle.laws.proofs.Memory.{kept-by}
+use Rattle.laws.proofs.Sizes.{step-keeps}
 use Rattle.promises.specs.OtherT.{TurnAt, performAt, afterAt, answersAt, filledAt, ofT, atOtherT, othersAs, OtherTIsRefused}
 use Rattle.promises.proofs.Bytes.{on-bytes, pool-of, first-at}
 

@@ -14,10 +14,10 @@ use lib.Seq.{ext-getD}
 use borrow.Author.Tests.{eqb-true, eq-eqb}
 use Rattle.rules.specs.Bits.{bitOf, bitAt, byteOf}
 use Rattle.rules.specs.Entries.{FREE}
-use Rattle.rules.specs.Meaning.{AllBytes, Shape, ShapeInBytes}
+use Rattle.laws.specs.Meaning.{AllBytes, Shape, ShapeInBytes}
 use Rattle.rules.specs.Planes.{planeBytes, entryIn, entriesIn, spareFree, planesOf, planes, heapAt}
-use Rattle.rules.proofs.Bits.{bitOf-lt, bitOf-zero, bitOf-above, byte-bits}
-use Rattle.rules.proofs.Planes.{length-entriesIn, getD-entriesIn, entryIn-byte, past-free, spare-clean, write-planes}
+use Rattle.laws.proofs.Bits.{bitOf-lt, bitOf-zero, bitOf-above, byte-bits}
+use Rattle.laws.proofs.Planes.{length-entriesIn, getD-entriesIn, entryIn-byte, past-free, spare-clean, write-planes}
 use Rattle.promises.proofs.Initialising.{all-free}
 
 -- ---- the shape

@@ -1,6 +1,6 @@
 -- The promises, all together.
 -- Assumes nothing.
-use Rattle.rules.proofs.Pointers.{target-points, leads-says}
+use Rattle.laws.proofs.Pointers.{target-points, leads-says}
 use Rattle.promises.specs.Promises.{Promises}
 use Rattle.promises.proofs.Numbers.{init-refusal, allocate-refusal, free-refusal, reallocate-refusal, collect-refusal, survey-refusal, load-refusal, store-refusal, image-refusal, rounded-up, allocate-no-room, reallocate-no-room, allocate-larger, reallocate-larger, refused, refused-stack}
 use Rattle.promises.proofs.Initialising.{initialised}

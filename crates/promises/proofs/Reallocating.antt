@@ -10,15 +10,15 @@ use native.Mathlib.Omega.{arith}
 use lib.ListN.{length}
 use borrow.Author.Tests.{eqb-false}
 use Rattle.rules.specs.Tables.{blockCount, used, placed, released}
-use Rattle.rules.specs.Meaning.{Run, Fits, Lowest, GrowsInPlace, Extent, Passed, Named, Accepted}
+use Rattle.laws.specs.Meaning.{Run, Fits, Lowest, GrowsInPlace, Extent, Passed, Named, Accepted}
 use Rattle.rules.specs.Outcomes.{Heap, changeFrom}
 use Rattle.rules.specs.Refusals.{noBytes, outside, noHead, noRoom}
 use Rattle.rules.specs.Calls.{Way, stay, shrink, grow, move, noWay, isNoWay, along, shrunk, grown, moved, placing, blocksFor, reallocate, wayOf}
-use Rattle.rules.proofs.Refusals.{passed, named, true-not-false, first-none, first-rest, own-tests}
-use Rattle.rules.proofs.Tables.{entry-inside, extent-of, run-apart}
-use Rattle.rules.proofs.Changes.{placed-length, placed-out, placed-apart, released-length, released-in, released-out, extended-length, extended-out, freed-apart, shrunk-well, shrunk-count, shrunk-other, grown-well, grown-count, grown-apart, grown-other, moved-well, moved-head, moved-count, moved-other}
-use Rattle.rules.proofs.Pools.{cleared-length, cleared-in, cleared-out, moved-length, moved-out, moved-kept, moved-zero}
-use Rattle.rules.proofs.Calls.{Ways, stays, shrinks, grows, moves, way-says, blocks-some, sub-same, shrink-change, grow-change, move-change}
+use Rattle.laws.proofs.Refusals.{passed, named, true-not-false, first-none, first-rest, own-tests}
+use Rattle.laws.proofs.Tables.{entry-inside, extent-of, run-apart}
+use Rattle.laws.proofs.Changes.{placed-length, placed-out, placed-apart, released-length, released-in, released-out, extended-length, extended-out, freed-apart, shrunk-well, shrunk-count, shrunk-other, grown-well, grown-count, grown-apart, grown-other, moved-well, moved-head, moved-count, moved-other}
+use Rattle.laws.proofs.Pools.{cleared-length, cleared-in, cleared-out, moved-length, moved-out, moved-kept, moved-zero}
+use Rattle.laws.proofs.Calls.{Ways, stays, shrinks, grows, moves, way-says, blocks-some, sub-same, shrink-change, grow-change, move-change}
 use Rattle.promises.specs.Promises.{Object, Same, Reallocated}
 use Rattle.promises.proofs.Checked.{reallocate-checked, no-refusal, acts}
 use Rattle.promises.proofs.Counting.{counts-of, shape-kept}

@@ -11,8 +11,8 @@ use lib.Seq.{take-at}
 use borrow.Author.Tests.{eqb-true, le-ltb}
 use Rattle.rules.specs.Entries.{FREE}
 use Rattle.rules.specs.Tables.{entryAt, used, wellFormed}
-use Rattle.rules.specs.Forms.{Small}
-use Rattle.rules.specs.Meaning.{AllBytes, Passed, Accepted}
+use Rattle.laws.specs.Faithful.{Small}
+use Rattle.laws.specs.Meaning.{AllBytes, Passed, Accepted}
 use Rattle.rules.specs.Outcomes.{Heap, Outcome, openedAt, writtenTo, fills}
 use Rattle.rules.specs.Refusals.{shortBuffer}
 use Rattle.rules.specs.Images.{usedFrom, imageOf}
@@ -21,14 +21,14 @@ use Rattle.rules.specs.Calls.{writeImage, openImage}
 use Rattle.rules.specs.Planes.{planes}
 use Rattle.rules.specs.Runs.{WriteImage, OpenImage, step}
 use Rattle.rules.specs.Memory.{Memory, memory, heapIn, lengthsFit, Result, filling, withBuffer, AcceptedIn, perform}
-use Rattle.rules.proofs.Refusals.{shape-lengths, first-last, roots-pass}
-use Rattle.rules.proofs.Memory.{perform-accepted, passes-in, accepted-sound, follows-accepted}
-use Rattle.rules.proofs.Planes.{length-entriesIn, planes-faithful}
-use Rattle.rules.proofs.Images.{block-at, length-used}
-use Rattle.rules.proofs.Files.{length-pool, pool-used, pool-zero}
-use Rattle.rules.proofs.Faults.{length-body, no-fault}
-use Rattle.rules.proofs.Opening.{Opens, open-passed, open-passes, opened-passed}
-use Rattle.rules.proofs.RoundTrips.{file-image, written, image-file, image-entries, image-base, image-faultless}
+use Rattle.laws.proofs.Refusals.{shape-lengths, first-last, roots-pass}
+use Rattle.laws.proofs.Memory.{perform-accepted, passes-in, accepted-sound, follows-accepted}
+use Rattle.laws.proofs.Planes.{length-entriesIn, planes-faithful}
+use Rattle.laws.proofs.Images.{block-at, length-used}
+use Rattle.laws.proofs.Files.{length-pool, pool-used, pool-zero}
+use Rattle.laws.proofs.Faults.{length-body, no-fault}
+use Rattle.laws.proofs.Opening.{Opens, open-passed, open-passes, opened-passed}
+use Rattle.laws.proofs.RoundTrips.{file-image, written, image-file, image-entries, image-base, image-faultless}
 use Rattle.promises.specs.Files.{WriteThenOpen, OpenThenWrite, IsImage, Lends, OpensExactly, OneFile}
 use Rattle.promises.proofs.Checked.{number, acts, no-refusal, image-checked, open-checked}
 use Rattle.promises.proofs.Imaging.{passed, filled-is}

@@ -17,7 +17,7 @@ use Rattle.rules.specs.Words.{number, bytesOf, firstTwo, wordAt, withWord, word
 use Rattle.rules.specs.Entries.{HEAD}
 use Rattle.rules.specs.Tables.{entryAt, mayFollow, wellAfter, wellFormed, blockCount, startOf, freeFrom, aligned, fits, firstFrom, firstFit, placed, released, extended, used, objects, longest, growsInPlace}
 use Rattle.rules.specs.Pointers.{addressOf, goodBase, targetOf, headsObject, headAt, leadsTo}
-use Rattle.rules.specs.Meaning.{AllBytes, Lowest, Longest, Points, PointsInto, Leads, ShapeInBytes, Passed, Accepted}
+use Rattle.laws.specs.Meaning.{AllBytes, Lowest, Longest, Points, PointsInto, Leads, ShapeInBytes, Passed, Accepted}
 use Rattle.rules.specs.Outcomes.{Heap, Answer, Outcome, onlyRefusal, loaded, surveyed, leaves, changeFrom, unlessRefused, clearedBlocks}
 use Rattle.rules.specs.Refusals.{firstOf, goodShape, wholeWords}
 use Rattle.rules.specs.Reach.{Reachable, root, edge}
@@ -27,11 +27,11 @@ use Rattle.rules.specs.Calls.{blocksFor, taken, placing, init, allocate, freed,
 use Rattle.rules.specs.Runs.{Call, Init, Allocate, Free, Reallocate, Collect, Survey, Load, Store, WriteImage, OpenImage, step, answers}
 use Rattle.rules.specs.Planes.{planeBytes, entryIn, entriesIn, spare, spareFree, planes}
 use Rattle.rules.specs.Memory.{memory, Sound, result, AcceptedIn, perform, afterIn, filledIn}
-use Rattle.rules.proofs.Planes.{length-entriesIn}
-use Rattle.rules.proofs.Memory.{answers-in}
-use Rattle.rules.proofs.Tables.{first-lowest, longest-says, le-run, well-says, extent-of}
-use Rattle.rules.proofs.Pointers.{into-used}
-use Rattle.rules.proofs.Marking.{head-inside}
+use Rattle.laws.proofs.Planes.{length-entriesIn}
+use Rattle.laws.proofs.Memory.{answers-in}
+use Rattle.laws.proofs.Tables.{first-lowest, longest-says, le-run, well-says, extent-of}
+use Rattle.laws.proofs.Pointers.{into-used}
+use Rattle.laws.proofs.Marking.{head-inside}
 use Rattle.promises.specs.Conditions.{First, RoomAfter, ofAllocate, ofFree, ofReallocate, ofCollect, ofWord}
 use Rattle.promises.specs.Promises.{Object, blocksOf, Surveyed}
 use Rattle.promises.specs.OtherT.{TurnAt, turnAt, afterAt, answersAt, filledAt, ofT, atOtherT, othersAs}

@@ -10,13 +10,13 @@ use lib.ListN.{length}
 use borrow.Author.Tests.{leb-false, lt-leb}
 use Rattle.rules.specs.Words.{wordAt, withWord}
 use Rattle.rules.specs.Tables.{blockCount}
-use Rattle.rules.specs.Meaning.{Extent, Passed, Named, Accepted}
+use Rattle.laws.specs.Meaning.{Extent, Passed, Named, Accepted}
 use Rattle.rules.specs.Outcomes.{Heap, Outcome, leaves, loaded, onlyRefusal, unlessRefused}
 use Rattle.rules.specs.Refusals.{firstOf, goodShape, outside, noHead, noWord, wordTests}
 use Rattle.rules.specs.Calls.{survey, load, store}
-use Rattle.rules.proofs.Words.{length-withWord, withWord-in, withWord-out, wordAt-withWord, wordAt-other}
-use Rattle.rules.proofs.Refusals.{passed, passes, named, names, first-none, first-last, first-rest, own-tests}
-use Rattle.rules.proofs.Tables.{entry-inside, extent-of, objects-apart, longest-says}
+use Rattle.laws.proofs.Words.{length-withWord, withWord-in, withWord-out, wordAt-withWord, wordAt-other}
+use Rattle.laws.proofs.Refusals.{passed, passes, named, names, first-none, first-last, first-rest, own-tests}
+use Rattle.laws.proofs.Tables.{entry-inside, extent-of, objects-apart, longest-says}
 use Rattle.promises.specs.Promises.{Object, Same, Loaded, Stored, Surveyed}
 use Rattle.promises.proofs.Checked.{load-checked, store-checked, survey-checked, number, no-refusal, acts}
 use Rattle.promises.proofs.Counting.{shape-kept}

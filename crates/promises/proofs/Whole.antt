@@ -11,7 +11,7 @@ use Rattle.rules.specs.Outcomes.{Heap, Outcome, onlyRefusal, unlessRefused}
 use Rattle.rules.specs.Refusals.{Test, firstOf}
 use Rattle.rules.specs.Calls.{Way, stay, shrink, grow, move, noWay, along, placing, blocksFor, wayOf, collecting}
 use Rattle.rules.specs.Runs.{Call, Init, Allocate, Free, Reallocate, Collect, Survey, Load, Store, WriteImage, OpenImage, step}
-use Rattle.rules.proofs.Sizes.{step-keeps}
+use Rattle.laws.proofs.Sizes.{step-keeps}
 use Rattle.promises.specs.Determined.{SameHeap, Sized, partsOf, Whole}
 use Rattle.promises.proofs.Checked.{Checked, init-checked, allocate-checked, free-checked, reallocate-checked, collect-checked, survey-checked, load-checked, store-checked, image-checked, open-checked}
 

@@ -6,9 +6,10 @@ use mathlib.Core.Logic.{_⊎_}
 use mathlib.Core.Bool.{true}
 use mathlib.Core.List.{List, _∷_}
 use Prim.Native.Nat.{ℕ, _≤_}
-use Rattle.rules.specs.Meaning.{Aligned}
+use Rattle.laws.specs.Meaning.{Aligned}
 use Rattle.rules.specs.Outcomes.{Heap}
-use Rattle.rules.specs.Forms.{Form, Faithful}
+use Rattle.rules.specs.Forms.{Form}
+use Rattle.laws.specs.Faithful.{Faithful}
 use Rattle.rules.specs.Tables.{wellFormed}
 use Rattle.rules.specs.Files.{faultOf, fileOf, heapOfFile}
 use Rattle.rules.specs.Runs.{Turn, EveryFile, startsAnew}

@@ -13,11 +13,12 @@ use Rattle.rules.specs.Outcomes.{Outcome, onlyRefusal}
 use Rattle.rules.specs.Images.{imageOf}
 use Rattle.rules.specs.Files.{fileOf, rootsOf}
 use Rattle.rules.specs.Runs.{Call, Init, Survey, Load, Store, WriteImage, OpenImage, step}
-use Rattle.rules.specs.Forms.{Form, packed, Faithful}
+use Rattle.rules.specs.Forms.{Form, packed}
+use Rattle.laws.specs.Faithful.{Faithful}
 use Rattle.rules.specs.Planes.{planeBytes, entriesIn, spareFree, planes, heapAt}
-use Rattle.rules.specs.Agreement.{HoldSame, FormsAgree, inPlanes, CallInPlanes, RunInPlanes}
+use Rattle.laws.specs.Agreement.{HoldSame, FormsAgree, inPlanes, CallInPlanes, RunInPlanes}
 use Rattle.rules.specs.Memory.{Memory, memory, heapIn, lengthsFit, Sound, doneIn, Result, result, withBuffer, AcceptedIn, stackFor, readsTable, faultIn, perform}
-use Rattle.rules.specs.Meaning.{AllBytes, Shape, ShapeInBytes, Accepted}
+use Rattle.laws.specs.Meaning.{AllBytes, Shape, ShapeInBytes, Accepted}
 use Rattle.promises.specs.Conditions.{First, when}
 
 -- the result of a call is that of the call on the heap, and the memory then holds the heap that is left

@@ -8,7 +8,7 @@ use lib.ListN.{length, getD, take, drop}
 use Rattle.rules.specs.Words.{number}
 use Rattle.rules.specs.Entries.{HEAD, entriesOf}
 use Rattle.rules.specs.Tables.{entryAt, blockCount, used}
-use Rattle.rules.specs.Meaning.{Well, Fits, GrowsInPlace, Shape}
+use Rattle.laws.specs.Meaning.{Well, Fits, GrowsInPlace, Shape}
 use Rattle.rules.specs.Outcomes.{Heap}
 use Rattle.rules.specs.Calls.{blocksFor}
 

@@ -11,9 +11,10 @@ use Rattle.rules.specs.Words.{number, bytesOf, wordsOf}
 use Rattle.rules.specs.Entries.{FREE, HEAD, TAIL}
 use Rattle.rules.specs.Tables.{entryAt, blockCount, used, objects}
 use Rattle.rules.specs.Pointers.{targetOf, leadsTo}
-use Rattle.rules.specs.Meaning.{Points, Leads, Aligned, Lowest, Longest, Passed, Accepted}
+use Rattle.laws.specs.Meaning.{Points, Leads, Aligned, Lowest, Longest, Passed, Accepted}
 use Rattle.rules.specs.Outcomes.{Heap, Outcome, onlyRefusal, loaded}
-use Rattle.rules.specs.Forms.{Form, Faithful}
+use Rattle.rules.specs.Forms.{Form}
+use Rattle.laws.specs.Faithful.{Faithful}
 use Rattle.rules.specs.Memory.{Memory, heapIn}
 use Rattle.rules.specs.Reach.{Reachable}
 use Rattle.rules.specs.Calls.{blocksFor, init, allocate, free, reallocate, collect, survey, load, store, writeImage, openImage}

@@ -12,10 +12,11 @@ use Rattle.rules.specs.Pointers.{targetOf}
 use Rattle.rules.specs.Outcomes.{Answer}
 use Rattle.rules.specs.Calls.{survey, load}
 use Rattle.rules.specs.Runs.{Call, Init, Allocate, Free, Reallocate, Collect, Survey, Load, Store, WriteImage, OpenImage, step}
-use Rattle.rules.specs.Forms.{Form, Faithful}
-use Rattle.rules.specs.Meaning.{AllBytes}
+use Rattle.rules.specs.Forms.{Form}
+use Rattle.laws.specs.Faithful.{Faithful}
+use Rattle.laws.specs.Meaning.{AllBytes}
 use Rattle.rules.specs.Memory.{Memory, Result, AcceptedIn, perform}
-use Rattle.rules.proofs.Refusals.{true-not-false}
+use Rattle.laws.proofs.Refusals.{true-not-false}
 use Rattle.keeping.specs.Keeping.{butRescans}
 use Rattle.runs.specs.Unseen.{collects}
 use Rattle.programs.specs.Programs.{Program, ask, ran, run}

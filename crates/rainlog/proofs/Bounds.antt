@@ -16,17 +16,17 @@ use mir.ValLaws.{toZ-ofZ}
 use Rattle.rules.specs.Tests.{pick, both}
 use Rattle.rules.specs.Pointers.{addressOf, targetOf}
 use Rattle.rules.specs.Outcomes.{Heap}
-use Rattle.rules.specs.Meaning.{Points, Accepted}
+use Rattle.laws.specs.Meaning.{Points, Accepted}
 use Rattle.rules.specs.Calls.{blocksFor, allocate, load}
 use Rattle.rules.specs.Runs.{Call, Allocate, Collect, Load, step}
 use Rattle.rules.specs.Planes.{planes, heapAt}
 use Rattle.rules.specs.Forms.{Form}
 use Rattle.rules.specs.Memory.{Memory, memory, heapIn, doneIn, Result, AcceptedIn, stackFor, perform}
-use Rattle.rules.proofs.Planes.{planes-faithful}
-use Rattle.rules.proofs.Tables.{entry-inside}
-use Rattle.rules.proofs.Sizes.{step-keeps}
-use Rattle.rules.proofs.Refusals.{accepted-none, passed, named-object}
-use Rattle.rules.proofs.Memory.{Performed, acted, left, performed}
+use Rattle.laws.proofs.Planes.{planes-faithful}
+use Rattle.laws.proofs.Tables.{entry-inside}
+use Rattle.laws.proofs.Sizes.{step-keeps}
+use Rattle.laws.proofs.Refusals.{accepted-none, passed, named-object}
+use Rattle.laws.proofs.Memory.{Performed, acted, left, performed}
 use Rattle.promises.specs.Promises.{Allocated}
 use Rattle.promises.proofs.Promised.{promises}
 use Rattle.promises.proofs.Bytes.{on-bytes}

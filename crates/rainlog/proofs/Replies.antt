@@ -14,13 +14,13 @@ use Rattle.rules.specs.Tests.{pick, both}
 use Rattle.rules.specs.Words.{bytesOf}
 use Rattle.rules.specs.Pointers.{addressOf}
 use Rattle.rules.specs.Outcomes.{Answer}
-use Rattle.rules.specs.Meaning.{AllBytes}
+use Rattle.laws.specs.Meaning.{AllBytes}
 use Rattle.rules.specs.Refusals.{wholeWords}
 use Rattle.rules.specs.Runs.{Allocate, Free, Collect, Survey, Load, Store}
 use Rattle.rules.specs.Planes.{planes}
 use Rattle.rules.specs.Memory.{Memory, memory, AcceptedIn, perform}
-use Rattle.rules.proofs.Refusals.{true-not-false}
-use Rattle.rules.proofs.Planes.{planes-faithful}
+use Rattle.laws.proofs.Refusals.{true-not-false}
+use Rattle.laws.proofs.Planes.{planes-faithful}
 use Rattle.programs.specs.Programs.{Program, give, ask, Ran, ran, run}
 use Rattle.logs.specs.Log.{Reply, logged, readout, declined, isAccepted, declineIf, checked, onLog, lastOf, atIndex, join, enter, appendTo, append, readFrom, read, dropFrom, drop}
 use Rattle.heap.specs.Answers.{status, placed, freed, loaded}

@@ -12,7 +12,7 @@ use lib.ListN.{length}
 use borrow.Author.Tests.{eq-eqb, ne-eqb, lt-ltb, le-ltb}
 use Rattle.rules.specs.Tests.{pick, orElse}
 use Rattle.rules.specs.Pointers.{targetOf}
-use Rattle.rules.proofs.Refusals.{true-not-false}
+use Rattle.laws.proofs.Refusals.{true-not-false}
 use Rattle.logs.specs.Log.{Link, linkIn, prepended, lastOf, atIndex}
 use Rattle.logs.specs.Heads.{Loads, linkFrom, headsFrom}
 use Rattle.rainlog.specs.Walks.{Passed, passedBy, pass, Steps, ends, goes, Walked, broken, whole}

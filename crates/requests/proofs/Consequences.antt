@@ -11,10 +11,11 @@ use lib.ListN.{length}
 use Rattle.rules.specs.Words.{wordAt, wordsOf}
 use Rattle.rules.specs.Entries.{FREE}
 use Rattle.rules.specs.Tables.{entryAt, used}
-use Rattle.rules.specs.Forms.{Form, Faithful}
+use Rattle.rules.specs.Forms.{Form}
+use Rattle.laws.specs.Faithful.{Faithful}
 use Rattle.rules.specs.Runs.{Call, Collect, startsAnew, Turn}
 use Rattle.rules.specs.Memory.{Memory, heapIn, SameBeside, AcceptedIn, perform, turnIn, afterIn, answersIn, filledIn}
-use Rattle.rules.proofs.Words.{wordAt-same}
+use Rattle.laws.proofs.Words.{wordAt-same}
 use Rattle.keeping.specs.Keeping.{Agree}
 use Rattle.runs.specs.Noninterference.{SameStacks, Alike as CalledAlike, SameAnswers}
 use Rattle.plain.specs.Objects.{Plain}

@@ -20,7 +20,7 @@ use Rattle.rules.specs.Calls.{blocksFor, taken, placing, allocate, freed, free,
 use Rattle.rules.specs.Runs.{Init, Allocate, Collect, step}
 use Rattle.rules.specs.Memory.{Memory, AcceptedIn, orRefused, perform}
 use Rattle.rules.specs.Examples.{minus}
-use Rattle.rules.proofs.Planes.{length-entriesIn, planes-faithful}
+use Rattle.laws.proofs.Planes.{length-entriesIn, planes-faithful}
 use Rattle.runs.specs.Noninterference.{SameStacks}
 use Rattle.runs.specs.Samples.{sampleBase, sampleRoots, firstMemory, secondMemory}
 use Rattle.runs.proofs.Hypotheses.{stacks-long, stacks-good, also-accepted}

@@ -7,11 +7,12 @@ use mathlib.Core.List.{List, [], _∷_}
 use Prim.Native.Nat.{ℕ}
 use lib.IntN.{ℤ, pos, _+ℤ_, +ℤ-idr, +ℤ-assoc}
 use Rattle.rules.specs.Tables.{used}
-use Rattle.rules.specs.Forms.{Form, Faithful}
+use Rattle.rules.specs.Forms.{Form}
+use Rattle.laws.specs.Faithful.{Faithful}
 use Rattle.rules.specs.Outcomes.{Heap}
 use Rattle.rules.specs.Runs.{Call, startsAnew, Turn, step}
 use Rattle.rules.specs.Memory.{Memory, Result, heapIn, perform, afterIn}
-use Rattle.rules.proofs.Memory.{passes-in, follows-accepted, kept-by}
+use Rattle.laws.proofs.Memory.{passes-in, follows-accepted, kept-by}
 use Rattle.keeping.specs.Keeping.{butRescans}
 use Rattle.promises.proofs.Promised.{promises}
 use Rattle.promises.proofs.Bytes.{on-bytes}

@@ -7,7 +7,8 @@ use Prim.Native.Nat.{ℕ, _/_}
 use lib.Dec.{ltb}
 use lib.ListN.{length}
 use borrow.Author.Tests.{le-ltb}
-use Rattle.rules.specs.Forms.{Form, Faithful}
+use Rattle.rules.specs.Forms.{Form}
+use Rattle.laws.specs.Faithful.{Faithful}
 use Rattle.rules.specs.Refusals.{wholeWords}
 use Rattle.rules.specs.Runs.{Collect}
 use Rattle.rules.specs.Memory.{Memory, perform}

@@ -1,4 +1,4 @@
--- The worked examples 1 to 12, a chain, a rescan and large objects, in heaps of 8, 12 or 16 blocks at base 4,096 (one at 4,112), computed: each call's answer, and the entries, the pool
+-- The worked examples 1 to 12, a chain, a rescan, large objects and a load, in heaps of 8, 12 or 16 blocks at base 4,096 (one at 4,112), computed: each call's answer, and the entries, the pool
 -- and the mark stack it leaves. Entries are written as packed bytes, because that is short; PlaneExamples has the worked examples in the bytes that are lent.
 -- Assumes nothing.
 use mathlib.Core.Path.{_≡_, refl}
@@ -11,10 +11,10 @@ use Rattle.rules.specs.Words.{number, bytesOf, wordAt, wordsOf}
 use Rattle.rules.specs.Entries.{entryOf, entriesOf, tableOf}
 use Rattle.rules.specs.Tables.{mayFollow, wellAfter, wellFormed, blockCount, startOf, freeFrom, aligned, fits, firstFrom, firstFit, growsInPlace, placed, released, extended, used, objects, longest}
 use Rattle.rules.specs.Pointers.{addressOf, goodBase, targetOf, headsObject, headAt, leadsTo}
-use Rattle.rules.specs.Outcomes.{Heap, Answer, Outcome, heapOf, onlyRefusal, changeFrom, placedAt, collectedTo, surveyed, unlessRefused, clearedBlocks}
+use Rattle.rules.specs.Outcomes.{Heap, Answer, Outcome, heapOf, onlyRefusal, changeFrom, placedAt, collectedTo, surveyed, loaded, unlessRefused, clearedBlocks}
 use Rattle.rules.specs.Refusals.{firstOf, goodShape, wholeWords}
 use Rattle.rules.specs.Marking.{pushed, visitTo, visit, walkWords, walk, drainFor, drain, trace, rootTo, markRoot, markRoots, passBlock, passFrom, pass, rescanFor, rescan, markAll, sweptEntry, freeingAfter, sweepFrom, sweep}
-use Rattle.rules.specs.Calls.{blocksFor, taken, placing, allocate, freed, free, shrunk, grown, moved, movesTo, wayToGrow, wayTo, along, reallocate, collecting, collect, survey}
+use Rattle.rules.specs.Calls.{blocksFor, taken, placing, allocate, freed, free, shrunk, grown, moved, movesTo, wayToGrow, wayTo, along, reallocate, collecting, collect, survey, load}
 
 -- what an example shows of an outcome: the answer, the entries as a packed table, the pool and the mark stack
 pub record Shown : Type 0 where
@@ -144,10 +144,12 @@ examples =
     ∷ example (free 4096 (small 165 86) 1) (placedAt 0 (minus 4)) (1 ∷ 84 ∷ []) stale
     ∷ example (allocate 4096 (small 1 84) 64) (onlyRefusal 9) (1 ∷ 84 ∷ []) stale
     ∷ example (survey 4096 (small 1 84)) (surveyed 4 4 4) (1 ∷ 84 ∷ []) stale
+    -- the last word of an object of one block, whose bytes are 5; behind it they are 7
+    ∷ example (load 4096 (small 1 0) 0 3) (loaded 0x0505_0505) (1 ∷ 0 ∷ []) stale
     ∷ []
 
 -- there are so many
-pub examples-number : length examples ≡ 43
+pub examples-number : length examples ≡ 44
 unfolding examples
 examples-number = refl
 
@@ -158,5 +160,5 @@ words-hold = (refl, refl)
 
 -- every example is as it should be
 pub examples-hold : map (λ (x : Example). x .is) examples ≡ map (λ (x : Example). x .ought) examples
-unfolding examples count leading tabulate number bytesOf wordAt wordsOf entryOf entriesOf tableOf mayFollow wellAfter wellFormed blockCount startOf freeFrom aligned fits firstFrom firstFit growsInPlace placed released extended used objects longest addressOf goodBase targetOf headsObject headAt leadsTo changeFrom unlessRefused clearedBlocks firstOf goodShape wholeWords pushed visitTo visit walkWords walk drainFor drain trace rootTo markRoot markRoots passBlock passFrom pass rescanFor rescan markAll sweptEntry freeingAfter sweepFrom sweep blocksFor taken placing allocate freed free shrunk grown moved movesTo wayToGrow wayTo along reallocate collecting collect survey
+unfolding examples count leading tabulate number bytesOf wordAt wordsOf entryOf entriesOf tableOf mayFollow wellAfter wellFormed blockCount startOf freeFrom aligned fits firstFrom firstFit growsInPlace placed released extended used objects longest addressOf goodBase targetOf headsObject headAt leadsTo changeFrom unlessRefused clearedBlocks firstOf goodShape wholeWords pushed visitTo visit walkWords walk drainFor drain trace rootTo markRoot markRoots passBlock passFrom pass rescanFor rescan markAll sweptEntry freeingAfter sweepFrom sweep blocksFor taken placing allocate freed free shrunk grown moved movesTo wayToGrow wayTo along reallocate collecting collect survey load
 examples-hold = refl

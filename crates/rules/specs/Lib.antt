@@ -15,8 +15,6 @@ pub mod Runs
 pub mod Forms
 pub mod Planes
 pub mod Memory
-pub mod Agreement
-pub mod Meaning
 pub mod Examples
 pub mod Orders
 pub mod PlaneExamples

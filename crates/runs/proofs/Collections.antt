@@ -14,14 +14,14 @@ use borrow.Author.Tests.{le-ltb}
 use Rattle.rules.specs.Words.{wordsOf}
 use Rattle.rules.specs.Entries.{FREE}
 use Rattle.rules.specs.Tables.{entryAt, wellFormed}
-use Rattle.rules.specs.Forms.{Small}
+use Rattle.laws.specs.Faithful.{Small}
 use Rattle.rules.specs.Outcomes.{Heap}
 use Rattle.rules.specs.Refusals.{wholeWords}
 use Rattle.rules.specs.Calls.{collecting, collect}
 use Rattle.rules.specs.Runs.{Collect}
-use Rattle.rules.specs.Meaning.{Accepted}
-use Rattle.rules.proofs.Matching.{SameByte, Matching, match-sets}
-use Rattle.rules.proofs.Twice.{heap, unless-both, shape-same}
+use Rattle.laws.specs.Meaning.{Accepted}
+use Rattle.laws.proofs.Matching.{SameByte, Matching, match-sets}
+use Rattle.laws.proofs.Twice.{heap, unless-both, shape-same}
 use Rattle.keeping.specs.Keeping.{collected, Agree}
 use Rattle.keeping.proofs.Kept.{collected-used}
 use Rattle.keeping.proofs.Alike.{agree-words, marking-alike, collected-alike, collected-bytes}

@@ -15,7 +15,7 @@ use Rattle.rules.specs.Forms.{Form}
 use Rattle.rules.specs.Outcomes.{Answer}
 use Rattle.rules.specs.Runs.{Call, Turn}
 use Rattle.rules.specs.Memory.{Memory, afterIn, answersIn, filledIn}
-use Rattle.rules.proofs.Words.{wordAt-same}
+use Rattle.laws.proofs.Words.{wordAt-same}
 use Rattle.keeping.specs.Keeping.{withRescans, butRescans}
 use Rattle.runs.specs.Noninterference.{SameAnswer, equal, but-rescans, SameAnswers, done, next, Indistinct}
 use Rattle.runs.specs.Unseen.{stackLengths, collects}

@@ -10,12 +10,12 @@ use lib.ListN.{getD}
 use Rattle.rules.specs.Words.{wordsOf}
 use Rattle.rules.specs.Entries.{FREE}
 use Rattle.rules.specs.Tables.{entryAt}
-use Rattle.rules.specs.Forms.{Small}
+use Rattle.laws.specs.Faithful.{Small}
 use Rattle.rules.specs.Outcomes.{Heap}
 use Rattle.rules.specs.Runs.{Call, Init, Allocate, Free, Reallocate, Collect, Survey, Load, Store, WriteImage, OpenImage, step, Turn, after, answers, fillings}
-use Rattle.rules.specs.Meaning.{Accepted}
-use Rattle.rules.proofs.Matching.{Matching}
-use Rattle.rules.proofs.Twice.{heap, twin-init, twin-allocate, twin-free, twin-reallocate, twin-survey, twin-load, twin-store, twin-image, twin-open}
+use Rattle.laws.specs.Meaning.{Accepted}
+use Rattle.laws.proofs.Matching.{Matching}
+use Rattle.laws.proofs.Twice.{heap, twin-init, twin-allocate, twin-free, twin-reallocate, twin-survey, twin-load, twin-store, twin-image, twin-open}
 use Rattle.keeping.specs.Keeping.{Agree}
 use Rattle.runs.specs.Noninterference.{SameStacks, turn, Alike, done, next, SameAnswers}
 use Rattle.runs.proofs.Same.{Same, same-twin}

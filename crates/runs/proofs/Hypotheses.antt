@@ -7,22 +7,23 @@ use Prim.Native.Nat.{ℕ, _+_, _*_, _≤_, _<_}
 use native.Mathlib.Omega.{arith}
 use lib.ListN.{length, getD}
 use Rattle.rules.specs.Tables.{blockCount}
-use Rattle.rules.specs.Forms.{Form, Faithful}
+use Rattle.rules.specs.Forms.{Form}
+use Rattle.laws.specs.Faithful.{Faithful}
 use Rattle.rules.specs.Outcomes.{Heap}
 use Rattle.rules.specs.Refusals.{firstOf, collectionTests}
 use Rattle.rules.specs.Reach.{Reachable}
 use Rattle.rules.specs.Calls.{collecting, collect}
 use Rattle.rules.specs.Runs.{Call, Collect, step, Turn}
-use Rattle.rules.specs.Meaning.{Accepted}
+use Rattle.laws.specs.Meaning.{Accepted}
 use Rattle.rules.specs.Memory.{Memory, SameBeside, AcceptedIn, perform}
-use Rattle.rules.proofs.Refusals.{accepts, accepted-none}
-use Rattle.rules.proofs.Twice.{heap, shape-same}
+use Rattle.laws.proofs.Refusals.{accepts, accepted-none}
+use Rattle.laws.proofs.Twice.{heap, shape-same}
 use Rattle.keeping.specs.Keeping.{Agree}
 use Rattle.keeping.proofs.Collections.{acted, collect-from}
 use Rattle.runs.specs.Noninterference.{SameStacks, equally-long, both-good, turn, Alike, done, next}
 use Rattle.runs.specs.Unseen.{callsOf, stackLengths}
 use Rattle.runs.proofs.Collections.{stacks-whole, stacks-short}
-use Rattle.rules.proofs.Memory.{sound-beside, accepted-sound, refusal-in}
+use Rattle.laws.proofs.Memory.{sound-beside, accepted-sound, refusal-in}
 
 -- ---- mark stacks
 

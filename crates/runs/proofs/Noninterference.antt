@@ -3,11 +3,12 @@
 -- Assumes nothing.
 use mathlib.Core.Path.{_≡_, refl, sym, ap, subst, _∙_}
 use mathlib.Core.List.{List, _∷_}
-use Rattle.rules.specs.Forms.{Form, Faithful}
+use Rattle.rules.specs.Forms.{Form}
+use Rattle.laws.specs.Faithful.{Faithful}
 use Rattle.rules.specs.Outcomes.{Heap}
 use Rattle.rules.specs.Runs.{Collect, Turn, after}
 use Rattle.rules.specs.Memory.{Memory, heapIn, Sound, AcceptedIn, turnIn, afterIn}
-use Rattle.rules.proofs.Memory.{Written, follows-sound, answers-in, filled-in, after-in, after-written, accepted-sound, refusal-in}
+use Rattle.laws.proofs.Memory.{Written, follows-sound, answers-in, filled-in, after-in, after-written, accepted-sound, refusal-in}
 use Rattle.runs.specs.Noninterference.{Indistinct, Noninterference}
 use Rattle.runs.proofs.Heaps.{SameUsed, SameHeaps, heaps-same}
 

@@ -4,12 +4,13 @@ use mathlib.Core.Path.{_≡_, sym, ap, subst, _∙_}
 use mathlib.Core.List.{List, _∷_}
 use Prim.Native.Nat.{ℕ}
 use Rattle.rules.specs.Words.{wordsOf}
-use Rattle.rules.specs.Forms.{Form, Faithful}
+use Rattle.rules.specs.Forms.{Form}
+use Rattle.laws.specs.Faithful.{Faithful}
 use Rattle.rules.specs.Outcomes.{Heap}
 use Rattle.rules.specs.Runs.{Collect, step, Turn, after}
-use Rattle.rules.specs.Meaning.{Accepted}
+use Rattle.laws.specs.Meaning.{Accepted}
 use Rattle.rules.specs.Memory.{Memory, heapIn, SameBeside, Sound, afterIn}
-use Rattle.rules.proofs.Memory.{answers-in, filled-in, after-in, refusal-in}
+use Rattle.laws.proofs.Memory.{answers-in, filled-in, after-in, refusal-in}
 use Rattle.keeping.specs.Keeping.{Agree}
 use Rattle.runs.specs.Noninterference.{turn, Alike, Indistinct}
 use Rattle.runs.proofs.Heaps.{SameUsed, SameHeaps}

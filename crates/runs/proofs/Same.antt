@@ -5,8 +5,8 @@ use mathlib.Core.List.{List}
 use Prim.Native.Nat.{ℕ}
 use Rattle.rules.specs.Outcomes.{Outcome}
 use Rattle.rules.specs.Runs.{Call}
-use Rattle.rules.proofs.Matching.{Matching}
-use Rattle.rules.proofs.Twice.{Twin}
+use Rattle.laws.proofs.Matching.{Matching}
+use Rattle.laws.proofs.Twice.{Twin}
 use Rattle.runs.specs.Noninterference.{SameAnswer, equal}
 
 pub record Same (call : Call) (stack stack′ : List ℕ) (x y : Outcome) : Type 0 where

@@ -25,9 +25,9 @@ use Rattle.rules.specs.Images.{section, sections, blockBytes, usedFrom, imageOf
 use Rattle.rules.specs.Files.{sectionIn, sectionTests, fileOf, fileTests, faultOf, poolOf}
 use Rattle.rules.specs.Runs.{Turn, step}
 use Rattle.rules.specs.Memory.{Memory, heapIn, AcceptedIn, orRefused, perform, turnIn, afterIn, answersIn, filledIn}
-use Rattle.rules.proofs.Below.{allBelow, below}
-use Rattle.rules.proofs.Marking.{head-inside}
-use Rattle.rules.proofs.Planes.{planes-faithful}
+use Rattle.laws.proofs.Below.{allBelow, below}
+use Rattle.laws.proofs.Marking.{head-inside}
+use Rattle.laws.proofs.Planes.{planes-faithful}
 use Rattle.keeping.specs.Keeping.{marking, collected, Agree}
 use Rattle.keeping.proofs.Owners.{reachable-head}
 use Rattle.keeping.proofs.Kept.{collected-kept}

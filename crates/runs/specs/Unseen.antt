@@ -10,7 +10,8 @@ use lib.ListN.{length}
 use Rattle.rules.specs.Words.{wordAt, wordsOf}
 use Rattle.rules.specs.Entries.{FREE}
 use Rattle.rules.specs.Tables.{entryAt}
-use Rattle.rules.specs.Forms.{Form, Faithful}
+use Rattle.rules.specs.Forms.{Form}
+use Rattle.laws.specs.Faithful.{Faithful}
 use Rattle.rules.specs.Runs.{Call, Init, Allocate, Free, Reallocate, Collect, Survey, Load, Store, WriteImage, OpenImage, Turn}
 use Rattle.rules.specs.Memory.{Memory, heapIn, SameBeside, AcceptedIn, perform, afterIn, answersIn, filledIn}
 use Rattle.keeping.specs.Keeping.{Agree}

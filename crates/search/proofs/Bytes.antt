@@ -13,8 +13,8 @@ use Rattle.rules.specs.Tests.{pick}
 use Rattle.rules.specs.Bits.{bitOf}
 use Rattle.rules.specs.Entries.{FREE}
 use Rattle.rules.specs.Tables.{entryAt}
-use Rattle.rules.specs.Meaning.{Run}
-use Rattle.rules.proofs.Bits.{eight, bitOf-lt, bitOf-zero, bitOf-and, bitOf-or, bitOf-shr, bitOf-shl, bitOf-ones, bitOf-mod}
+use Rattle.laws.specs.Meaning.{Run}
+use Rattle.laws.proofs.Bits.{eight, bitOf-lt, bitOf-zero, bitOf-and, bitOf-or, bitOf-shr, bitOf-shl, bitOf-ones, bitOf-mod}
 use Rattle.entries.specs.Groups.{FreeByte}
 use Rattle.search.specs.Starts.{NoStart, MayStart, StartsIn}
 

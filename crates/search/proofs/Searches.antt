@@ -15,10 +15,10 @@ use borrow.Author.Tests.{eqb-true, eq-eqb}
 use Rattle.rules.specs.Tests.{pick}
 use Rattle.rules.specs.Bits.{bitOf}
 use Rattle.rules.specs.Entries.{FREE, HEAD}
-use Rattle.rules.specs.Meaning.{Aligned, Run, Fits}
-use Rattle.rules.proofs.Refusals.{true-not-false}
-use Rattle.rules.proofs.Below.{equal-below}
-use Rattle.rules.proofs.Bits.{bitOf-lt, bitOf-zero, bitOf-and, bitOf-shr, bitOf-shl, bitOf-below, bitOf-ones, bitOf-mod, bitOf-not}
+use Rattle.laws.specs.Meaning.{Aligned, Run, Fits}
+use Rattle.laws.proofs.Refusals.{true-not-false}
+use Rattle.laws.proofs.Below.{equal-below}
+use Rattle.laws.proofs.Bits.{bitOf-lt, bitOf-zero, bitOf-and, bitOf-shr, bitOf-shl, bitOf-below, bitOf-ones, bitOf-mod, bitOf-not}
 use Rattle.freeruns.specs.Rows.{FreeIn, Zeros, RowStarts}
 use Rattle.search.specs.Starts.{NoStart, Starts, Next, FreeFor}
 use Rattle.freeruns.proofs.Rows.{ALL, low-bit, high-bit, first-lt, set-lt}

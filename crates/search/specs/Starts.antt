@@ -8,7 +8,7 @@ use Prim.Native.Nat.{ℕ, _+_, _*_, _^_, _≤_, _<_}
 use lib.ListN.{length, getD}
 use Rattle.rules.specs.Bits.{bitOf}
 use Rattle.rules.specs.Entries.{FREE, HEAD}
-use Rattle.rules.specs.Meaning.{Aligned, Fits, Run}
+use Rattle.laws.specs.Meaning.{Aligned, Fits, Run}
 use Rattle.entries.specs.Groups.{FreeByte}
 
 -- nowhere from block s on and before block e may b blocks start

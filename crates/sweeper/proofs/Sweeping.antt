@@ -11,7 +11,7 @@ use Rattle.rules.specs.Tests.{count}
 use Rattle.rules.specs.Entries.{FREE}
 use Rattle.rules.specs.Tables.{isFree, used}
 use Rattle.rules.specs.Marking.{sweptEntry, freeingAfter, sweepFrom, sweep}
-use Rattle.rules.proofs.Lists.{one, count-cons}
+use Rattle.laws.proofs.Lists.{one, count-cons}
 
 -- a FREE entry stays FREE
 entry-swept : (f : Bool) (e : ℕ) → one (not (isFree (sweptEntry f e))) ≤ one (not (isFree e))

@@ -11,16 +11,16 @@ use lib.Seq.{sets, length-sets, ext-getD, take-add, drop-drop, getD-take, getD-d
 use lib.Bits.{bitAnd}
 use borrow.Author.Tests.{eq-eqb, ne-eqb}
 use Rattle.rules.specs.Words.{bytesOf, wordAt}
-use Rattle.rules.specs.Meaning.{AllBytes}
+use Rattle.laws.specs.Meaning.{AllBytes}
 use Rattle.rules.specs.Tests.{tabulate}
 use Rattle.rules.specs.Bits.{bitOf}
 use Rattle.rules.specs.Entries.{FREE}
 use Rattle.rules.specs.Tables.{entryAt, isFree}
 use Rattle.rules.specs.Images.{blockBytes, usedFrom}
-use Rattle.rules.proofs.Lists.{length-tabulate, getD-tabulate, sets-append, sets-next}
-use Rattle.rules.proofs.Words.{length-bytesOf, bytesOf-wordAt}
-use Rattle.rules.proofs.Bits.{LowestBit, lowest-gone, lowest-others, lowest-less}
-use Rattle.rules.proofs.Images.{used-split, used-first, used-alike}
+use Rattle.laws.proofs.Lists.{length-tabulate, getD-tabulate, sets-append, sets-next}
+use Rattle.laws.proofs.Words.{length-bytesOf, bytesOf-wordAt}
+use Rattle.laws.proofs.Bits.{LowestBit, lowest-gone, lowest-others, lowest-less}
+use Rattle.laws.proofs.Images.{used-split, used-first, used-alike}
 use Rattle.entries.specs.Groups.{InGroup}
 use Rattle.freeruns.specs.Rows.{Zeros}
 use Rattle.freeruns.proofs.Rows.{first-lt}

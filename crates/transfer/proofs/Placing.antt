@@ -16,9 +16,9 @@ use Rattle.rules.specs.Entries.{FREE}
 use Rattle.rules.specs.Tables.{entryAt, isFree, isUsed, used}
 use Rattle.rules.specs.Images.{blockBytes}
 use Rattle.rules.specs.Files.{poolOf}
-use Rattle.rules.proofs.Lists.{sets-append, sets-next, sets-over, sets-all, one, count-append, count-all, count-none, count-set}
-use Rattle.rules.proofs.Tables.{entry-inside}
-use Rattle.rules.proofs.Files.{length-pool, pool-split, pool-run}
+use Rattle.laws.proofs.Lists.{sets-append, sets-next, sets-over, sets-all, one, count-append, count-all, count-none, count-set}
+use Rattle.laws.proofs.Tables.{entry-inside}
+use Rattle.laws.proofs.Files.{length-pool, pool-split, pool-run}
 use Rattle.entries.specs.Groups.{InGroup}
 use Rattle.transfer.specs.Copying.{lanes, Inside, groupIn, withUsed}
 use Rattle.transfer.proofs.Copying.{Remains, Splits, remains-all, remains-none, remains-next, First, others-inside, group-alike}

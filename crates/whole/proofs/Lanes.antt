@@ -3,8 +3,8 @@
 use mathlib.Core.Path.{_≡_, refl}
 use Prim.Native.Nat.{ℕ, _+_, _-_, _*_, _<_, min, max}
 use Rattle.rules.specs.Tables.{isUsed, isHead}
-use Rattle.rules.proofs.Lists.{one}
-use Rattle.rules.proofs.Bits.{two-bits}
+use Rattle.laws.proofs.Lists.{one}
+use Rattle.laws.proofs.Bits.{two-bits}
 
 -- an entry that is not FREE has a bit
 pub used-bit : (l h : ℕ) → l < 2 → h < 2 → one (isUsed (l + 2 * h)) ≡ max l h

@@ -15,11 +15,11 @@ use Rattle.rules.specs.Tests.{count, tabulate}
 use Rattle.rules.specs.Bits.{bitOf}
 use Rattle.rules.specs.Entries.{HEAD}
 use Rattle.rules.specs.Tables.{isUsed, isHead, used, objects}
-use Rattle.rules.specs.Meaning.{AllBytes}
+use Rattle.laws.specs.Meaning.{AllBytes}
 use Rattle.rules.specs.Planes.{planeBytes, entryIn, entriesIn, spare, spareFree}
-use Rattle.rules.proofs.Lists.{one, count-cons, count-le, length-tabulate}
-use Rattle.rules.proofs.Bits.{bitOf-lt, bitOf-first, bitOf-suc, bitOf-and, bitOf-or, bitOf-not}
-use Rattle.rules.proofs.Planes.{room-entries}
+use Rattle.laws.proofs.Lists.{one, count-cons, count-le, length-tabulate}
+use Rattle.laws.proofs.Bits.{bitOf-lt, bitOf-first, bitOf-suc, bitOf-and, bitOf-or, bitOf-not}
+use Rattle.laws.proofs.Planes.{room-entries}
 use Rattle.entries.proofs.Holding.{entry-in}
 use Rattle.whole.proofs.Lanes.{used-bit, head-bit}
 

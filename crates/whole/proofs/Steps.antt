@@ -12,9 +12,9 @@ use Rattle.rules.specs.Bits.{bitOf}
 use Rattle.rules.specs.Tables.{entryAt}
 use Rattle.rules.specs.Marking.{freeingAt, sweep}
 use Rattle.rules.specs.Planes.{planeBytes, entryIn, entriesIn, spareFree, Sized, Holds}
-use Rattle.rules.proofs.Marking.{sweep-length}
-use Rattle.rules.proofs.Swept.{freeing-on, freeing-same, swept-at}
-use Rattle.rules.proofs.Planes.{length-entriesIn, entry-clean, holds-of}
+use Rattle.laws.proofs.Marking.{sweep-length}
+use Rattle.laws.proofs.Swept.{freeing-on, freeing-same, swept-at}
+use Rattle.laws.proofs.Planes.{length-entriesIn, entry-clean, holds-of}
 use Rattle.entries.specs.Groups.{lane}
 use Rattle.whole.specs.Sweeps.{SweptBits, SweptTo}
 

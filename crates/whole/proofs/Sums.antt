@@ -4,7 +4,7 @@ use mathlib.Core.Path.{_≡_, ap, _∙_}
 use Prim.Native.Nat.{ℕ, zero, suc, _+_, _/_, _%_, _<_}
 use native.Mathlib.Omega.{arith}
 use Rattle.rules.specs.Bits.{bitOf}
-use Rattle.rules.proofs.Bits.{bitOf-first, bitOf-suc}
+use Rattle.laws.proofs.Bits.{bitOf-first, bitOf-suc}
 
 -- the carry that comes to bit j of a + b, where c comes to bit 0
 unfoldable pub carryAt : ℕ → ℕ → ℕ → ℕ → ℕ

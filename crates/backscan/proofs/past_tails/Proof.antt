@@ -5,7 +5,7 @@ use Prim.Native.Nat.{_+_, _-_, _*_, _≤_}
 use native.Mathlib.Omega.{arith}
 use borrow.Author.Needs.{needs}
 use Rattle.rules.specs.Planes.{entriesIn}
-use Rattle.rules.proofs.Planes.{few-entries}
+use Rattle.laws.proofs.Planes.{few-entries}
 use Rattle.backscan.proofs.Tails.{Tails, tails-join, up-to-last, tails-here, back-to, back-first}
 use Rattle.backscan.proofs.past_tails.Statement.{statement}
 use Rattle.backscan.proofs.past_tails.Tie as tie

@@ -6,7 +6,7 @@ use native.Mathlib.Omega.{arith}
 use borrow.Author.Needs.{needs}
 use Rattle.rules.specs.Planes.{entriesIn}
 use Rattle.rules.specs.Tables.{startOf}
-use Rattle.rules.proofs.Planes.{few-entries}
+use Rattle.laws.proofs.Planes.{few-entries}
 use Rattle.backscan.proofs.Tails.{up-to-mask, start-here, start-before}
 use Rattle.backscan.proofs.start.Statement.{statement}
 use Rattle.backscan.proofs.start.Tie as tie

@@ -3,7 +3,7 @@ use native.Mathlib.Omega.{arith}
 use borrow.Author.Needs.{needs}
 use mir.Syntax.{w32}
 use mir.ValLaws.{toZ-ofZ}
-use Rattle.rules.proofs.Blocks.{allocated-small}
+use Rattle.laws.proofs.Blocks.{allocated-small}
 use Rattle.blockheap.proofs.blockheap_allocate.Statement.{statement}
 use Rattle.blockheap.proofs.blockheap_allocate.Tie as tie
 

@@ -3,7 +3,7 @@ use native.Mathlib.Omega.{arith}
 use borrow.Author.Needs.{needs}
 use mir.Syntax.{w32}
 use mir.ValLaws.{toZ-ofZ}
-use Rattle.rules.proofs.Blocks.{reallocated-small}
+use Rattle.laws.proofs.Blocks.{reallocated-small}
 use Rattle.blockheap.proofs.blockheap_reallocate.Statement.{statement}
 use Rattle.blockheap.proofs.blockheap_reallocate.Tie as tie
 

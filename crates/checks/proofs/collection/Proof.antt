@@ -8,8 +8,8 @@ use Rattle.rules.specs.Outcomes.{Heap}
 use Rattle.rules.specs.Memory.{memory}
 use Rattle.rules.specs.Planes.{planes, heapAt}
 use Rattle.rules.specs.Refusals.{Test, firstOf, wholeWords, goodLists, manyRoots, longStack, rootTests, collectionTests}
-use Rattle.rules.proofs.Refusals.{first-yes, first-last, both-false, both-true}
-use Rattle.rules.proofs.Memory.{refused-first-in, refused-next-in}
+use Rattle.laws.proofs.Refusals.{first-yes, first-last, both-false, both-true}
+use Rattle.laws.proofs.Memory.{refused-first-in, refused-next-in}
 use Rattle.checks.specs.Refusal.{refusalBy}
 use Rattle.checks.proofs.FirstTests.{torn}
 use Rattle.checks.proofs.collection.Statement.{statement}

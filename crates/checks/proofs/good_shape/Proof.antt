@@ -12,9 +12,9 @@ use Rattle.rules.specs.Tests.{both}
 use Rattle.rules.specs.Pointers.{goodBase}
 use Rattle.rules.specs.Planes.{entriesIn, planes, heapAt}
 use Rattle.rules.specs.Refusals.{goodShape}
-use Rattle.rules.specs.Meaning.{Shape}
-use Rattle.rules.proofs.Planes.{length-entriesIn}
-use Rattle.rules.proofs.Refusals.{both-false, shape-not}
+use Rattle.laws.specs.Meaning.{Shape}
+use Rattle.laws.proofs.Planes.{length-entriesIn}
+use Rattle.laws.proofs.Refusals.{both-false, shape-not}
 use Rattle.checks.proofs.good_shape.Statement.{statement}
 use Rattle.checks.proofs.good_shape.Tie as tie
 

@@ -9,7 +9,7 @@ use lib.ListN.{length}
 use Rattle.rules.specs.Tables.{entryAt, isHead}
 use Rattle.rules.specs.Planes.{entriesIn, heapAt}
 use Rattle.rules.specs.Refusals.{firstOf, nameTests}
-use Rattle.rules.proofs.Refusals.{first-yes, first-no, first-last}
+use Rattle.laws.proofs.Refusals.{first-yes, first-no, first-last}
 use Rattle.checks.proofs.named.Statement.{statement}
 use Rattle.checks.proofs.named.Tie as tie
 

@@ -8,8 +8,8 @@ use Rattle.rules.specs.Tables.{blockCount}
 use Rattle.rules.specs.Outcomes.{Heap}
 use Rattle.rules.specs.Refusals.{firstOf, noWord, nameTests}
 use Rattle.rules.specs.Planes.{heapAt}
-use Rattle.rules.proofs.Planes.{few-entries}
-use Rattle.rules.proofs.Refusals.{first-yes, first-last, first-more, refused-first, named}
+use Rattle.laws.proofs.Planes.{few-entries}
+use Rattle.laws.proofs.Refusals.{first-yes, first-last, first-more, refused-first, named}
 use Rattle.checks.proofs.object_word.Statement.{statement}
 use Rattle.checks.proofs.object_word.Tie as tie
 

@@ -2,10 +2,10 @@
 use mathlib.Core.List.{[]}
 use mathlib.Core.Path.{refl, sym, _∙_}
 use borrow.Author.Needs.{needs}
-use Rattle.rules.proofs.Refusals.{first-yes, first-last}
+use Rattle.laws.proofs.Refusals.{first-yes, first-last}
 use Rattle.rules.specs.Memory.{memory}
 use Rattle.rules.specs.Planes.{planes}
-use Rattle.rules.proofs.Memory.{refused-first-in, refused-next-in}
+use Rattle.laws.proofs.Memory.{refused-first-in, refused-next-in}
 use Rattle.checks.proofs.request.Statement.{statement}
 use Rattle.checks.proofs.request.Tie as tie
 

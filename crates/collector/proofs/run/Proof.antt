@@ -10,8 +10,8 @@ use mathlib.Core.List.{_∷_}
 use Prim.Native.Nat.{ℕ}
 use Rattle.rules.specs.Words.{wordsOf}
 use Rattle.rules.specs.Planes.{entriesIn}
-use Rattle.rules.proofs.Planes.{few-entries}
-use Rattle.rules.proofs.Tables.{used-le, objects-le}
+use Rattle.laws.proofs.Planes.{few-entries}
+use Rattle.laws.proofs.Tables.{used-le, objects-le}
 use Rattle.marker.specs.Variables.{contextOf}
 use Rattle.collector.proofs.Collecting.{ran}
 use Rattle.collector.proofs.run.Statement.{statement}

@@ -9,7 +9,7 @@ use borrow.Author.Needs.{needs}
 use borrow.Author.Tests.{leb-true, leb-false, le-leb, lt-leb}
 use Rattle.rules.specs.Tests.{pick}
 use Rattle.rules.specs.Bits.{bitOf}
-use Rattle.rules.proofs.Bits.{bitOf-ones}
+use Rattle.laws.proofs.Bits.{bitOf-ones}
 use Rattle.entries.proofs.Masks.{upper-bits}
 use Rattle.entries.proofs.bits_from.Statement.{statement}
 use Rattle.entries.proofs.bits_from.Tie as tie

@@ -9,7 +9,7 @@ use borrow.Author.Needs.{needs}
 use borrow.Author.Tests.{ltb-true, ltb-false, lt-ltb, le-ltb}
 use Rattle.rules.specs.Tests.{pick}
 use Rattle.rules.specs.Bits.{bitOf}
-use Rattle.rules.proofs.Bits.{bitOf-ones}
+use Rattle.laws.proofs.Bits.{bitOf-ones}
 use Rattle.entries.proofs.Masks.{lower-bits}
 use Rattle.entries.proofs.bits_to.Statement.{statement}
 use Rattle.entries.proofs.bits_to.Tie as tie

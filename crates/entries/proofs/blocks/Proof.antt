@@ -2,7 +2,7 @@
 -- Assumes nothing.
 use mathlib.Core.Path.{sym}
 use borrow.Author.Needs.{needs}
-use Rattle.rules.proofs.Planes.{length-entriesIn}
+use Rattle.laws.proofs.Planes.{length-entriesIn}
 use Rattle.entries.proofs.blocks.Statement.{statement}
 use Rattle.entries.proofs.blocks.Tie as tie
 

@@ -7,8 +7,8 @@ use native.Mathlib.Omega.{arith}
 use lib.ListN.{length, getD, replicate, length-replicate}
 use borrow.Author.Needs.{needs}
 use Rattle.rules.specs.Planes.{planeBytes, entryIn, entriesIn, Sized, Holds}
-use Rattle.rules.proofs.Bits.{bitOf-zero}
-use Rattle.rules.proofs.Planes.{length-entriesIn, holds-of}
+use Rattle.laws.proofs.Bits.{bitOf-zero}
+use Rattle.laws.proofs.Planes.{length-entriesIn, holds-of}
 use Rattle.entries.proofs.Holding.{entry-byte}
 use Rattle.entries.proofs.clear.Statement.{statement}
 use Rattle.entries.proofs.clear.Tie as tie

@@ -2,7 +2,7 @@
 -- Assumes nothing.
 use native.Mathlib.Omega.{arith}
 use borrow.Author.Needs.{needs}
-use Rattle.rules.proofs.Planes.{room-entries}
+use Rattle.laws.proofs.Planes.{room-entries}
 use Rattle.entries.proofs.fits.Statement.{statement}
 use Rattle.entries.proofs.fits.Tie as tie
 

@@ -11,8 +11,8 @@ use borrow.Author.Needs.{needs}
 use Rattle.rules.specs.Bits.{bitOf}
 use Rattle.rules.specs.Tables.{entryAt}
 use Rattle.rules.specs.Planes.{planeBytes, entriesIn, spareFree}
-use Rattle.rules.proofs.Bits.{bitOf-lt, bitOf-or, bitOf-not}
-use Rattle.rules.proofs.Planes.{neither-bit, entry-clean}
+use Rattle.laws.proofs.Bits.{bitOf-lt, bitOf-or, bitOf-not}
+use Rattle.laws.proofs.Planes.{neither-bit, entry-clean}
 use Rattle.entries.specs.Groups.{FreeByte}
 use Rattle.entries.proofs.Holding.{entry-in}
 use Rattle.entries.proofs.free_byte.Statement.{statement}

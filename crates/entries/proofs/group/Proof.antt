@@ -14,7 +14,7 @@ use Rattle.rules.specs.Bits.{bitAt}
 use Rattle.rules.specs.Entries.{FREE}
 use Rattle.rules.specs.Tables.{entryAt}
 use Rattle.rules.specs.Planes.{planeBytes, entryIn, entriesIn, IsTable}
-use Rattle.rules.proofs.Planes.{length-entriesIn, room-entries, entry-clean}
+use Rattle.laws.proofs.Planes.{length-entriesIn, room-entries, entry-clean}
 use Rattle.memory.specs.Bits.{BitsFrom}
 use Rattle.entries.specs.Groups.{InGroup}
 use Rattle.entries.proofs.group.Statement.{statement}

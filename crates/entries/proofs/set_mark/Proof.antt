@@ -14,9 +14,9 @@ use Rattle.rules.specs.Bits.{bitOf, bitAt}
 use Rattle.rules.specs.Entries.{FREE, HEAD, MARK}
 use Rattle.rules.specs.Tables.{entryAt}
 use Rattle.rules.specs.Planes.{planeBytes, entryIn, entriesIn, IsTable, Holds}
-use Rattle.rules.proofs.Bits.{bitOf-lt, bitOf-or, bitAt-lt}
-use Rattle.rules.proofs.Planes.{length-entriesIn, entry-clean, holds-of}
-use Rattle.rules.proofs.Tables.{entry-inside}
+use Rattle.laws.proofs.Bits.{bitOf-lt, bitOf-or, bitAt-lt}
+use Rattle.laws.proofs.Planes.{length-entriesIn, entry-clean, holds-of}
+use Rattle.laws.proofs.Tables.{entry-inside}
 use Rattle.entries.proofs.Holding.{block-byte, entry-high, high-stored, high-kept}
 use Rattle.entries.proofs.Masks.{one-bit}
 use Rattle.entries.proofs.set_mark.Statement.{statement}

@@ -16,8 +16,8 @@ use Rattle.rules.specs.Bits.{bitOf}
 use Rattle.rules.specs.Entries.{FREE}
 use Rattle.rules.specs.Tables.{entryAt}
 use Rattle.rules.specs.Planes.{planeBytes, entryIn, entriesIn, IsTable, Holds}
-use Rattle.rules.proofs.Lists.{sets-in, sets-out}
-use Rattle.rules.proofs.Planes.{length-entriesIn, room-entries, entry-clean, holds-of}
+use Rattle.laws.proofs.Lists.{sets-in, sets-out}
+use Rattle.laws.proofs.Planes.{length-entriesIn, room-entries, entry-clean, holds-of}
 use Rattle.entries.specs.Groups.{Span}
 use Rattle.entries.proofs.Holding.{entry-byte, both-stored, both-kept}
 use Rattle.entries.proofs.set_run.Statement.{statement}

@@ -6,7 +6,7 @@ use Prim.Native.Nat.{_+_, _*_, min}
 use lib.Dec.{leb, ltb}
 use borrow.Author.Needs.{needs}
 use Rattle.rules.specs.Tests.{pick, both}
-use Rattle.rules.proofs.Bits.{bitOf-and}
+use Rattle.laws.proofs.Bits.{bitOf-and}
 use Rattle.entries.proofs.span.Statement.{statement}
 use Rattle.entries.proofs.span.Tie as tie
 

@@ -10,7 +10,7 @@ use lib.Dec.{eqb}
 use lib.Pow.{pow-mono}
 use Rattle.rules.specs.Tests.{pick}
 use Rattle.rules.specs.Bits.{bitOf}
-use Rattle.rules.proofs.Bits.{bitOf-lt, bitOf-zero, bitOf-above, bitOf-and, bitOf-or, bitOf-not}
+use Rattle.laws.proofs.Bits.{bitOf-lt, bitOf-zero, bitOf-above, bitOf-and, bitOf-or, bitOf-not}
 use Rattle.entries.proofs.with_bits.Statement.{statement}
 use Rattle.entries.proofs.with_bits.Tie as tie
 

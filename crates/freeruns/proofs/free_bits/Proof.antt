@@ -4,7 +4,7 @@ use native.Mathlib.Omega.{arith}
 use Prim.Native.Nat.{_-_, _*_}
 use borrow.Author.Needs.{needs}
 use Rattle.rules.specs.Planes.{entriesIn}
-use Rattle.rules.proofs.Planes.{few-entries}
+use Rattle.laws.proofs.Planes.{few-entries}
 use Rattle.freeruns.proofs.Frees.{mask-some, free-whole, free-left}
 use Rattle.freeruns.proofs.free_bits.Statement.{statement}
 use Rattle.freeruns.proofs.free_bits.Tie as tie

@@ -6,8 +6,8 @@ use native.Mathlib.Omega.{arith}
 use borrow.Author.Needs.{needs}
 use Rattle.rules.specs.Planes.{entriesIn}
 use Rattle.rules.specs.Tables.{longest}
-use Rattle.rules.proofs.Planes.{few-entries}
-use Rattle.rules.proofs.Tables.{longest-says, longest-one}
+use Rattle.laws.proofs.Planes.{few-entries}
+use Rattle.laws.proofs.Tables.{longest-says, longest-one}
 use Rattle.freeruns.specs.Scans.{Scanned}
 use Rattle.freeruns.proofs.Scans.{scan-start, scan-end}
 use Rattle.freeruns.proofs.longest.Statement.{statement}

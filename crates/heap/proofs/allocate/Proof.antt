@@ -9,10 +9,10 @@ use Prim.Native.Nat.{_≤_, _<_}
 use lib.IntN.{pos}
 use lib.ListN.{length}
 use Rattle.rules.specs.Tables.{firstFit}
-use Rattle.rules.proofs.Tables.{first-fits}
+use Rattle.laws.proofs.Tables.{first-fits}
 use Rattle.rules.specs.Planes.{entriesIn}
 use Rattle.rules.specs.Refusals.{noBytes}
-use Rattle.rules.proofs.Calls.{blocks-some, blocks-least, request-nowhere}
+use Rattle.laws.proofs.Calls.{blocks-some, blocks-least, request-nowhere}
 use Rattle.numbers.specs.Places.{found}
 use Rattle.heap.proofs.Held.{signed}
 use Rattle.heap.proofs.Ends.{Checked, gained, allocate-refused, allocate-checked, allocate-asks, allocate-full, allocate-done}

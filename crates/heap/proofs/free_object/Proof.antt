@@ -7,7 +7,7 @@ use lib.IntN.{negℤ, pos}
 use borrow.Author.Needs.{needs}
 use Rattle.rules.specs.Tables.{blockCount, released}
 use Rattle.rules.specs.Planes.{entriesIn, Holds}
-use Rattle.rules.proofs.Planes.{few-entries}
+use Rattle.laws.proofs.Planes.{few-entries}
 use Rattle.heap.proofs.Held.{signed}
 use Rattle.heap.proofs.free_object.Statement.{statement}
 use Rattle.heap.proofs.free_object.Tie as tie

@@ -9,11 +9,11 @@ use mir.Syntax.{w32}
 use mir.Val.{toZ, ofZ}
 use borrow.Author.Needs.{needs}
 use Rattle.rules.specs.Tables.{extended}
-use Rattle.rules.specs.Meaning.{GrowsInPlace}
+use Rattle.laws.specs.Meaning.{GrowsInPlace}
 use Rattle.rules.specs.Outcomes.{placedAt, leaves, clearedBlocks}
 use Rattle.rules.specs.Planes.{entriesIn, IsTable, Holds, heapAt}
 use Rattle.rules.specs.Calls.{placing, grown}
-use Rattle.rules.proofs.Calls.{grow-change}
+use Rattle.laws.proofs.Calls.{grow-change}
 use Rattle.heap.specs.Held.{Held}
 use Rattle.heap.proofs.Held.{held-few, held-room, change-is}
 use Rattle.heap.proofs.grow.Statement.{statement}

@@ -14,12 +14,12 @@ use Rattle.rules.specs.Outcomes.{Outcome, onlyRefusal, leaves}
 use Rattle.rules.specs.Planes.{planes, entriesIn, IsTable, heapAt}
 use Rattle.rules.specs.Refusals.{noBytes, nameTests}
 use Rattle.rules.specs.Calls.{blocksFor, reallocate}
-use Rattle.rules.specs.Meaning.{AllBytes, GrowsInPlace}
+use Rattle.laws.specs.Meaning.{AllBytes, GrowsInPlace}
 use Rattle.rules.specs.Runs.{Reallocate}
 use Rattle.rules.specs.Memory.{memory, perform}
-use Rattle.rules.proofs.Tables.{grows-of, grows-says}
-use Rattle.rules.proofs.Refusals.{true-not-false, named-resize}
-use Rattle.rules.proofs.Calls.{blocks-some, blocks-least, request-no-way, reallocate-stuck, reallocate-shrinks, reallocate-grows, reallocate-moves}
+use Rattle.laws.proofs.Tables.{grows-of, grows-says}
+use Rattle.laws.proofs.Refusals.{true-not-false, named-resize}
+use Rattle.laws.proofs.Calls.{blocks-some, blocks-least, request-no-way, reallocate-stuck, reallocate-shrinks, reallocate-grows, reallocate-moves}
 use Rattle.heap.specs.Held.{Held}
 use Rattle.heap.specs.Answers.{placed, placedIn}
 use Rattle.heap.specs.declared.Placed.{Placed}

@@ -16,12 +16,12 @@ use borrow.Author.Needs.{needs}
 use Rattle.rules.specs.Tables.{firstFit, placed, released}
 use Rattle.rules.specs.Outcomes.{placedAt, leaves, clearedBlocks}
 use Rattle.rules.specs.Planes.{entriesIn, IsTable, Holds, heapAt}
-use Rattle.rules.specs.Meaning.{Run}
+use Rattle.laws.specs.Meaning.{Run}
 use Rattle.rules.specs.Calls.{placing, moved, movesTo, along}
-use Rattle.rules.proofs.Tables.{first-fits}
-use Rattle.rules.proofs.Changes.{placed-length}
-use Rattle.rules.proofs.Pools.{moved-steps}
-use Rattle.rules.proofs.Calls.{move-change, run-beside}
+use Rattle.laws.proofs.Tables.{first-fits}
+use Rattle.laws.proofs.Changes.{placed-length}
+use Rattle.laws.proofs.Pools.{moved-steps}
+use Rattle.laws.proofs.Calls.{move-change, run-beside}
 use Rattle.numbers.specs.Places.{found}
 use Rattle.heap.specs.Held.{Held}
 use Rattle.heap.specs.Answers.{placedIn, unplacedBy}

@@ -12,7 +12,7 @@ use Rattle.rules.specs.Tables.{released}
 use Rattle.rules.specs.Outcomes.{placedAt, leaves}
 use Rattle.rules.specs.Planes.{entriesIn, IsTable, Holds, heapAt}
 use Rattle.rules.specs.Calls.{placing, shrunk}
-use Rattle.rules.proofs.Calls.{shrink-change}
+use Rattle.laws.proofs.Calls.{shrink-change}
 use Rattle.heap.specs.Held.{Held}
 use Rattle.heap.proofs.Held.{held-few, held-room, change-is}
 use Rattle.heap.proofs.shrink.Statement.{statement}

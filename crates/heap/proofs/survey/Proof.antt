@@ -3,7 +3,7 @@ use native.Mathlib.Omega.{arith}
 use borrow.Author.Needs.{needs}
 use mathlib.Core.List.{[]}
 use Rattle.rules.specs.Planes.{entriesIn}
-use Rattle.rules.proofs.Tables.{used-le, objects-le, longest-says}
+use Rattle.laws.proofs.Tables.{used-le, objects-le, longest-says}
 use Rattle.heap.proofs.Ends.{Checked, survey-refused, survey-checked, survey-done}
 use Rattle.heap.proofs.survey.Statement.{statement}
 use Rattle.heap.proofs.survey.Tie as tie

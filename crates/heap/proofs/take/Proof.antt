@@ -8,7 +8,7 @@ use Rattle.rules.specs.Tables.{placed}
 use Rattle.rules.specs.Outcomes.{clearedBlocks}
 use Rattle.rules.specs.Planes.{entriesIn, IsTable, Holds, heapAt}
 use Rattle.rules.specs.Calls.{taken}
-use Rattle.rules.proofs.Planes.{few-entries}
+use Rattle.laws.proofs.Planes.{few-entries}
 use Rattle.heap.proofs.take.Statement.{statement}
 use Rattle.heap.proofs.take.Tie as tie
 

@@ -10,10 +10,10 @@ use Rattle.rules.specs.Entries.{tableOf}
 use Rattle.rules.specs.Tables.{used}
 use Rattle.rules.specs.Planes.{entriesIn, heapAt}
 use Rattle.rules.specs.Images.{usedFrom}
-use Rattle.rules.proofs.Words.{length-bytesOf}
-use Rattle.rules.proofs.Entries.{length-tableOf}
-use Rattle.rules.proofs.Planes.{length-entriesIn}
-use Rattle.rules.proofs.Images.{length-used}
+use Rattle.laws.proofs.Words.{length-bytesOf}
+use Rattle.laws.proofs.Entries.{length-tableOf}
+use Rattle.laws.proofs.Planes.{length-entriesIn}
+use Rattle.laws.proofs.Images.{length-used}
 use Rattle.image.proofs.Sections.{begins-empty, section-next, all-sections}
 use Rattle.image.proofs.write_sections.Statement.{statement}
 use Rattle.image.proofs.write_sections.Tie as tie

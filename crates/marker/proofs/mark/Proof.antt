@@ -9,8 +9,8 @@ use lib.ListN.{length}
 use Rattle.rules.specs.Words.{wordsOf}
 use Rattle.rules.specs.Planes.{IsTable}
 use Rattle.rules.specs.Marking.{rescan}
-use Rattle.rules.proofs.Planes.{few-entries}
-use Rattle.rules.proofs.Marking.{toRescan, rescan-most}
+use Rattle.laws.proofs.Planes.{few-entries}
+use Rattle.laws.proofs.Marking.{toRescan, rescan-most}
 use Rattle.marker.specs.Variables.{contextOf, idle}
 use Rattle.marker.proofs.Turning.{shape-same, Rescanned, rescanned, mark-end}
 use Rattle.marker.proofs.mark.Statement.{statement}

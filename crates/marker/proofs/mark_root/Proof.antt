@@ -14,9 +14,9 @@ use Rattle.rules.specs.Tables.{entryAt}
 use Rattle.rules.specs.Pointers.{targetOf}
 use Rattle.rules.specs.Planes.{entriesIn}
 use Rattle.rules.specs.Marking.{state, trace}
-use Rattle.rules.proofs.Planes.{same-length as as-many}
-use Rattle.rules.proofs.Tables.{start-says}
-use Rattle.rules.proofs.Marking.{head-inside}
+use Rattle.laws.proofs.Planes.{same-length as as-many}
+use Rattle.laws.proofs.Tables.{start-says}
+use Rattle.laws.proofs.Marking.{head-inside}
 use Rattle.marker.specs.Variables.{contextOf, idle}
 use Rattle.marker.proofs.Pointing.{target-inside, root-takes, root-stays, root-target, root-none}
 use Rattle.marker.proofs.Turning.{shape-same}

@@ -10,8 +10,8 @@ use lib.ListN.{length, drop}
 use Rattle.rules.specs.Words.{wordsOf}
 use Rattle.rules.specs.Planes.{IsTable}
 use Rattle.rules.specs.Marking.{markRoots}
-use Rattle.rules.proofs.Words.{length-wordsOf}
-use Rattle.rules.proofs.Marking.{roots-end}
+use Rattle.laws.proofs.Words.{length-wordsOf}
+use Rattle.laws.proofs.Marking.{roots-end}
 use Rattle.marker.specs.Variables.{contextOf, idle}
 use Rattle.marker.proofs.Turning.{shape-same, roots-next}
 use Rattle.marker.proofs.mark_roots.Statement.{statement}

@@ -5,8 +5,8 @@ use native.Mathlib.Omega.{arith}
 use borrow.Author.Needs.{needs}
 use lib.ListN.{length}
 use Rattle.rules.specs.Planes.{entriesIn}
-use Rattle.rules.proofs.Planes.{few-entries}
-use Rattle.rules.proofs.Marking.{head-inside}
+use Rattle.laws.proofs.Planes.{few-entries}
+use Rattle.laws.proofs.Marking.{head-inside}
 use Rattle.marker.proofs.Stacking.{came-pushes, came-loses}
 use Rattle.marker.proofs.push.Statement.{statement}
 use Rattle.marker.proofs.push.Tie as tie

@@ -9,7 +9,7 @@ use borrow.Author.Tests.{ltb-true, ltb-false}
 use lib.ListN.{length}
 use Rattle.rules.specs.Planes.{IsTable}
 use Rattle.rules.specs.Marking.{passFrom}
-use Rattle.rules.proofs.Planes.{few-entries}
+use Rattle.laws.proofs.Planes.{few-entries}
 use Rattle.marker.specs.Variables.{contextOf, idle}
 use Rattle.marker.proofs.Turning.{shape-same, pass-next, pass-last}
 use Rattle.marker.proofs.rescan.Statement.{statement}

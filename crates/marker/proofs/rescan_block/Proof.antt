@@ -2,7 +2,7 @@
 -- Assumes nothing.
 use mathlib.Core.Path.{sym, _∙_}
 use borrow.Author.Needs.{needs}
-use Rattle.rules.proofs.Marking.{pass-skips}
+use Rattle.laws.proofs.Marking.{pass-skips}
 use Rattle.marker.specs.Variables.{contextOf, idle}
 use Rattle.marker.proofs.Turning.{block-end}
 use Rattle.marker.proofs.rescan_block.Statement.{statement}

@@ -7,7 +7,7 @@ use native.Mathlib.Omega.{arith}
 use borrow.Author.Needs.{needs}
 use lib.ListN.{length, getD}
 use Rattle.rules.specs.Words.{wordAt, wordsOf}
-use Rattle.rules.proofs.Words.{getD-wordsOf}
+use Rattle.laws.proofs.Words.{getD-wordsOf}
 use Rattle.marker.proofs.root.Statement.{statement}
 use Rattle.marker.proofs.root.Tie as tie
 

@@ -4,7 +4,7 @@ use mathlib.Core.Path.{sym, _∙_}
 use borrow.Author.Needs.{needs}
 use borrow.Author.Tests.{leb-true}
 use Rattle.rules.specs.Planes.{entriesIn}
-use Rattle.rules.proofs.Tables.{start-between}
+use Rattle.laws.proofs.Tables.{start-between}
 use Rattle.marker.proofs.start_of.Statement.{statement}
 use Rattle.marker.proofs.start_of.Tie as tie
 

@@ -7,7 +7,7 @@ use borrow.Author.Needs.{needs}
 use lib.ListN.{length}
 use Rattle.rules.specs.Planes.{entriesIn}
 use Rattle.rules.specs.Marking.{trace}
-use Rattle.rules.proofs.Marking.{toDrain}
+use Rattle.laws.proofs.Marking.{toDrain}
 use Rattle.marker.specs.Variables.{contextOf, stateOf, CanTrace}
 use Rattle.marker.proofs.Turning.{can-start, Popped, popped, trace-end}
 use Rattle.marker.proofs.trace.Statement.{statement}

@@ -12,7 +12,7 @@ use Rattle.rules.specs.Entries.{HEAD}
 use Rattle.rules.specs.Tables.{entryAt}
 use Rattle.rules.specs.Planes.{entriesIn}
 use Rattle.rules.specs.Pointers.{targetOf}
-use Rattle.rules.proofs.Tables.{start-own}
+use Rattle.laws.proofs.Tables.{start-own}
 use Rattle.marker.specs.Variables.{contextOf, stateOf}
 use Rattle.marker.proofs.Pointing.{target-inside, visit-takes, visit-stays, visit-target, visit-none}
 use Rattle.marker.proofs.Stacking.{came-to}

@@ -8,7 +8,7 @@ use Rattle.rules.specs.Entries.{HEAD}
 use Rattle.rules.specs.Tables.{entryAt}
 use Rattle.rules.specs.Planes.{entriesIn}
 use Rattle.rules.specs.Marking.{State, marked, pushed}
-use Rattle.rules.proofs.Tables.{start-says}
+use Rattle.laws.proofs.Tables.{start-says}
 use Rattle.marker.specs.Variables.{contextOf, stateOf}
 use Rattle.marker.proofs.Pointing.{visit-takes, visit-stays}
 use Rattle.marker.proofs.Stacking.{knows-either, state-remembers, came-to}

@@ -7,7 +7,7 @@ use borrow.Author.Needs.{needs}
 use lib.ListN.{length}
 use Rattle.rules.specs.Planes.{entriesIn, IsTable}
 use Rattle.rules.specs.Marking.{walkWords}
-use Rattle.rules.proofs.Planes.{few-entries}
+use Rattle.laws.proofs.Planes.{few-entries}
 use Rattle.marker.specs.Variables.{contextOf, stateOf, Knows}
 use Rattle.marker.proofs.Turning.{walk-turn, walk-end}
 use Rattle.marker.proofs.walk.Statement.{statement}

@@ -9,7 +9,7 @@ use native.Mathlib.Omega.{arith}
 use lib.ListN.{length, getD, set, take, drop, length-set, length-drop}
 use lib.Seq.{sets, take-suc, getD-drop, length-take-le}
 use borrow.Author.Needs.{needs}
-use Rattle.rules.proofs.Lists.{sets-before, sets-after, sets-snoc}
+use Rattle.laws.proofs.Lists.{sets-before, sets-after, sets-snoc}
 use Rattle.memory.proofs.copy.Statement.{statement}
 use Rattle.memory.proofs.copy.Tie as tie
 

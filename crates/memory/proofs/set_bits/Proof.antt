@@ -12,7 +12,7 @@ use borrow.Author.Needs.{needs}
 use borrow.Author.Tests.{leb-true, ltb-true, ltb-false, le-leb, lt-ltb, le-ltb}
 use Rattle.rules.specs.Tests.{pick, both}
 use Rattle.rules.specs.Bits.{bitOf, bitAt}
-use Rattle.rules.proofs.Bits.{bitOf-mod, bitOf-shr, bitAt-stored, bitAt-kept}
+use Rattle.laws.proofs.Bits.{bitOf-mod, bitOf-shr, bitAt-stored, bitAt-kept}
 use Rattle.memory.proofs.set_bits.Statement.{statement}
 use Rattle.memory.proofs.set_bits.Tie as tie
 

@@ -7,7 +7,7 @@ use native.Mathlib.Nat.{div-div-eq-div-mul}
 use lib.Seq.{sets}
 use borrow.Author.Needs.{needs}
 use Rattle.rules.specs.Words.{bytesOf, twoBytesOf}
-use Rattle.rules.proofs.Lists.{sets-next}
+use Rattle.laws.proofs.Lists.{sets-next}
 use Rattle.memory.proofs.set_four_bytes.Statement.{statement}
 use Rattle.memory.proofs.set_four_bytes.Tie as tie
 

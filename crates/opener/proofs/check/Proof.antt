@@ -16,9 +16,9 @@ use Rattle.rules.specs.Refusals.{firstOf, goodShape}
 use Rattle.rules.specs.Planes.{planes, heapAt}
 use Rattle.rules.specs.Files.{File as FileOf, fileOf, entriesFor, rootsOf}
 use Rattle.rules.specs.Calls.{goodTarget}
-use Rattle.rules.proofs.Refusals.{both-false, both-true, first-yes, first-no, first-last}
-use Rattle.rules.proofs.Entries.{length-entriesOf}
-use Rattle.rules.proofs.Planes.{length-entriesIn}
+use Rattle.laws.proofs.Refusals.{both-false, both-true, first-yes, first-no, first-last}
+use Rattle.laws.proofs.Entries.{length-entriesOf}
+use Rattle.laws.proofs.Planes.{length-entriesIn}
 use Rattle.parser.specs.declared.File.{File}
 use Rattle.parser.specs.Reading.{Says}
 use Rattle.opener.specs.Filling.{lentTests}

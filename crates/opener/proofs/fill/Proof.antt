@@ -10,7 +10,7 @@ use Rattle.rules.specs.Entries.{entriesOf}
 use Rattle.rules.specs.Tables.{used}
 use Rattle.rules.specs.Planes.{entriesIn, IsTable, Holds}
 use Rattle.rules.specs.Files.{poolOf, File as FileOf, fileOf, entriesFor, rootsOf}
-use Rattle.rules.proofs.Planes.{length-entriesIn}
+use Rattle.laws.proofs.Planes.{length-entriesIn}
 use Rattle.parser.specs.declared.File.{File}
 use Rattle.opener.specs.Filling.{Suits}
 use Rattle.opener.proofs.Ends.{blocks-long}

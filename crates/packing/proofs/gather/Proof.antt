@@ -5,8 +5,8 @@ use Prim.Native.Nat.{ℕ, _*_, _/_, _<_}
 use native.Mathlib.Omega.{arith}
 use lib.Bits.{bitAnd, bitOr, and-le-r}
 use Rattle.rules.specs.Bits.{bitOf, byteOf}
-use Rattle.rules.proofs.Below.{equal-below}
-use Rattle.rules.proofs.Bits.{bitOf-lt, bitOf-byte}
+use Rattle.laws.proofs.Below.{equal-below}
+use Rattle.laws.proofs.Bits.{bitOf-lt, bitOf-byte}
 use Rattle.packing.specs.Packing.{base4, Gathered}
 use Rattle.packing.proofs.Digits.{base4-same, even-bits}
 use Rattle.packing.proofs.gather.Statement.{statement}

@@ -6,7 +6,7 @@ use native.Mathlib.Omega.{arith}
 use lib.Bits.{bitOr}
 use borrow.Author.Needs.{needs}
 use Rattle.rules.specs.Bits.{bitOf}
-use Rattle.rules.proofs.Bits.{bitOf-lt}
+use Rattle.laws.proofs.Bits.{bitOf-lt}
 use Rattle.packing.specs.Packing.{Spread, Interleaved}
 use Rattle.packing.proofs.Digits.{or-digits, bits-lt}
 use Rattle.packing.proofs.interleave.Statement.{statement}

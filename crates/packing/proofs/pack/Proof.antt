@@ -10,9 +10,9 @@ use borrow.Author.Needs.{needs}
 use Rattle.rules.specs.Words.{twoBytesOf}
 use Rattle.rules.specs.Entries.{tableOf}
 use Rattle.rules.specs.Planes.{planeBytes, entriesIn}
-use Rattle.rules.proofs.Entries.{length-tableOf, getD-tableOf}
-use Rattle.rules.proofs.Bits.{bitOf-lt}
-use Rattle.rules.proofs.Planes.{length-entriesIn, getD-entriesIn, room-entries}
+use Rattle.laws.proofs.Entries.{length-tableOf, getD-tableOf}
+use Rattle.laws.proofs.Bits.{bitOf-lt}
+use Rattle.laws.proofs.Planes.{length-entriesIn, getD-entriesIn, room-entries}
 use Rattle.entries.specs.Groups.{lane}
 use Rattle.entries.proofs.Holding.{entry-in}
 use Rattle.packing.specs.Packing.{Interleaved}

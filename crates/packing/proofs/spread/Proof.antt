@@ -4,7 +4,7 @@ use Prim.Native.Nat.{ℕ, _*_, _%_, _<_}
 use lib.Bits.{bitAnd, bitOr}
 use borrow.Author.Needs.{needs}
 use Rattle.rules.specs.Bits.{bitOf}
-use Rattle.rules.proofs.Below.{equal-below}
+use Rattle.laws.proofs.Below.{equal-below}
 use Rattle.packing.specs.Packing.{base4, Spread}
 use Rattle.packing.proofs.spread.Statement.{statement}
 use Rattle.packing.proofs.spread.Tie as tie

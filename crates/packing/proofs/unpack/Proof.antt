@@ -10,8 +10,8 @@ use borrow.Author.Needs.{needs}
 use Rattle.rules.specs.Entries.{entryOf, entriesOf}
 use Rattle.rules.specs.Tables.{entryAt}
 use Rattle.rules.specs.Planes.{planeBytes, Sized, Holds}
-use Rattle.rules.proofs.Entries.{four, length-entriesOf, getD-entriesOf}
-use Rattle.rules.proofs.Planes.{room-entries, holds-of}
+use Rattle.laws.proofs.Entries.{four, length-entriesOf, getD-entriesOf}
+use Rattle.laws.proofs.Planes.{room-entries, holds-of}
 use Rattle.packing.specs.Packing.{UnpackedTo}
 use Rattle.packing.proofs.unpack.Statement.{statement}
 use Rattle.packing.proofs.unpack.Tie as tie

@@ -11,7 +11,7 @@ use Rattle.rules.specs.Bits.{bitOf}
 use Rattle.rules.specs.Entries.{entryOf}
 use Rattle.rules.specs.Tables.{entryAt}
 use Rattle.rules.specs.Planes.{planeBytes, entryIn}
-use Rattle.rules.proofs.Bits.{eight}
+use Rattle.laws.proofs.Bits.{eight}
 use Rattle.entries.specs.Groups.{lane}
 use Rattle.entries.proofs.Holding.{both-stored, both-kept}
 use Rattle.packing.specs.Packing.{Gathered, UnpacksOn}

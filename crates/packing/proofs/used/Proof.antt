@@ -11,9 +11,9 @@ use borrow.Author.Needs.{needs}
 use Rattle.rules.specs.Tests.{count}
 use Rattle.rules.specs.Entries.{entryOf, entriesOf}
 use Rattle.rules.specs.Tables.{isUsed, used}
-use Rattle.rules.proofs.Below.{equal-below}
-use Rattle.rules.proofs.Lists.{count-le, count-append}
-use Rattle.rules.proofs.Entries.{length-entriesOf}
+use Rattle.laws.proofs.Below.{equal-below}
+use Rattle.laws.proofs.Lists.{count-le, count-append}
+use Rattle.laws.proofs.Entries.{length-entriesOf}
 use Rattle.packing.proofs.Fours.{fourOf, left, left-next, left-none}
 use Rattle.packing.proofs.used.Statement.{statement}
 use Rattle.packing.proofs.used.Tie as tie

@@ -13,10 +13,10 @@ use borrow.Author.Tests.{ne-eqb}
 use Rattle.rules.specs.Tests.{both}
 use Rattle.rules.specs.Entries.{entryOf, entriesOf}
 use Rattle.rules.specs.Tables.{isFree, isUsed, mayFollow, wellAfter, wellFormed}
-use Rattle.rules.proofs.Below.{equal-below, alike-below}
-use Rattle.rules.proofs.Lists.{one, one-lt}
-use Rattle.rules.proofs.Refusals.{both-true}
-use Rattle.rules.proofs.Bits.{one-bit, or-none}
+use Rattle.laws.proofs.Below.{equal-below, alike-below}
+use Rattle.laws.proofs.Lists.{one, one-lt}
+use Rattle.laws.proofs.Refusals.{both-true}
+use Rattle.laws.proofs.Bits.{one-bit, or-none}
 use Rattle.packing.proofs.Fours.{fourOf, left, left-next, left-none}
 use Rattle.packing.proofs.well_formed.Statement.{statement}
 use Rattle.packing.proofs.well_formed.Tie as tie

@@ -9,7 +9,7 @@ use borrow.Author.Needs.{needs}
 use Rattle.rules.specs.Entries.{entriesOf}
 use Rattle.rules.specs.Tables.{used}
 use Rattle.rules.specs.Files.{oneBase, tableBytes, blocksOf, rootWords, entriesFor, usedIn, fileOf}
-use Rattle.rules.proofs.Sections.{left-all, left-fault, left-over, left-none, fromTable, fromBlocks, fromRoots, fromEnd}
+use Rattle.laws.proofs.Sections.{left-all, left-fault, left-over, left-none, fromTable, fromBlocks, fromRoots, fromEnd}
 use Rattle.parser.specs.Reading.{kindBy, Reads}
 use Rattle.parser.proofs.Parsing.{faulty, small-base, small-table, small-blocks, small-roots, Base, base-known, Table, table-known, Blocks, blocks-known, Roots, roots-known, file-says}
 use Rattle.parser.proofs.parse.Statement.{statement}

@@ -13,9 +13,9 @@ use borrow.Author.Tests.{leb-true, not-true, not-false}
 use Rattle.rules.specs.Words.{firstTwo}
 use Rattle.rules.specs.Refusals.{firstOf}
 use Rattle.rules.specs.Files.{Kind, sectionTests}
-use Rattle.rules.proofs.Refusals.{both-left, both-right}
-use Rattle.rules.proofs.Faults.{whole-section}
-use Rattle.rules.proofs.Sections.{rightCount, count-cut, count-wrong, body-cut}
+use Rattle.laws.proofs.Refusals.{both-left, both-right}
+use Rattle.laws.proofs.Faults.{whole-section}
+use Rattle.laws.proofs.Sections.{rightCount, count-cut, count-wrong, body-cut}
 use Rattle.parser.specs.declared.Section.{Section}
 use Rattle.parser.specs.Reading.{kindBy, Small, Reads}
 use Rattle.parser.proofs.section_at.Statement.{statement}

@@ -1,6 +1,6 @@
 -- `rainlog::append` meets its contract. Assumes nothing.
 use borrow.Author.Needs.{needs}
-use Rattle.rules.proofs.Refusals.{not-true, not-false}
+use Rattle.laws.proofs.Refusals.{not-true, not-false}
 use Rattle.rainlog.proofs.Bounds.{first-small}
 use Rattle.rainlog.proofs.Replies.{the-log, append-refused, append-no-log, append-done}
 use Rattle.rainlog.proofs.append.Statement.{statement}

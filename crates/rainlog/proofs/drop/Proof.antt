@@ -3,7 +3,7 @@ use mathlib.Core.Path.{sym, _∙_}
 use borrow.Author.Needs.{needs}
 use mir.Syntax.{w32}
 use mir.ValLaws.{toZ-ofZ}
-use Rattle.rules.proofs.Refusals.{not-true, not-false}
+use Rattle.laws.proofs.Refusals.{not-true, not-false}
 use Rattle.rainlog.proofs.Replies.{drop-refused, drop-no-log, drop-none, drop-done}
 use Rattle.rainlog.proofs.drop.Statement.{statement}
 use Rattle.rainlog.proofs.drop.Tie as tie

@@ -5,7 +5,7 @@ use Prim.Native.Nat.{suc, _-_}
 use native.Mathlib.Omega.{arith}
 use borrow.Author.Needs.{needs}
 use borrow.Author.Tests.{eqb-true, eqb-false}
-use Rattle.rules.proofs.Refusals.{not-true, not-false}
+use Rattle.laws.proofs.Refusals.{not-true, not-false}
 use Rattle.logs.specs.Heads.{headsFrom}
 use Rattle.rainlog.specs.Walks.{loadsIn}
 use Rattle.rainlog.proofs.Walking.{walk-on, Walks, ended, too-many, stopped}

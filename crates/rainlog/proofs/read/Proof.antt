@@ -2,7 +2,7 @@
 use mathlib.Core.Path.{sym, _∙_}
 use native.Mathlib.Omega.{arith}
 use borrow.Author.Needs.{needs}
-use Rattle.rules.proofs.Refusals.{not-true, not-false}
+use Rattle.laws.proofs.Refusals.{not-true, not-false}
 use Rattle.rainlog.proofs.Replies.{read-refused, read-no-log, read-past, read-done}
 use Rattle.rainlog.proofs.read.Statement.{statement}
 use Rattle.rainlog.proofs.read.Tie as tie

@@ -6,7 +6,7 @@ use native.Mathlib.Omega.{arith}
 use lib.ListN.{length}
 use borrow.Author.Needs.{needs}
 use Rattle.rules.specs.Planes.{entriesIn}
-use Rattle.rules.proofs.Planes.{few-entries}
+use Rattle.laws.proofs.Planes.{few-entries}
 use Rattle.freeruns.proofs.Rows.{first-lt}
 use Rattle.search.proofs.Searches.{Stands, StandsOn, stands-first, found-next, stands-next, end-next}
 use Rattle.search.proofs.by_64.Statement.{statement}

@@ -5,7 +5,7 @@ use Prim.Native.Nat.{_+_, _-_, _*_, _≤_}
 use native.Mathlib.Omega.{arith}
 use borrow.Author.Needs.{needs}
 use Rattle.rules.specs.Planes.{entriesIn}
-use Rattle.rules.proofs.Bits.{or-none}
+use Rattle.laws.proofs.Bits.{or-none}
 use Rattle.search.specs.Starts.{NoStart}
 use Rattle.search.proofs.Bytes.{none-at-all}
 use Rattle.search.proofs.Searches.{no-start-join}

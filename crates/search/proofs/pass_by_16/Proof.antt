@@ -5,7 +5,7 @@ use native.Mathlib.Omega.{arith}
 use lib.ListN.{length}
 use borrow.Author.Needs.{needs}
 use Rattle.rules.specs.Planes.{entriesIn}
-use Rattle.rules.proofs.Planes.{length-entriesIn, few-entries, room-entries}
+use Rattle.laws.proofs.Planes.{length-entriesIn, few-entries, room-entries}
 use Rattle.search.specs.Starts.{NoStart}
 use Rattle.search.proofs.Searches.{no-start-join}
 use Rattle.search.proofs.pass_by_16.Statement.{statement}

@@ -12,8 +12,8 @@ use borrow.Author.Tests.{eqb-true, eqb-false, ltb-true, ltb-false, not-true, not
 use Rattle.rules.specs.Entries.{TAIL}
 use Rattle.rules.specs.Tables.{entryAt, isTail, blockCount}
 use Rattle.rules.specs.Planes.{entriesIn}
-use Rattle.rules.proofs.Planes.{few-entries}
-use Rattle.rules.proofs.Tables.{count-is, entry-outside}
+use Rattle.laws.proofs.Planes.{few-entries}
+use Rattle.laws.proofs.Tables.{count-is, entry-outside}
 use Rattle.table.proofs.block_count.Statement.{statement}
 use Rattle.table.proofs.block_count.Tie as tie
 

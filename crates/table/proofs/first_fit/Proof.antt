@@ -13,9 +13,9 @@ use borrow.Author.Needs.{needs}
 use Rattle.rules.specs.Entries.{FREE, HEAD}
 use Rattle.rules.specs.Tables.{entryAt, firstFit}
 use Rattle.rules.specs.Planes.{entriesIn}
-use Rattle.rules.specs.Meaning.{Run, Lowest}
-use Rattle.rules.proofs.Planes.{few-entries}
-use Rattle.rules.proofs.Tables.{first-is, none-first, run-shorter}
+use Rattle.laws.specs.Meaning.{Run, Lowest}
+use Rattle.laws.proofs.Planes.{few-entries}
+use Rattle.laws.proofs.Tables.{first-is, none-first, run-shorter}
 use Rattle.search.specs.Starts.{Next}
 use Rattle.search.proofs.Searches.{next-join, none-over}
 use Rattle.table.proofs.first_fit.Statement.{statement}

@@ -10,7 +10,7 @@ use borrow.Author.Needs.{needs}
 use borrow.Author.Tests.{not-true, not-false}
 use Rattle.rules.specs.Tables.{freeFrom, aligned, growsInPlace}
 use Rattle.rules.specs.Planes.{entriesIn}
-use Rattle.rules.proofs.Planes.{few-entries}
+use Rattle.laws.proofs.Planes.{few-entries}
 use Rattle.table.proofs.grows_in_place.Statement.{statement}
 use Rattle.table.proofs.grows_in_place.Tie as tie
 

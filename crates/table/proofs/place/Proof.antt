@@ -8,7 +8,7 @@ use lib.ListN.{length, length-set}
 use borrow.Author.Needs.{needs}
 use Rattle.rules.specs.Tables.{placed}
 use Rattle.rules.specs.Planes.{entriesIn}
-use Rattle.rules.proofs.Planes.{few-entries}
+use Rattle.laws.proofs.Planes.{few-entries}
 use Rattle.table.proofs.place.Statement.{statement}
 use Rattle.table.proofs.place.Tie as tie
 

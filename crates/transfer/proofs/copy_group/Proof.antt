@@ -7,7 +7,7 @@ use native.Mathlib.Omega.{arith}
 use lib.ListN.{length}
 use borrow.Author.Needs.{needs}
 use Rattle.rules.specs.Images.{blockBytes}
-use Rattle.rules.proofs.Images.{length-block}
+use Rattle.laws.proofs.Images.{length-block}
 use Rattle.transfer.specs.Copying.{Inside, blocksIn}
 use Rattle.transfer.proofs.Copying.{Remains, remains-all, remains-none, remains-room, remains-next, blocks-none, First, first-bit, first-split, first-inside, others-inside}
 use Rattle.transfer.proofs.copy_group.Statement.{statement}

@@ -11,8 +11,8 @@ use borrow.Author.Needs.{needs}
 use Rattle.rules.specs.Bits.{bitOf}
 use Rattle.rules.specs.Tables.{used}
 use Rattle.rules.specs.Planes.{entriesIn}
-use Rattle.rules.proofs.Bits.{bitOf-or}
-use Rattle.rules.proofs.Planes.{few-entries}
+use Rattle.laws.proofs.Bits.{bitOf-or}
+use Rattle.laws.proofs.Planes.{few-entries}
 use Rattle.transfer.specs.Copying.{groupIn}
 use Rattle.transfer.proofs.Copying.{group-inside}
 use Rattle.transfer.proofs.Placing.{group-used, full-used, full-inside, full-pool, group-pool}

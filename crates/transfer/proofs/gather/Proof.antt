@@ -6,9 +6,9 @@ use lib.ListN.{length, drop}
 use borrow.Author.Needs.{needs}
 use Rattle.rules.specs.Planes.{entriesIn}
 use Rattle.rules.specs.Images.{usedFrom}
-use Rattle.rules.proofs.Bits.{bitOf-or}
-use Rattle.rules.proofs.Planes.{few-entries}
-use Rattle.rules.proofs.Images.{length-used}
+use Rattle.laws.proofs.Bits.{bitOf-or}
+use Rattle.laws.proofs.Planes.{few-entries}
+use Rattle.laws.proofs.Images.{length-used}
 use Rattle.transfer.proofs.Copying.{Remains, remains-all, remains-none, remains-room, remains-next, groups-end, group-next, group-inside}
 use Rattle.transfer.proofs.gather.Statement.{statement}
 use Rattle.transfer.proofs.gather.Tie as tie

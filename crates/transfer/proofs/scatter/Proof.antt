@@ -7,8 +7,8 @@ use native.Mathlib.Omega.{arith}
 use lib.ListN.{length}
 use borrow.Author.Needs.{needs}
 use Rattle.rules.specs.Planes.{entriesIn}
-use Rattle.rules.proofs.Tables.{used-le}
-use Rattle.rules.proofs.Planes.{few-entries}
+use Rattle.laws.proofs.Tables.{used-le}
+use Rattle.laws.proofs.Planes.{few-entries}
 use Rattle.transfer.proofs.Placing.{Fills, fills-all, fills-none, fills-next, fills-room}
 use Rattle.transfer.proofs.scatter.Statement.{statement}
 use Rattle.transfer.proofs.scatter.Tie as tie

@@ -10,9 +10,9 @@ use lib.Count.{ones}
 use lib.ListN.{getD}
 use borrow.Author.Needs.{needs}
 use Rattle.rules.specs.Tables.{isUsed, isHead}
-use Rattle.rules.specs.Meaning.{AllBytes}
+use Rattle.laws.specs.Meaning.{AllBytes}
 use Rattle.rules.specs.Planes.{planeBytes}
-use Rattle.rules.proofs.Planes.{room-entries}
+use Rattle.laws.proofs.Planes.{room-entries}
 use Rattle.whole.proofs.Ones.{upTo, few, used-turn, heads-turn, used-end, heads-end}
 use Rattle.whole.proofs.count.Statement.{statement}
 use Rattle.whole.proofs.count.Tie as tie

@@ -13,12 +13,12 @@ use borrow.Author.Needs.{needs}
 use Rattle.rules.specs.Tests.{count, tabulate}
 use Rattle.rules.specs.Bits.{bitOf}
 use Rattle.rules.specs.Tables.{isUsed, used}
-use Rattle.rules.specs.Meaning.{AllBytes}
+use Rattle.laws.specs.Meaning.{AllBytes}
 use Rattle.rules.specs.Planes.{planeBytes, entryIn, spare, spareFree}
-use Rattle.rules.proofs.Below.{alike-below}
-use Rattle.rules.proofs.Lists.{one}
-use Rattle.rules.proofs.Bits.{bitOf-lt, bitOf-or, bitOf-shr}
-use Rattle.rules.proofs.Planes.{entryIn-byte}
+use Rattle.laws.proofs.Below.{alike-below}
+use Rattle.laws.proofs.Lists.{one}
+use Rattle.laws.proofs.Bits.{bitOf-lt, bitOf-or, bitOf-shr}
+use Rattle.laws.proofs.Planes.{entryIn-byte}
 use Rattle.whole.proofs.Lanes.{used-bit}
 use Rattle.whole.proofs.Ones.{count-ones}
 use Rattle.whole.proofs.spare_free.Statement.{statement}

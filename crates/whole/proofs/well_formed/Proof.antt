@@ -16,11 +16,11 @@ use Rattle.rules.specs.Bits.{bitOf}
 use Rattle.rules.specs.Entries.{FREE, TAIL, MARK}
 use Rattle.rules.specs.Tables.{entryAt, isFree, isUsed, mayFollow, wellFormed}
 use Rattle.rules.specs.Planes.{entriesIn}
-use Rattle.rules.proofs.Refusals.{true-not-false}
-use Rattle.rules.proofs.Lists.{one, one-lt}
-use Rattle.rules.proofs.Tables.{entry-outside, may-at, may-all}
-use Rattle.rules.proofs.Bits.{two-bits, or-none, bitOf-lt, bitOf-first, bitOf-suc, bitOf-zero, bitOf-and, bitOf-or, bitOf-not, bitOf-mod, bitOf-shl, bitOf-below, bits-same}
-use Rattle.rules.proofs.Planes.{length-entriesIn, room-entries, entry-clean}
+use Rattle.laws.proofs.Refusals.{true-not-false}
+use Rattle.laws.proofs.Lists.{one, one-lt}
+use Rattle.laws.proofs.Tables.{entry-outside, may-at, may-all}
+use Rattle.laws.proofs.Bits.{two-bits, or-none, bitOf-lt, bitOf-first, bitOf-suc, bitOf-zero, bitOf-and, bitOf-or, bitOf-not, bitOf-mod, bitOf-shl, bitOf-below, bits-same}
+use Rattle.laws.proofs.Planes.{length-entriesIn, room-entries, entry-clean}
 use Rattle.entries.proofs.Holding.{entry-in}
 use Rattle.whole.proofs.Lanes.{used-bit}
 use Rattle.whole.proofs.well_formed.Statement.{statement}
