@@ -2,9 +2,9 @@
 -- Assumes nothing.
 use mathlib.Core.Path.{_≡_, refl, sym, ap, _∙_}
 use mathlib.Core.Bool.{not, false}
-use mathlib.Core.List.{List, [], _∷_, _++_}
+use mathlib.Core.List.{List, _∷_, _++_}
 use mathlib.Core.Option.{none}
-use Prim.Native.Nat.{ℕ, _+_, _^_, _<_}
+use Prim.Native.Nat.{ℕ, _+_, _<_}
 use native.Mathlib.Omega.{arith}
 use lib.IntN.{ℤ, pos, negℤ}
 use lib.ListN.{length, replicate, length-append}
@@ -13,14 +13,13 @@ use Rattle.rules.specs.Pointers.{addressOf, leadsTo}
 use Rattle.rules.specs.Tables.{used}
 use Rattle.rules.specs.Planes.{planes, entriesIn, IsTable, heapAt}
 use Rattle.laws.specs.Meaning.{AllBytes, Leads, Shape as GoodShape}
-use Rattle.rules.specs.Tests.{tabulate}
 use Rattle.rules.specs.Outcomes.{Heap, Outcome, changeFrom}
 use Rattle.rules.specs.Refusals.{firstOf, goodLists, collectionTests}
 use Rattle.rules.specs.Marking.{Context, Marked, markedIn, rootTo, markRoot, markRoots, markAll}
 use Rattle.rules.specs.Calls.{collecting, collect}
 use Rattle.rules.specs.Runs.{Collect, step}
 use Rattle.rules.specs.Memory.{Memory, memory, Sound, testsIn, perform}
-use Rattle.laws.proofs.Words.{length-bytesOf, wordAt-bytesOf, wordsOf-append}
+use Rattle.laws.proofs.Words.{length-bytesOf}
 use Rattle.laws.proofs.Pointers.{leads-says, leads-one}
 use Rattle.laws.proofs.Planes.{planes-faithful, table-sound}
 use Rattle.checks.proofs.FirstTests.{is-table-lists}
@@ -55,15 +54,6 @@ module _ (t : ℕ) (c : Context) (pool table table₁ table₂ stack stack₂ ws
   ran e d = rw (← mark, ← swept .entries, e, d, change-is, swept .kept)
 
 -- ---- a root word before the caller's roots
-
-module _ (w : ℕ) (small : w < 2 ^ 32) where
-  one-word : wordsOf (bytesOf w) ≡ w ∷ []
-  unfolding wordsOf tabulate
-  one-word = rw (length-bytesOf w) (ap (λ (x : ℕ). x ∷ []) (wordAt-bytesOf w small))
-
-  -- the words of its bytes and of others
-  pub words-first : (bs : List ℕ) → w ∷ wordsOf bs ≡ wordsOf (bytesOf w ++ bs)
-  words-first bs = sym (wordsOf-append (bytesOf w) bs (rw (length-bytesOf w) refl) ∙ ap (λ (ws : List ℕ). ws ++ wordsOf bs) one-word)
 
 pub bytes-first : (w : ℕ) (bs : List ℕ) → length (bytesOf w ++ bs) ≡ length bs + 4
 bytes-first w bs = omega (arith, length-append (bytesOf w) bs, length-bytesOf w)

@@ -27,6 +27,7 @@ use Rattle.logs.proofs.Lasting.{log-lasts}
 use Rattle.logs.proofs.Cycle.{log-is-list}
 use Rattle.requests.proofs.Unseen.{requests-unseen}
 use Rattle.requests.proofs.AsList.{requests-as-list}
+use Rattle.requests.proofs.Images.{calls-after-requests}
 use Rattle.requests.proofs.Sums.{requests-sum}
 use Rattle.guarantees.specs.Guarantees.{Guarantees}
 use Rattle.guarantees.proofs.EntryPoints.{entry-points}
@@ -82,5 +83,6 @@ guarantees = record {
   log-is-list = log-is-list;
   requests-unseen = requests-unseen;
   requests-as-list = requests-as-list;
+  calls-after-requests = calls-after-requests;
   requests-sum = requests-sum;
 }

@@ -29,6 +29,7 @@ use Rattle.logs.specs.Lasting.{LogLasts, LogReadsAsBefore}
 use Rattle.logs.specs.Cycle.{LogIsList}
 use Rattle.requests.specs.Unseen.{RequestsUnseen}
 use Rattle.requests.specs.AsList.{RequestsAsList}
+use Rattle.requests.specs.Images.{CallsAfterRequests}
 use Rattle.requests.specs.Sums.{RequestsSum}
 use Rattle.guarantees.specs.EntryPoints.{EntryPoints}
 
@@ -106,7 +107,8 @@ pub record Guarantees : Type 2 where
   pub log-reads-as-before : LogReadsAsBefore
   -- From an accepted init on, any appends and drops are answered, and then read, as by a plain list of pairs with room for as many as the heap has pairs of blocks.
   pub log-is-list : LogIsList
-  -- With calls of the log among those of the heap: what is not reachable has no influence, a plain list of objects gives the same responses, and the used blocks are the sum of all changes.
+  -- With calls of the log among those of the heap: what is not reachable has no influence, a plain list of objects gives the same responses, and then the same answers and images to calls of the heap, and the used blocks are the sum of all changes.
   pub requests-unseen : RequestsUnseen
   pub requests-as-list : RequestsAsList
+  pub calls-after-requests : CallsAfterRequests
   pub requests-sum : RequestsSum

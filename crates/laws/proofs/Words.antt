@@ -9,6 +9,7 @@ use native.Mathlib.Decide.{decLt}
 use native.Mathlib.Omega.{arith}
 use lib.ListN.{length, getD, take, drop, length-append, List·getD-append}
 use lib.Seq.{ext-getD, drop-cons, getD-append-add, length-sets}
+use Rattle.rules.specs.Tests.{tabulate}
 use Rattle.rules.specs.Words.{number, bytesOf, twoBytesOf, firstTwo, wordAt, withWord, wordsOf}
 use Rattle.laws.specs.Meaning.{AllBytes}
 use Rattle.laws.proofs.Lists.{sets-before, sets-after, sets-in, length-tabulate, getD-tabulate}
@@ -169,3 +170,8 @@ wordAt-withWord bs i w h hw =
 -- the other words stay
 pub wordAt-other : (bs : List ℕ) (i j w : ℕ) → j ≢ i → wordAt (withWord bs i w) j ≡ wordAt bs j
 wordAt-other bs i j w ne = wordAt-same (withWord bs i w) bs j j (λ k h. withWord-out bs i w (4 * j + k) (λ e. ne (omega arith)))
+
+-- a word's bytes and others behind them are that word and the others' words
+pub words-first : (w : ℕ) → w < 2 ^ 32 → (bs : List ℕ) → wordsOf (bytesOf w ++ bs) ≡ w ∷ wordsOf bs
+unfolding wordsOf tabulate bytesOf
+words-first w small bs = wordsOf-append (bytesOf w) bs refl ∙ ap (λ (v : ℕ). v ∷ wordsOf bs) (wordAt-bytesOf w small)

@@ -2,14 +2,14 @@
 -- Assumes nothing.
 use mathlib.Core.Path.{_≡_, refl, ap, sym, subst, _∙_}
 use mathlib.Core.Logic.{_⊎_, ⊎-elim}
-use mathlib.Core.List.{List, [], _∷_, _++_, List·Memᴰ, List·Memᴰ·head}
+use mathlib.Core.List.{List, [], _++_, List·Memᴰ, List·Memᴰ·head}
 use mathlib.Core.Option.{Option, some, none, Option·none-ne-some}
 use Prim.Native.Nat.{ℕ, _+_, _/_, _%_, _^_, _≤_, _<_}
 use native.Mathlib.Omega.{arith}
 use lib.Dec.{eqb}
 use lib.IntN.{ℤ, _+ℤ_}
 use lib.ListN.{length, length-append}
-use Rattle.rules.specs.Tests.{pick, tabulate}
+use Rattle.rules.specs.Tests.{pick}
 use Rattle.rules.specs.Words.{bytesOf, wordsOf}
 use Rattle.rules.specs.Pointers.{addressOf}
 use Rattle.laws.specs.Meaning.{Passed, Accepted}
@@ -19,7 +19,7 @@ use Rattle.rules.specs.Runs.{Allocate, Free, Collect, Load, Store, step}
 use Rattle.rules.specs.Forms.{Form}
 use Rattle.laws.specs.Faithful.{Faithful}
 use Rattle.rules.specs.Memory.{Memory, heapIn}
-use Rattle.laws.proofs.Words.{length-bytesOf, wordsOf-append, wordAt-bytesOf}
+use Rattle.laws.proofs.Words.{length-bytesOf, words-first}
 use Rattle.laws.proofs.Tables.{entry-inside, well-says}
 use Rattle.keeping.specs.Keeping.{GoodStack}
 use Rattle.keeping.proofs.Collections.{collect-accepts}
@@ -150,11 +150,6 @@ module _ (x y : Program Reply) (stack : List ℕ) (h : Heap) where
   if-refused : (n : ℕ) → n ≡ 9 → runOn (pick (eqb n 0) x y) stack h ≡ runOn y stack h
   if-refused n e = rw e
 
--- the words of one word's bytes are that word
-one-word : (w : ℕ) → w < 2 ^ 32 → wordsOf (bytesOf w) ≡ w ∷ []
-unfolding wordsOf tabulate bytesOf
-one-word w small = ap (λ (v : ℕ). v ∷ []) (wordAt-bytesOf w small)
-
 module _ (f : Form) (faithful : Faithful f) (base first time tips : ℕ) (roots stack : List ℕ) (m : Memory) (good : Passed base (heapIn f m))
     (whole : length roots % 4 ≡ 0) (few : length roots / 4 < 4096) (stacked : GoodStack stack) where
   abbrev h : Heap
@@ -235,9 +230,7 @@ module _ (f : Form) (faithful : Faithful f) (base first time tips : ℕ) (roots 
 
   -- and among the roots
   pub first-among : {es : List Entry} → Chain base h first es → List·Memᴰ first (wordsOf lists)
-  first-among chain =
-      let words = wordsOf-append (bytesOf first) roots (ap (λ (n : ℕ). n % 4) (length-bytesOf first)) in
-      subst (List·Memᴰ first) (sym (words ∙ ap (λ (ws : List ℕ). ws ++ wordsOf roots) (one-word first (first-small chain)))) (List·Memᴰ·head refl)
+  first-among chain = subst (List·Memᴰ first) (sym (words-first first (first-small chain) roots)) (List·Memᴰ·head refl)
 
   -- so the log outlives the collection
   pub log-kept : (es : List Entry) → Chain base h first es → Chain base (kept .heap) first es

@@ -4,16 +4,15 @@ use mathlib.Core.Path.{_≡_, refl, ap, ap₂, sym, subst, _∙_}
 use mathlib.Core.Logic.{_≢_, inl, ⊎-elim}
 use mathlib.Core.List.{List, [], _∷_, _++_, List·Memᴰ, List·Memᴰ·head, List·Memᴰ·tail, List·Memᴰ·cases-cons, List·Memᴰ·not-nil, Memᴰ·cast}
 use mathlib.Core.Option.{Option, some, none, Option·some-injective, Option·none-ne-some}
-use Prim.Native.Nat.{ℕ, _+_, _*_, _^_, _≤_, _<_}
+use Prim.Native.Nat.{ℕ, _+_, _*_, _≤_}
 use native.Mathlib.Omega.{arith}
-use Rattle.rules.specs.Words.{bytesOf, wordAt}
+use Rattle.rules.specs.Words.{wordAt}
 use Rattle.rules.specs.Tables.{blockCount}
 use Rattle.rules.specs.Pointers.{addressOf, leadsTo}
 use Rattle.laws.specs.Meaning.{Leads}
-use Rattle.rules.specs.Outcomes.{Heap, Outcome}
+use Rattle.rules.specs.Outcomes.{Heap}
 use Rattle.rules.specs.Reach.{Reachable, root, edge}
-use Rattle.laws.proofs.Words.{wordAt-same, wordAt-bytesOf}
-use Rattle.promises.specs.Promises.{Object, blocksOf, Same, Stored}
+use Rattle.promises.specs.Promises.{Object, blocksOf, Same}
 use Rattle.promises.proofs.Observed.{same-words, lead-one}
 use Rattle.logs.specs.Log.{lastOf}
 use Rattle.logs.specs.Chains.{Entry, entryIn, Chain, ends, leads, heads, Distinct, fresh}
@@ -185,37 +184,3 @@ module _ (base : ℕ) (h h' : Heap) (l v : ℕ) (ds : List Entry) (linked : Reli
       as-front base h h' f
       (leads-same base h h' (same (e .head) (List·Memᴰ·head refl) other) (f .blocks)
       (chain-append (d ∷ es) (f .rest) (fresh-head .1) last' (λ o m. same o (List·Memᴰ·tail m))))
-
--- ---- a store
-
-module _ (base : ℕ) (h : Heap) (k i w : ℕ) (r : Outcome) (s : Stored base h k i w r) where
-  -- the word that was stored
-  pub stored-word : w < 2 ^ 32 → wordAt (r .heap .pool) (4 * k + i) ≡ w
-  stored-word low =
-      wordAt-same (r .heap .pool) (bytesOf w) (4 * k + i) 0
-      (λ j l.
-      let e : 4 * (4 * k + i) + j ≡ 16 * k + 4 * i + j = omega arith in
-      let z : 4 * 0 + j ≡ j = omega arith in
-      rw (e, z) (s .four j l))
-      ∙ wordAt-bytesOf w low
-
-  -- and the others
-  pub stored-other : (j : ℕ) → j ≢ i → wordAt (r .heap .pool) (4 * k + j) ≡ wordAt (h .pool) (4 * k + j)
-  stored-other j other = wordAt-same (r .heap .pool) (h .pool) (4 * k + j) (4 * k + j) (λ n l. s .bytes (4 * (4 * k + j) + n) (λ within. other (omega (arith, within .0, within .1))))
-
--- a store of the first address of another chain into the last object's next word makes them one chain
-pub chain-linked : (base : ℕ) (h : Heap) (l v : ℕ) (r : Outcome) → Stored base h l 0 v r → v < 2 ^ 32 → {w : ℕ} {es ds : List Entry} → Chain base h w es → Distinct (heads es)
-    → lastOf (heads es) ≡ some l → Chain base (r .heap) v ds → Chain base (r .heap) w (es ++ ds)
-chain-linked base h l v r s low {es = es} {ds = ds} c distinct last behind =
-    chain-append base h (r .heap) l v ds
-    (record {
-      head = rw (s .table) (chain-object base h c l among);
-      blocks = rw (s .table) (chain-blocks base h c l among);
-      next = let e : 4 * l + 0 ≡ 4 * l = omega arith in rw e at (stored-word base h l 0 v r s low);
-      time = stored-other base h l 0 v r s 1 (λ e. omega arith);
-      tips = stored-other base h l 0 v r s 2 (λ e. omega arith);
-    })
-    behind es c distinct last (λ o m other. s .others o (chain-object base h c o m) other)
-  where
-    among : List·Memᴰ l (heads es)
-    among = last-among (heads es) l last

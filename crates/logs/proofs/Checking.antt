@@ -21,6 +21,7 @@ use Rattle.promises.specs.Conditions.{First, ofSurvey}
 use Rattle.promises.proofs.Promised.{promises}
 use Rattle.promises.proofs.Bytes.{on-bytes}
 use Rattle.programs.specs.Programs.{Program, Ran, ran, run}
+use Rattle.programs.proofs.Stacks.{stack-unseen}
 use Rattle.programs.proofs.OnHeaps.{RunsAs, runOn, run-on-heap, run-written}
 use Rattle.logs.specs.Log.{Reply, declined, decline, checked}
 use Rattle.logs.specs.Promises.{surveyIn}
@@ -58,8 +59,8 @@ module _ (f : Form) (faithful : Faithful f) (base : ℕ) (next : Program Reply) 
   on x = run f (pick (eqb (x .answer .refusal) 0) next (decline (x .answer .refusal))) stack (x .memory)
 
   asks-on : asks true ≡ on (perform f (Survey base) [] m)
-  unfolding checked run perform step
-  asks-on = refl
+  unfolding checked run
+  asks-on = ap on (stack-unseen f (Survey base) stack m refl)
 
   refused-on : (r : ℕ) → on (result (onlyRefusal (suc r)) m []) ≡ ran (declined (suc r)) m stack
   unfolding run

@@ -3,6 +3,7 @@ pub mod Chaining
 pub mod Distinct
 pub mod Lasting
 pub mod LastingUses
+pub mod LastingBeside
 pub mod Following
 pub mod Finding
 pub mod Entering
@@ -15,4 +16,7 @@ pub mod Promised
 pub mod Paired
 pub mod Cycle
 pub mod CycleUses
+pub mod CycleRefused
 pub mod Uses
+pub mod TwoLogs
+pub mod OtherT

@@ -267,7 +267,7 @@ module _ (f : Form) (faithful : Faithful f) (base first time tips : ℕ) (roots 
 -- ---- read and drop
 
 -- a run, by its parts
-ran-of : (r : Ran Reply) (a : Reply) (m : Memory) (stack : List ℕ) → r .reply ≡ a → r .memory ≡ m → r .stack ≡ stack → r ≡ ran a m stack
+pub ran-of : (r : Ran Reply) (a : Reply) (m : Memory) (stack : List ℕ) → r .reply ≡ a → r .memory ≡ m → r .stack ≡ stack → r ≡ ran a m stack
 ran-of r a m stack p q s = λ i. ran (p i) (q i) (s i)
 
 module _ (f : Form) (faithful : Faithful f) (base first : ℕ) (stack : List ℕ) (m : Memory) where
@@ -362,7 +362,7 @@ module _ (f : Form) (faithful : Faithful f) (base first : ℕ) (stack : List ℕ
 -- ---- the next call
 
 -- there is room for two blocks, or there is none
-fit-or-not : (h : Heap) → NoFit h 2 ⊎ (¬ NoFit h 2)
+pub fit-or-not : (h : Heap) → NoFit h 2 ⊎ (¬ NoFit h 2)
 unfolding Lowest
 fit-or-not h = go (firstFit (h .entries) 2) (first-lowest (h .entries) 2 (omega arith))
   where

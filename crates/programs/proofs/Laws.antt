@@ -5,11 +5,11 @@ use mathlib.Core.List.{List, [], _∷_, map}
 use Prim.Native.Nat.{ℕ}
 use Rattle.rules.specs.Forms.{Form}
 use Rattle.rules.specs.Outcomes.{Answer}
-use Rattle.rules.specs.Runs.{Call, Turn}
+use Rattle.rules.specs.Runs.{Turn}
 use Rattle.rules.specs.Memory.{Memory, perform, afterIn, answersIn}
 use Rattle.keeping.specs.Keeping.{butRescans}
 use Rattle.plain.specs.Objects.{Plain}
-use Rattle.programs.specs.Programs.{Program, give, ask, Ran, ran, stackAfter, run, Lent, lent, repliesIn, leftIn, single, mapped}
+use Rattle.programs.specs.Programs.{Program, give, ask, Ran, ran, run, Lent, lent, repliesIn, leftIn, single, mapped}
 use Rattle.programs.specs.AsList.{RanList, runList}
 
 -- ---- lists
@@ -26,12 +26,6 @@ pub tails-same : {A : Type 0} {a b : A} {xs ys : List A} → a ∷ xs ≡ b ∷ 
 tails-same e = cc
 
 -- ---- single calls
-
--- a call as a program gives its answer but for the rescans, and leaves what the call leaves
-pub single-run : (f : Form) (c : Call) (stack : List ℕ) (m : Memory)
-    → run f (single c) stack m ≡ ran (butRescans (perform f c stack m .answer)) (perform f c stack m .memory) (stackAfter c (perform f c stack m) stack)
-unfolding run
-single-run f c stack m = refl
 
 -- calls as programs, each with its mark stack
 unfoldable pub singles : List Turn → List (Lent Answer)

@@ -1,7 +1,8 @@
--- Whatever a program calls, the mark stack that is lent to it stays as long as it was.
+-- Whatever a program calls, the mark stack that is lent to it stays as long as it was, and none but a collection looks at it.
 -- Assumes nothing.
 use mathlib.Core.Path.{_≡_, refl, sym, ap, _∙_}
-use mathlib.Core.List.{List}
+use mathlib.Core.Bool.{false}
+use mathlib.Core.List.{List, []}
 use Prim.Native.Nat.{ℕ}
 use lib.ListN.{length, length-replicate}
 use Rattle.rules.specs.Forms.{Form}
@@ -9,9 +10,11 @@ use Rattle.laws.specs.Faithful.{Faithful}
 use Rattle.rules.specs.Outcomes.{Answer}
 use Rattle.rules.specs.Runs.{Call, Init, Allocate, Free, Reallocate, Collect, Survey, Load, Store, WriteImage, OpenImage, step}
 use Rattle.rules.specs.Memory.{Memory, Result, perform}
+use Rattle.laws.proofs.Refusals.{true-not-false}
 use Rattle.laws.proofs.Memory.{follows-accepted, Performed, acted, left, performed}
 use Rattle.keeping.proofs.Collections.{keeps-exactly}
 use Rattle.runs.specs.Noninterference.{SameStacks, equally-long, both-good}
+use Rattle.runs.specs.Unseen.{collects}
 use Rattle.programs.specs.Programs.{stackAfter}
 
 module _ (f : Form) (faithful : Faithful f) where
@@ -47,3 +50,17 @@ stacks-by-length e e′ (both-good x y) = both-good (record { whole = rw e (x .w
 pub still-alike : (f : Form) → Faithful f → (c : Call) (stack stack′ : List ℕ) (m m′ : Memory) → SameStacks stack stack′
     → SameStacks (stackAfter c (perform f c stack m) stack) (stackAfter c (perform f c stack′ m′) stack′)
 still-alike f faithful c stack stack′ m m′ s = stacks-by-length (still-long f faithful c stack m) (still-long f faithful c stack′ m′) s
+
+-- a call that is no collection does not look at the mark stack
+pub stack-unseen : (f : Form) (c : Call) (stack : List ℕ) (m : Memory) → collects c ≡ false → perform f c stack m ≡ perform f c [] m
+unfolding perform step
+stack-unseen f (Init base) stack m e = refl
+stack-unseen f (Allocate base bytes) stack m e = refl
+stack-unseen f (Free base k) stack m e = refl
+stack-unseen f (Reallocate base k bytes) stack m e = refl
+stack-unseen f (Collect base roots) stack m e = absurd (true-not-false refl e)
+stack-unseen f (Survey base) stack m e = refl
+stack-unseen f (Load base k i) stack m e = refl
+stack-unseen f (Store base k i w) stack m e = refl
+stack-unseen f (WriteImage base roots room) stack m e = refl
+stack-unseen f (OpenImage image room) stack m e = refl

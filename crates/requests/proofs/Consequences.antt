@@ -4,6 +4,7 @@ use mathlib.Core.Path.{_≡_, refl, sym, ap, _∙_}
 use mathlib.Core.Logic.{_≢_}
 use mathlib.Core.Bool.{true}
 use mathlib.Core.List.{List, [], _∷_, _++_, map}
+use mathlib.Core.Option.{Option·none-ne-some}
 use Prim.Native.Nat.{ℕ, _+_, _*_, _<_}
 use native.Mathlib.Omega.{arith}
 use lib.IntN.{ℤ, pos, _+ℤ_}
@@ -12,14 +13,15 @@ use Rattle.rules.specs.Words.{wordAt, wordsOf}
 use Rattle.rules.specs.Entries.{FREE}
 use Rattle.rules.specs.Tables.{entryAt, used}
 use Rattle.rules.specs.Forms.{Form}
+use Rattle.laws.specs.Meaning.{AllBytes}
 use Rattle.laws.specs.Faithful.{Faithful}
-use Rattle.rules.specs.Runs.{Call, Collect, startsAnew, Turn}
+use Rattle.rules.specs.Runs.{Call, Init, Collect, WriteImage, startsAnew, Turn, done as no-file, next as next-file}
 use Rattle.rules.specs.Memory.{Memory, heapIn, SameBeside, AcceptedIn, perform, turnIn, afterIn, answersIn, filledIn}
 use Rattle.laws.proofs.Words.{wordAt-same}
 use Rattle.keeping.specs.Keeping.{Agree}
-use Rattle.runs.specs.Noninterference.{SameStacks, Alike as CalledAlike, SameAnswers}
+use Rattle.runs.specs.Noninterference.{SameStacks, turn, Alike as CalledAlike, SameAnswers}
 use Rattle.plain.specs.Objects.{Plain}
-use Rattle.plain.specs.Replies.{reply}
+use Rattle.plain.specs.Replies.{reply, replies, fillings}
 use Rattle.plain.specs.Refines.{counted, changes, from as calls}
 use Rattle.programs.specs.Programs.{Ran, run, repliesIn, leftIn, mapped}
 use Rattle.programs.specs.AsList.{RanList, runList, repliesOf}
@@ -27,11 +29,13 @@ use Rattle.programs.proofs.Laws.{heads-same, tails-same, mapped-list}
 use Rattle.logs.specs.Log.{Reply, append, drop}
 use Rattle.requests.specs.Requests.{Request, HeapCall, Append, Drop, Response, replied, programOf, Made, made, responsesIn, memoryAfter, from}
 use Rattle.requests.specs.Unseen.{Alike, done, next, Indistinct}
+use Rattle.requests.specs.Images.{listAfter, done as no-request, next as next-request}
 use Rattle.requests.specs.Sums.{countedIn, sumOf}
 use Rattle.requests.proofs.Laws.{append-made, drop-made}
 use Rattle.requests.proofs.Unseen.{requests-unseen}
 use Rattle.requests.proofs.AsList.{requests-as-list}
 use Rattle.requests.proofs.Sums.{requests-sum}
+use Rattle.requests.proofs.Images.{calls-after-requests}
 
 -- ---- requests that are made alike
 
@@ -185,3 +189,13 @@ pub calls-used : (f : Form) → Faithful f → (c : Call) (m : Memory) (ts : Lis
 calls-used f faithful c m ts d starts z =
     let e = calls-sum f (calls c ts) m d in
     sym (e .0) ∙ requests-sum f faithful c m (requestsOf ts) d starts z ∙ ap (λ (n : Memory). pos (used (f .read (n .table)))) (e .1)
+
+-- After an append, whatever it came to, an image is that of the list, and its answer too; nothing is asked of the append
+pub image-after-append : (f : Form) → Faithful f → (base b first time tips room : ℕ) (roots lent stack given : List ℕ) (m : Memory) (p : Plain) → AllBytes (m .pool)
+    → AcceptedIn (perform f (Init base) [] m) → p .size ≡ length (f .read (m .table))
+    → let xs : List Made = from (Init base) (made (Append b first time tips roots) lent ∷ []) in
+    let ts : List Turn = turn (WriteImage b roots room) stack ∷ turn (Collect b roots) given ∷ [] in
+    (answersIn f ts (memoryAfter f xs m) ≡ replies ts (listAfter xs p)) × (filledIn f ts (memoryAfter f xs m) ≡ fillings ts (listAfter xs p))
+image-after-append f faithful base b first time tips room roots lent stack given m p bytes z same =
+    calls-after-requests f faithful (Init base) m p _ _ bytes (λ image q. absurd (Option·none-ne-some image q)) (next-request tt no-request)
+    (next-file (λ image q. absurd (Option·none-ne-some image q)) (next-file (λ image q. absurd (Option·none-ne-some image q)) no-file)) refl z same

@@ -5,3 +5,4 @@ pub mod Balance
 pub mod Sums
 pub mod Consequences
 pub mod Samples
+pub mod Images

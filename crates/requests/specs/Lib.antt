@@ -2,3 +2,4 @@ pub mod Requests
 pub mod Unseen
 pub mod AsList
 pub mod Sums
+pub mod Images

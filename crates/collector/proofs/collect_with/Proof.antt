@@ -1,6 +1,6 @@
 -- As `collect`, of a list that begins with the bytes of the first root: its words are that root and the others.
 -- Assumes nothing.
-use mathlib.Core.Path.{_≡_, ap}
+use mathlib.Core.Path.{_≡_, ap, sym}
 use mathlib.Core.List.{List, _++_}
 use Prim.Native.Nat.{ℕ}
 use borrow.Author.Needs.{needs}
@@ -11,7 +11,8 @@ use Rattle.rules.specs.Refusals.{collectionTests}
 use Rattle.rules.specs.Marking.{markAll}
 use Rattle.checks.specs.Refusal.{refusalBy}
 use Rattle.marker.specs.Variables.{contextOf}
-use Rattle.collector.proofs.Collecting.{words-first, bytes-first, collect-refused, collect-accepted, collect-shape}
+use Rattle.laws.proofs.Words.{words-first}
+use Rattle.collector.proofs.Collecting.{bytes-first, collect-refused, collect-accepted, collect-shape}
 use Rattle.collector.proofs.collect_with.Statement.{statement}
 use Rattle.collector.proofs.collect_with.Tie as tie
 
@@ -59,7 +60,7 @@ returns-2 c =
     let s = start (passed .before) in
     let a = s .args in
     collect-accepted (a .t) (a .base .0) (a .pool .now) (a .table .now) (all-roots (passed .before)) (a .stack .now) _ (tested (passed .before)) (passed .if1 .left) _ _ _ _
-    (ap (λ (ws : List ℕ). markAll (contextOf (a .base .0) (a .pool .now) (a .stack .now)) ws (entriesIn (a .t) (a .table .now))) (words-first (a .first) (s .fits .first .fits) (a .roots .now)))
+    (ap (λ (ws : List ℕ). markAll (contextOf (a .base .0) (a .pool .now) (a .stack .now)) ws (entriesIn (a .t) (a .table .now))) (sym (words-first (a .first) (s .fits .first .fits) (a .roots .now))))
     (λ i. c .before .before .slice-known3 .given i .fits) (c .before .before .before .before .run .ensures)
 
 pub collect-with-spec : {M : Type 1} → statement M
