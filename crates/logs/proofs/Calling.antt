@@ -11,7 +11,6 @@ use lib.IntN.{ℤ, _+ℤ_}
 use lib.ListN.{length, length-append}
 use Rattle.rules.specs.Tests.{pick}
 use Rattle.rules.specs.Words.{bytesOf, wordsOf}
-use Rattle.rules.specs.Pointers.{addressOf}
 use Rattle.laws.specs.Meaning.{Passed, Accepted}
 use Rattle.rules.specs.Outcomes.{Heap, Answer, Outcome}
 use Rattle.rules.specs.Calls.{blocksFor, allocate, free, collect, store}
@@ -20,7 +19,7 @@ use Rattle.rules.specs.Forms.{Form}
 use Rattle.laws.specs.Faithful.{Faithful}
 use Rattle.rules.specs.Memory.{Memory, heapIn}
 use Rattle.laws.proofs.Words.{length-bytesOf, words-first}
-use Rattle.laws.proofs.Tables.{entry-inside, well-says}
+use Rattle.laws.proofs.Tables.{well-says}
 use Rattle.keeping.specs.Keeping.{GoodStack}
 use Rattle.keeping.proofs.Collections.{collect-accepts}
 use Rattle.promises.specs.Conditions.{First, ofAllocate, NoFit}
@@ -28,9 +27,9 @@ use Rattle.promises.proofs.Promised.{promises}
 use Rattle.programs.specs.Programs.{Program, give, ask}
 use Rattle.programs.proofs.OnHeaps.{RanOn, runOn}
 use Rattle.logs.specs.Log.{Reply, logged, readout, declined, decline, onLog, join, enter, appendTo, readFrom, dropFrom, lastOf}
-use Rattle.logs.specs.Chains.{Entry, Chain, ends, leads, Log, heads}
+use Rattle.logs.specs.Chains.{Entry, Chain, Log, heads}
 use Rattle.logs.specs.Promises.{Longer}
-use Rattle.logs.proofs.Chaining.{chain-reachable, chain-same}
+use Rattle.logs.proofs.Chaining.{chain-word, chain-reachable, chain-same}
 use Rattle.logs.proofs.Distinct.{chain-4096}
 use Rattle.logs.specs.Heads.{headsFrom}
 use Rattle.logs.proofs.Following.{looks, load-on, follow-on}
@@ -222,15 +221,9 @@ module _ (f : Form) (faithful : Faithful f) (base first time tips : ℕ) (roots 
           at-once accepted (if-accepted (enter base first time tips ks (a .answer .block) (a .answer .change)) second stack (a .heap) (a .answer .refusal) accepted)
       go (full nine none-before same) = again none-before nine same (roomy base (kept .heap) (promises .reclaimed f faithful base m lists stack kept-accepted .good))
 
-  -- the first address is a word
-  first-small : {w : ℕ} {es : List Entry} → Chain base h w es → w < 2 ^ 32
-  unfolding addressOf
-  first-small ends = omega arith
-  first-small (leads {k = k} head two c) = omega (arith, entry-inside (h .entries) k (λ free. omega (arith, free, head)), good .shape .below)
-
-  -- and among the roots
+  -- the first address is among the roots
   pub first-among : {es : List Entry} → Chain base h first es → List·Memᴰ first (wordsOf lists)
-  first-among chain = subst (List·Memᴰ first) (sym (words-first first (first-small chain) roots)) (List·Memᴰ·head refl)
+  first-among chain = subst (List·Memᴰ first) (sym (words-first first (chain-word base h good chain) roots)) (List·Memᴰ·head refl)
 
   -- so the log outlives the collection
   pub log-kept : (es : List Entry) → Chain base h first es → Chain base (kept .heap) first es

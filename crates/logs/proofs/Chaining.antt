@@ -4,14 +4,15 @@ use mathlib.Core.Path.{_≡_, refl, ap, ap₂, sym, subst, _∙_}
 use mathlib.Core.Logic.{_≢_, inl, ⊎-elim}
 use mathlib.Core.List.{List, [], _∷_, _++_, List·Memᴰ, List·Memᴰ·head, List·Memᴰ·tail, List·Memᴰ·cases-cons, List·Memᴰ·not-nil, Memᴰ·cast}
 use mathlib.Core.Option.{Option, some, none, Option·some-injective, Option·none-ne-some}
-use Prim.Native.Nat.{ℕ, _+_, _*_, _≤_}
+use Prim.Native.Nat.{ℕ, _+_, _*_, _^_, _≤_, _<_}
 use native.Mathlib.Omega.{arith}
 use Rattle.rules.specs.Words.{wordAt}
 use Rattle.rules.specs.Tables.{blockCount}
 use Rattle.rules.specs.Pointers.{addressOf, leadsTo}
-use Rattle.laws.specs.Meaning.{Leads}
+use Rattle.laws.specs.Meaning.{Leads, Passed}
 use Rattle.rules.specs.Outcomes.{Heap}
 use Rattle.rules.specs.Reach.{Reachable, root, edge}
+use Rattle.laws.proofs.Tables.{entry-inside}
 use Rattle.promises.specs.Promises.{Object, blocksOf, Same}
 use Rattle.promises.proofs.Observed.{same-words, lead-one}
 use Rattle.logs.specs.Log.{lastOf}
@@ -62,6 +63,12 @@ module _ (base : ℕ) (h : Heap) where
   pub chain-blocks : {w : ℕ} {es : List Entry} → Chain base h w es → (k : ℕ) → List·Memᴰ k (heads es) → blocksOf h k ≡ 2
   chain-blocks ends k m = absurd (List·Memᴰ·not-nil m)
   chain-blocks (leads head two c) k m = ⊎-elim (λ e. rw e two) (λ n. chain-blocks c k n) (List·Memᴰ·cases-cons m)
+
+-- the address from which a chain leads has 32 bits
+pub chain-word : (base : ℕ) (h : Heap) → Passed base h → {w : ℕ} {es : List Entry} → Chain base h w es → w < 2 ^ 32
+unfolding addressOf
+chain-word base h good ends = omega arith
+chain-word base h good (leads {k = k} head two c) = omega (arith, entry-inside (h .entries) k (λ free. omega (arith, free, head)), good .shape .below)
 
 -- ---- one chain
 

@@ -1,48 +1,33 @@
 -- Programs, call by call: a call whose result is known is left behind; a survey and loads leave the memory, so that a program that only looks comes to what they answer.
 -- Assumes nothing.
 use mathlib.Core.Path.{_≡_, refl, sym, ap, _∙_}
-use mathlib.Core.Bool.{Bool, true, false}
+use mathlib.Core.Bool.{true, false}
 use mathlib.Core.List.{List, []}
 use mathlib.Core.Option.{Option, some, none}
-use Prim.Native.Nat.{ℕ, zero, suc}
-use lib.Dec.{eqb}
+use Prim.Native.Nat.{ℕ}
 use borrow.Author.Tests.{eq-eqb, ne-eqb}
 use Rattle.rules.specs.Tests.{pick}
-use Rattle.rules.specs.Pointers.{targetOf}
 use Rattle.rules.specs.Outcomes.{Answer}
 use Rattle.rules.specs.Calls.{survey, load}
-use Rattle.rules.specs.Runs.{Call, Init, Allocate, Free, Reallocate, Collect, Survey, Load, Store, WriteImage, OpenImage, step}
+use Rattle.rules.specs.Runs.{Call, Collect, Survey, Load}
 use Rattle.rules.specs.Forms.{Form}
 use Rattle.laws.specs.Faithful.{Faithful}
 use Rattle.laws.specs.Meaning.{AllBytes}
 use Rattle.rules.specs.Memory.{Memory, Result, AcceptedIn, perform}
-use Rattle.laws.proofs.Refusals.{true-not-false}
 use Rattle.keeping.specs.Keeping.{butRescans}
 use Rattle.runs.specs.Unseen.{collects}
 use Rattle.programs.specs.Programs.{Program, ask, ran, run}
 use Rattle.promises.proofs.Bytes.{on-bytes}
-use Rattle.logs.specs.Log.{Reply, declined, decline, isAccepted, Link, linkIn, linkTo, linkAt, prepended, follow, onLog, checked}
-use Rattle.logs.specs.Heads.{Loads, linkFrom, headsFrom}
-
--- a call that is no collection does not look at the mark stack
-pub any-stack : (f : Form) (c : Call) (stack : List ℕ) (m : Memory) → collects c ≡ false → perform f c stack m ≡ perform f c [] m
-unfolding perform step
-any-stack f (Init base) stack m e = refl
-any-stack f (Allocate base bytes) stack m e = refl
-any-stack f (Free base k) stack m e = refl
-any-stack f (Reallocate base k bytes) stack m e = refl
-any-stack f (Collect base roots) stack m e = absurd (true-not-false refl e)
-any-stack f (Survey base) stack m e = refl
-any-stack f (Load base k i) stack m e = refl
-any-stack f (Store base k i w) stack m e = refl
-any-stack f (WriteImage base roots room) stack m e = refl
-any-stack f (OpenImage image room) stack m e = refl
+use Rattle.logs.specs.Log.{Reply, declined, decline, isAccepted, follow, onLog, checked}
+use Rattle.programs.proofs.Stacks.{stack-unseen}
+use Rattle.logs.proofs.Following.{follow-by}
+use Rattle.logs.specs.Heads.{Loads, headsFrom}
 
 -- a call with the result x is left behind
 pub asked : {A : Type 0} (f : Form) (c : Call) (go : Answer → Program A) (stack : List ℕ) (m : Memory) (x : Result) → collects c ≡ false → x ≡ perform f c [] m
     → run f (ask c go) stack m ≡ run f (go (butRescans (x .answer))) stack (x .memory)
 unfolding run
-asked f c go stack m x plain e = rw (any-stack f c stack m plain, plain, ← e)
+asked f c go stack m x plain e = rw (stack-unseen f c stack m plain, plain, ← e)
 
 -- a collection leaves its mark stack too
 pub asked-collect : {A : Type 0} (f : Form) (base : ℕ) (roots : List ℕ) (go : Answer → Program A) (stack : List ℕ) (m : Memory) (x : Result) → x ≡ perform f (Collect base roots) stack m
@@ -67,41 +52,9 @@ module _ (f : Form) (faithful : Faithful f) (m : Memory) (bytes : AllBytes (m .t
       asked f (Load base k i) go stack m _ refl refl
       ∙ ap (λ (n : Memory). run f (go (butRescans (loads k i))) stack n) (on-bytes .load-bytes f faithful base k i m bytes)
 
-  -- the rescans are not among what a link is made of
-  link-run : {A : Type 0} (o : Option ℕ) (go : Option Link → Program A) (stack : List ℕ) → run f (linkTo base o go) stack m ≡ run f (go (linkFrom loads o)) stack m
-  unfolding linkTo linkFrom linkIn
-  link-run none go stack = refl
-  link-run (some k) go stack =
-      load-run k 7 (λ a. ask (Load base k 8) (λ b. ask (Load base k 0) (λ c. go (linkIn k a b c)))) stack
-      ∙ load-run k 8 (λ b. ask (Load base k 0) (λ c. go (linkIn k (loads k 7) b c))) stack
-      ∙ load-run k 0 (λ c. go (linkIn k (loads k 7) (loads k 8) c)) stack
-
-  -- one link, and the rest by what it comes to
-  follow-next : {A : Type 0} (n w : ℕ) (go : Option (List ℕ) → Program A) (stack : List ℕ)
-      → ((l : Link) → run f (follow base n (l .next) (λ ks. go (prepended (l .head) ks))) stack m ≡ run f (go (prepended (l .head) (headsFrom loads base n (l .next)))) stack m)
-      → run f (follow base (suc n) w go) stack m ≡ run f (go (headsFrom loads base (suc n) w)) stack m
-  unfolding follow headsFrom linkAt
-  follow-next {A = A} n w go stack rest-run = here (eqb w 0)
-    where
-      rest : Option Link → Program A
-      rest x = elim x [ none ↦ go none | some l ↦ follow base n (l .next) (λ ks. go (prepended (l .head) ks)) ]
-
-      found : Option Link → Option (List ℕ)
-      found x = elim x [ none ↦ none | some l ↦ prepended (l .head) (headsFrom loads base n (l .next)) ]
-
-      on : (x : Option Link) → run f (rest x) stack m ≡ run f (go (found x)) stack m
-      on none = refl
-      on (some l) = rest-run l
-
-      here : (b : Bool) → run f (pick b (go (some [])) (linkTo base (targetOf base 4096 w) rest)) stack m ≡ run f (go (pick b (some []) (found (linkFrom loads (targetOf base 4096 w))))) stack m
-      here true = refl
-      here false = link-run (targetOf base 4096 w) rest stack ∙ on (linkFrom loads (targetOf base 4096 w))
-
   -- the chain is followed by the loads of the memory as it is
   follow-run : {A : Type 0} (n w : ℕ) (go : Option (List ℕ) → Program A) (stack : List ℕ) → run f (follow base n w go) stack m ≡ run f (go (headsFrom loads base n w)) stack m
-  unfolding follow headsFrom
-  follow-run zero w go stack = refl
-  follow-run (suc n) w go stack = follow-next n w go stack (λ l. follow-run n (l .next) (λ ks. go (prepended (l .head) ks)) stack)
+  follow-run n w go stack = follow-by (λ p. run f p stack m) base loads (λ k i then. load-run k i then stack) n w go
 
   -- ---- the tests that come first, and 18
 

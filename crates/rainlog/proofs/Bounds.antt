@@ -1,38 +1,39 @@
 -- Numbers of the log fit where the code has them: the addresses are of 32 bits, and so is the sum of two changes.
 -- Assumes nothing.
-use mathlib.Core.Path.{_≡_, refl, sym, ap, _∙_}
+use mathlib.Core.Path.{_≡_, sym, ap, _∙_}
 use mathlib.Core.Bool.{Bool, true, false, cond}
 use mathlib.Core.List.{List, []}
-use mathlib.Core.Option.{Option, some, none, Option·none-ne-some}
+use mathlib.Core.Option.{some}
 use Prim.Native.Nat.{ℕ, suc, _+_, _-_, _^_, _≤_, _<_}
 use native.Mathlib.Omega.{arith}
-use lib.Dec.{eqb, ltb}
+use lib.Dec.{ltb}
 use lib.IntN.{ℤ, pos, negsuc, subℕ, _+ℤ_, natAbs}
 use lib.ListN.{length}
-use borrow.Author.Tests.{eqb-true}
 use mir.Syntax.{w32}
 use mir.Val.{SFits, toZ, ofZ}
 use mir.ValLaws.{toZ-ofZ}
-use Rattle.rules.specs.Tests.{pick, both}
-use Rattle.rules.specs.Pointers.{addressOf, targetOf}
+use Rattle.rules.specs.Pointers.{addressOf}
 use Rattle.rules.specs.Outcomes.{Heap}
-use Rattle.laws.specs.Meaning.{Points, Accepted}
-use Rattle.rules.specs.Calls.{blocksFor, allocate, load}
-use Rattle.rules.specs.Runs.{Call, Allocate, Collect, Load, step}
+use Rattle.laws.specs.Meaning.{Accepted}
+use Rattle.rules.specs.Calls.{blocksFor, allocate}
+use Rattle.rules.specs.Runs.{Call, Allocate, Collect, Survey, Load, step}
 use Rattle.rules.specs.Planes.{planes, heapAt}
 use Rattle.rules.specs.Forms.{Form}
-use Rattle.rules.specs.Memory.{Memory, memory, heapIn, doneIn, Result, AcceptedIn, stackFor, perform}
+use Rattle.rules.specs.Memory.{Memory, memory, heapIn, Sound, doneIn, Result, AcceptedIn, stackFor, perform}
 use Rattle.laws.proofs.Planes.{planes-faithful}
 use Rattle.laws.proofs.Tables.{entry-inside}
 use Rattle.laws.proofs.Sizes.{step-keeps}
-use Rattle.laws.proofs.Refusals.{accepted-none, passed, named-object}
+use Rattle.laws.proofs.Refusals.{passed}
 use Rattle.laws.proofs.Memory.{Performed, acted, left, performed}
 use Rattle.promises.specs.Promises.{Allocated}
 use Rattle.promises.proofs.Promised.{promises}
 use Rattle.promises.proofs.Bytes.{on-bytes}
-use Rattle.logs.specs.Log.{Link, linkIn, prepended}
-use Rattle.logs.specs.Heads.{Loads, linkFrom, headsFrom}
-use Rattle.rainlog.specs.Walks.{loadsIn}
+use Rattle.logs.proofs.Chaining.{chain-word}
+use Rattle.logs.proofs.Lasting.{survey-sound}
+use Rattle.logs.proofs.Following.{looks}
+use Rattle.logs.proofs.Finding.{found-says}
+use Rattle.logs.specs.Heads.{Loads, headsFrom}
+use Rattle.chain.specs.Walks.{loadsIn}
 
 -- ---- changes
 
@@ -120,35 +121,16 @@ pub entry-address : (t base : ℕ) (m : Memory) {x : Result} → x ≡ perform (
 unfolding blocksFor
 entry-address t base m e z = allocate-address t base 32 m e z (omega arith)
 
--- that of an entry that was met
+-- and the first address of a log
 module _ (t base : ℕ) (pool table : List ℕ) where
-  load-inside : (k i : ℕ) → loadsIn base t pool table k i .refusal ≡ 0 → addressOf base k < 2 ^ 32
-  unfolding step load addressOf
-  load-inside k i z =
+  -- what loads answer in lent memory that has passed is what they answer on the heap in it
+  loads-on-heap : Sound (planes t) (memory pool table) → loadsIn base t pool table ≡ looks base (heapAt t pool table)
+  unfolding step
+  loads-on-heap s = λ i k j. on-bytes .as-on-heap (planes t) (planes-faithful t) (Load base k j) [] (memory pool table) s .answer i
+
+  pub first-small : AcceptedIn (perform (planes t) (Survey base) [] (memory pool table)) → (first : ℕ) (ks : List ℕ) → headsFrom (loadsIn base t pool table) base 4096 first ≡ some ks → first < 2 ^ 32
+  first-small z first ks e =
       let h = heapAt t pool table in
-      let ok = accepted-none _ h [] _ (on-bytes .accepted-bytes (planes t) (Load base k i) [] (memory pool table) z .0) in
-      omega (arith, passed base h _ ok .shape .below, named-object base h k _ ok .inside)
-
-  -- so the first address of a log has 32 bits
-  pub first-small : (first : ℕ) (ks : List ℕ) → headsFrom (loadsIn base t pool table) base 4096 first ≡ some ks → first < 2 ^ 32
-  unfolding headsFrom linkFrom linkIn Points
-  first-small first ks e = start (eqb first 0) refl e
-    where
-      load : Loads
-      load = loadsIn base t pool table
-
-      behind : Option Link → Option (List ℕ)
-      behind x = elim x [ none ↦ none | some l ↦ prepended (l .head) (headsFrom load base 4095 (l .next)) ]
-
-      named : (k : ℕ) → first ≡ addressOf base k → (b : Bool) → eqb (load k 7 .refusal) 0 ≡ b
-          → behind (pick (both b (eqb (load k 8 .refusal) 8)) (some (record { head = k; next = load k 0 .value })) none) ≡ some ks → first < 2 ^ 32
-      named k p true z q = rw p (load-inside k 7 (eqb-true _ 0 z))
-      named k p false z q = absurd (Option·none-ne-some ks q)
-
-      at : (o : Option ℕ) → Points base 4096 first o → behind (linkFrom load o) ≡ some ks → first < 2 ^ 32
-      at none p q = absurd (Option·none-ne-some ks q)
-      at (some k) p q = named k (p .1) (eqb (load k 7 .refusal) 0) refl q
-
-      start : (b : Bool) → eqb first 0 ≡ b → pick b (some []) (behind (linkFrom load (targetOf base 4096 first))) ≡ some ks → first < 2 ^ 32
-      start true z q = omega (arith, eqb-true first 0 z)
-      start false z q = at (targetOf base 4096 first) (promises .target-points base 4096 first) q
+      let (s, good) = survey-sound (planes t) base (memory pool table) z in
+      let f = found-says base h good 4096 first ks (sym (ap (λ (l : Loads). headsFrom l base 4096 first) (loads-on-heap s)) ∙ e) in
+      chain-word base h good (f .chain)

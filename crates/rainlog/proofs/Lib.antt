@@ -1,4 +1,3 @@
 pub mod Asking
-pub mod Walking
 pub mod Bounds
 pub mod Replies

@@ -29,9 +29,9 @@ use Rattle.heap.specs.declared.Freed.{Freed}
 use Rattle.heap.specs.declared.Loaded.{Loaded}
 use Rattle.collector.specs.Answers.{resultOf}
 use Rattle.collector.specs.declared.Collected.{Collected}
-use Rattle.rainlog.specs.declared.Walk.{Walk}
+use Rattle.chain.specs.declared.Walk.{Walk}
 use Rattle.logs.specs.Heads.{headsFrom}
-use Rattle.rainlog.specs.Walks.{loadsIn, lastBy, Found, Walked, broken, whole}
+use Rattle.chain.specs.Walks.{loadsIn, lastBy, Found, Walked, broken, whole}
 use Rattle.rainlog.specs.Answers.{againTo, tested, Tests, logs, reads, unloggedBy, unreadBy}
 use Rattle.rainlog.proofs.Asking.{asked, asked-collect, checked-refused, checked-passed, on-log}
 

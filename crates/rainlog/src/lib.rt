@@ -1,24 +1,19 @@
 // The rain log: a list of entries, the oldest first, each an object of two blocks. Words 0 to 2 of an entry are the address of the next one, a time and a tip count.
 // Every call here is made of public calls of the heap and of the collection: this layer reads and writes no byte itself.
 ghost use mathlib.Core.Path.{_≡_};
-ghost use mathlib.Core.Bool.{false};
 ghost use mathlib.Core.List.{List, []};
 ghost use Prim.Native.Nat.{ℕ, _<_, _^_};
-ghost use lib.Dec.{eqb};
-ghost use Rattle.rules.specs.Tests.{pick};
-ghost use Rattle.rules.specs.Pointers.{addressOf, targetOf};
-ghost use Rattle.rules.specs.Runs.{Survey};
+ghost use Rattle.rules.specs.Pointers.{addressOf};
 ghost use Rattle.rules.specs.Planes.{planes};
-ghost use Rattle.rules.specs.Memory.{memory, AcceptedIn, perform};
+ghost use Rattle.rules.specs.Memory.{memory};
 ghost use Rattle.programs.specs.Programs.{run};
 ghost use Rattle.logs.specs.Log.{lastOf, enter as enterProgram, appendTo, append as appendProgram, read as readProgram, drop as dropProgram};
-ghost use Rattle.logs.specs.Heads.{linkFrom, headsFrom};
-ghost use Rattle.rainlog.specs.Walks.{loadsIn, Steps, lastBy, Walked};
+ghost use Rattle.chain.specs.Walks.{lastBy};
 ghost use Rattle.rainlog.specs.Answers.{againTo, Tests, logs, reads, unloggedBy, unreadBy};
+use chain::Walk;
 use numbers::Address;
 use numbers::Block;
 use numbers::Bytes;
-use numbers::Found;
 
 // The log's first address, and the change in used blocks.
 pub struct Logged {
@@ -32,89 +27,6 @@ pub struct Readout {
     pub refusal: u32,
     pub time: u32,
     pub tips: u32,
-}
-
-// A walk along the entries: whether there has been one at each address so far, the address where it stands, how many entries it has passed, the block of the last of
-// them, and that of the one with the wanted index.
-pub struct Walk {
-    pub whole: bool,
-    pub at: Address,
-    pub count: usize,
-    pub last: Block,
-    pub wanted: Block,
-}
-
-// A walk that came to an address with no entry. Nothing else of it is looked at.
-fn broken() -> Walk
-    ensures { λ r. ⌜ r .whole ≡ false ⌝ }
-{
-    Walk {
-        whole: false,
-        at: Address::of_number(0),
-        count: 0,
-        last: Block::first(),
-        wanted: Block::first(),
-    }
-}
-
-// The block with the wanted index, once the entry at block k is passed.
-fn wanted(w: Walk, k: Block, index: usize) -> Block
-    ensures { λ r. ⌜ r .0 ≡ pick (eqb (w .count) index) (k .0) (w .wanted .0) ⌝ }
-{
-    if w.count == index { k } else { w.wanted }
-}
-
-// Passes the entry where the walk stands, if there is one: the address of a head whose object has two blocks, so that its word 7 can be read and word 8 is refused with 8.
-fn advance(base: Address, t: usize, pool: &[u8], table: &[u8], w: Walk, index: usize) -> Walk
-    requires { ⌜ AcceptedIn (perform (planes t) (Survey (base .0)) [] (memory (now pool) (now table))) × (w .count < 4096) ⌝ }
-    ensures { λ r. ⌜ Steps index w (linkFrom (loadsIn (base .0) t (now (pool .entry)) (now (table .entry))) (targetOf (base .0) 4096 (w .at .0))) r ⌝ }
-{
-    let there = base.block_at(4096, w.at);
-    let Found::At(k) = there else {
-        return broken();
-    };
-    if heap::load_checked(base, t, pool, table, k, 7).refusal != 0 {
-        return broken();
-    }
-    if heap::load_checked(base, t, pool, table, k, 8).refusal != 8 {
-        return broken();
-    }
-    let next = heap::load_checked(base, t, pool, table, k, 0).value;
-    let passed = w.count + 1;
-    Walk {
-        whole: true,
-        at: Address::of_word(next),
-        count: passed,
-        last: k,
-        wanted: wanted(w, k, index),
-    }
-}
-
-// Walks from the first address to a next word of 0. More entries than a heap has blocks would repeat themselves.
-fn follow(base: Address, t: usize, pool: &[u8], table: &[u8], first: Address, index: usize) -> Walk
-    requires { ⌜ AcceptedIn (perform (planes t) (Survey (base .0)) [] (memory (now pool) (now table))) ⌝ }
-    ensures { λ r. ⌜ Walked index r (headsFrom (loadsIn (base .0) t (now (pool .entry)) (now (table .entry))) (base .0) 4096 (first .0)) ⌝ }
-{
-    let mut w = Walk {
-        whole: true,
-        at: first,
-        count: 0,
-        last: Block::first(),
-        wanted: Block::first(),
-    };
-    while w.count < 4096 {
-        if w.at.is_zero() {
-            return w;
-        }
-        w = advance(base, t, pool, table, w, index);
-        if !w.whole {
-            return w;
-        }
-    }
-    if w.at.is_zero() {
-        return w;
-    }
-    broken()
 }
 
 // The new entry at block k gets its time and its tip count, and joins the log behind the last one, if there is one: else the log starts with it.
@@ -268,7 +180,7 @@ pub fn append(
     if r != 0 {
         return unlogged(r);
     }
-    let w = follow(base, t, &*pool, &*table, first, 0);
+    let w = chain::follow(base, t, &*pool, &*table, first, 0);
     if !w.whole {
         return unlogged(18);
     }
@@ -312,7 +224,7 @@ pub fn read(
     if r != 0 {
         return unread(r);
     }
-    let w = follow(base, t, pool, table, first, index);
+    let w = chain::follow(base, t, pool, table, first, index);
     if !w.whole {
         return unread(18);
     }
@@ -347,7 +259,7 @@ pub fn drop(base: Address, t: usize, pool: &[u8], table: &mut [u8], first: Addre
     if r != 0 {
         return unlogged(r);
     }
-    let w = follow(base, t, pool, &*table, first, 0);
+    let w = chain::follow(base, t, pool, &*table, first, 0);
     if !w.whole {
         return unlogged(18);
     }

@@ -52,7 +52,7 @@ returns-2 c =
 to-word-requires : tie.Need-to-word-requires
 to-word-requires c κs =
     let a = c .before .before .before .before .before .before .before .before .before .before .before .before .before .before .before .before .args in
-    first-small (a .t) (a .base .0) (a .pool .now) (a .table .now) _ _ (the-log (c .before .before .before .before .follow .ensures) (not-false _ (c .before .before .if2 .left)) .are)
+    first-small (a .t) (a .base .0) (a .pool .now) (a .table .now) (c .before .before .before .before .before .before .before .before .check .ensures .accepts (c .before .before .before .before .before .before .before .if1 .left)) _ _ (the-log (c .before .before .before .before .follow .ensures) (not-false _ (c .before .before .if2 .left)) .are)
 
 add-requires : tie.Need-add-requires
 add-requires c κs = search needs

@@ -7,10 +7,10 @@ use borrow.Author.Needs.{needs}
 use borrow.Author.Tests.{eqb-true, eqb-false}
 use Rattle.laws.proofs.Refusals.{not-true, not-false}
 use Rattle.logs.specs.Heads.{headsFrom}
-use Rattle.rainlog.specs.Walks.{loadsIn}
-use Rattle.rainlog.proofs.Walking.{walk-on, Walks, ended, too-many, stopped}
-use Rattle.rainlog.proofs.follow.Statement.{statement}
-use Rattle.rainlog.proofs.follow.Tie as tie
+use Rattle.chain.specs.Walks.{loadsIn}
+use Rattle.chain.proofs.Walking.{walk-on, Walks, ended, too-many, stopped}
+use Rattle.chain.proofs.follow.Statement.{statement}
+use Rattle.chain.proofs.follow.Tie as tie
 
 abbrev Inv-loop : tie.InvT-loop
 Inv-loop base t pool table index w₀ w =

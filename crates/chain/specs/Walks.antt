@@ -12,7 +12,7 @@ use Rattle.rules.specs.Planes.{planes}
 use Rattle.rules.specs.Memory.{memory, perform}
 use Rattle.logs.specs.Log.{Link, lastOf, atIndex}
 use Rattle.logs.specs.Heads.{Loads}
-use Rattle.rainlog.specs.declared.Walk.{Walk}
+use Rattle.chain.specs.declared.Walk.{Walk}
 
 -- what the loads of lent memory answer
 abbrev pub loadsIn : ℕ → ℕ → List ℕ → List ℕ → Loads

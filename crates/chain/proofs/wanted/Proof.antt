@@ -1,7 +1,7 @@
 -- `rainlog::wanted` meets its contract. Assumes nothing.
 use borrow.Author.Tests.{eq-eqb, ne-eqb}
-use Rattle.rainlog.proofs.wanted.Statement.{statement}
-use Rattle.rainlog.proofs.wanted.Tie as tie
+use Rattle.chain.proofs.wanted.Statement.{statement}
+use Rattle.chain.proofs.wanted.Tie as tie
 
 returns : tie.Need-returns
 returns c = rw (eq-eqb _ _ (c .if1 .taken))

@@ -12,13 +12,24 @@ use lib.ListN.{length}
 use borrow.Author.Tests.{eq-eqb, ne-eqb, lt-ltb, le-ltb}
 use Rattle.rules.specs.Tests.{pick, orElse}
 use Rattle.rules.specs.Pointers.{targetOf}
+use Rattle.rules.specs.Runs.{Load}
+use Rattle.rules.specs.Planes.{planes}
+use Rattle.rules.specs.Memory.{Result, memory, perform}
 use Rattle.laws.proofs.Refusals.{true-not-false}
 use Rattle.logs.specs.Log.{Link, linkIn, prepended, lastOf, atIndex}
 use Rattle.logs.specs.Heads.{Loads, linkFrom, headsFrom}
-use Rattle.rainlog.specs.Walks.{Passed, passedBy, pass, Steps, ends, goes, Walked, broken, whole}
-use Rattle.rainlog.specs.declared.Walk.{Walk}
+use Rattle.chain.specs.Walks.{loadsIn, Passed, passedBy, pass, Steps, ends, goes, Walked, broken, whole}
+use Rattle.chain.specs.declared.Walk.{Walk}
 
 -- ---- one step, by what the loads answer
+
+-- what a load answers, by its result
+module _ (base t k i : ℕ) (pool table : List ℕ) {x : Result} (e : x ≡ perform (planes t) (Load base k i) [] (memory pool table)) where
+  pub refusal-is : x .answer .refusal ≡ loadsIn base t pool table k i .refusal
+  refusal-is = ap (λ (y : Result). y .answer .refusal) e
+
+  pub value-is : x .answer .value ≡ loadsIn base t pool table k i .value
+  value-is = ap (λ (y : Result). y .answer .value) e
 
 module _ (load : Loads) (base index : ℕ) (w r : Walk) where
   abbrev link : Option Link

@@ -6,12 +6,11 @@ use native.Mathlib.Omega.{arith}
 use borrow.Author.Needs.{needs}
 use Rattle.numbers.specs.Places.{found}
 use Rattle.rules.specs.Pointers.{targetOf}
-use Rattle.rules.specs.Memory.{Result}
 use Prim.Native.Nat.{suc, _+_}
-use Rattle.rainlog.specs.Walks.{passedBy, pass, loadsIn}
-use Rattle.rainlog.proofs.Walking.{steps-nowhere, steps-short, steps-long, steps-on}
-use Rattle.rainlog.proofs.advance.Statement.{statement}
-use Rattle.rainlog.proofs.advance.Tie as tie
+use Rattle.chain.specs.Walks.{passedBy, pass, loadsIn}
+use Rattle.chain.proofs.Walking.{refusal-is, value-is, steps-nowhere, steps-short, steps-long, steps-on}
+use Rattle.chain.proofs.advance.Statement.{statement}
+use Rattle.chain.proofs.advance.Tie as tie
 
 block-at-requires : tie.Need-block-at-requires
 block-at-requires c κs = search needs
@@ -43,7 +42,7 @@ broken-requires-2 c κs = search needs
 returns-2 : tie.Need-returns-2
 returns-2 c =
     let a = c .before .before .before .before .before .before .before .before .before .before .args in
-    steps-short (loadsIn (a .base .0) (a .t) (a .pool .now) (a .table .now)) _ _ _ _ _ (at (c .before .before .before .before .before)) (ap (λ (x : Result). x .answer .refusal) (c .before .before .before .load-checked .ensures)) (c .before .if1 .taken) (c .broken2 .ensures)
+    steps-short (loadsIn (a .base .0) (a .t) (a .pool .now) (a .table .now)) _ _ _ _ _ (at (c .before .before .before .before .before)) (refusal-is _ _ _ _ _ _ (c .before .before .before .load-checked .ensures)) (c .before .if1 .taken) (c .broken2 .ensures)
 
 load-checked-requires-2 : tie.Need-load-checked-requires-2
 load-checked-requires-2 c κs = search needs
@@ -54,8 +53,8 @@ broken-requires-3 c κs = search needs
 returns-3 : tie.Need-returns-3
 returns-3 c =
     let a = c .before .before .before .before .before .before .before .before .before .before .before .before .before .args in
-    steps-long (loadsIn (a .base .0) (a .t) (a .pool .now) (a .table .now)) _ _ _ _ _ (at (c .before .before .before .before .before .before .before .before)) (ap (λ (x : Result). x .answer .refusal) (c .before .before .before .before .before .before .load-checked .ensures)) (c .before .before .before .before .if1 .left)
-    (ap (λ (x : Result). x .answer .refusal) (c .before .before .before .load-checked2 .ensures)) (c .before .if2 .taken) (c .broken3 .ensures)
+    steps-long (loadsIn (a .base .0) (a .t) (a .pool .now) (a .table .now)) _ _ _ _ _ (at (c .before .before .before .before .before .before .before .before)) (refusal-is _ _ _ _ _ _ (c .before .before .before .before .before .before .load-checked .ensures)) (c .before .before .before .before .if1 .left)
+    (refusal-is _ _ _ _ _ _ (c .before .before .before .load-checked2 .ensures)) (c .before .if2 .taken) (c .broken3 .ensures)
 
 load-checked-requires-3 : tie.Need-load-checked-requires-3
 load-checked-requires-3 c κs = search needs
@@ -75,9 +74,9 @@ returns-4 c =
     let k = c .before .before .before .before .before .before .before .before .before .before .before .there .given .0 .0 .0 in
     let n : a .w .count + 1 ≡ suc (a .w .count) = omega arith in
     let by : record { count = a .w .count + 1; last = k; wanted = c .wanted .result .0 } ≡ pass (a .index) (passedBy (a .w)) k = rw (n, c .wanted .ensures) in
-    steps-on (loadsIn (a .base .0) (a .t) (a .pool .now) (a .table .now)) _ _ _ _ k (at (c .before .before .before .before .before .before .before .before .before .before .before)) (ap (λ (x : Result). x .answer .refusal) (c .before .before .before .before .before .before .before .before .before .load-checked .ensures)) (c .before .before .before .before .before .before .before .if1 .left)
-    (ap (λ (x : Result). x .answer .refusal) (c .before .before .before .before .before .before .load-checked2 .ensures)) (c .before .before .before .before .if2 .left) refl
-    (c .before .of-word .ensures ∙ ap (λ (x : Result). x .answer .value) (c .before .before .before .load-checked3 .ensures)) by
+    steps-on (loadsIn (a .base .0) (a .t) (a .pool .now) (a .table .now)) _ _ _ _ k (at (c .before .before .before .before .before .before .before .before .before .before .before)) (refusal-is _ _ _ _ _ _ (c .before .before .before .before .before .before .before .before .before .load-checked .ensures)) (c .before .before .before .before .before .before .before .if1 .left)
+    (refusal-is _ _ _ _ _ _ (c .before .before .before .before .before .before .load-checked2 .ensures)) (c .before .before .before .before .if2 .left) refl
+    (c .before .of-word .ensures ∙ value-is _ _ _ _ _ _ (c .before .before .before .load-checked3 .ensures)) by
 
 pub advance-spec : {M : Type 1} → statement M
 advance-spec =
