@@ -52,6 +52,5 @@ pub run-written : {A : Type 0} (f : Form) → Faithful f → (p : Program A) (st
 unfolding run
 run-written f faithful (give a) stack m s w = w
 run-written f faithful (ask c go) stack m s w =
-    let r : Result = perform f c stack m in
-    run-written f faithful (go (butRescans (r .answer))) (stackAfter c r stack) (r .memory) (sound-next f faithful c stack m s)
+    run-written f faithful (go _) _ _ (sound-next f faithful c stack m s)
     (kept-by (Written f) f c stack m (follows-sound f faithful c stack m s .written) w)
