@@ -37,9 +37,11 @@ readout r time tips = record { refusal = r; first = 0; change = pos 0; time = ti
 abbrev pub declined : ℕ → Reply
 declined r = logged r 0 (pos 0)
 
+-- a program that is refused
 abbrev pub decline : ℕ → Program Reply
 decline r = give (declined r)
 
+-- the call was accepted
 abbrev pub isAccepted : Answer → Bool
 isAccepted a = eqb (a .refusal) 0
 
@@ -63,6 +65,7 @@ linkTo base (some k) go = ask (Load base k 7) (λ a. ask (Load base k 8) (λ b. 
 unfoldable pub linkAt : {A : Type 0} → ℕ → ℕ → (Option Link → Program A) → Program A
 linkAt base w go = linkTo base (targetOf base 4096 w) go
 
+-- the heads with one more in front, if there is a chain
 abbrev pub prepended : ℕ → Option (List ℕ) → Option (List ℕ)
 prepended k none = none
 prepended k (some ks) = some (k ∷ ks)
@@ -80,6 +83,7 @@ onLog base first go = follow base 4096 first (λ x. elim x [ none ↦ decline 18
 
 -- ---- the tests that come first
 
+-- refused by r if the test holds, else what comes next
 abbrev pub declineIf : Bool → ℕ → Program Reply → Program Reply
 declineIf true r next = decline r
 declineIf false r next = next
