@@ -23,6 +23,7 @@ pub mod RoundTrips
 pub mod Twice
 pub mod Used
 pub mod Sizes
+pub mod Widths
 pub mod Memory
 pub mod Planes
 pub mod Agreement
