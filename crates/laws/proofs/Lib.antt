@@ -24,6 +24,7 @@ pub mod Twice
 pub mod Used
 pub mod Sizes
 pub mod Widths
+pub mod Clamped
 pub mod Memory
 pub mod Planes
 pub mod Agreement

@@ -1,3 +1,4 @@
 pub mod Meaning
 pub mod Faithful
 pub mod Agreement
+pub mod Clamped

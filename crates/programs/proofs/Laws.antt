@@ -5,8 +5,11 @@ use mathlib.Core.List.{List, [], _∷_, map}
 use Prim.Native.Nat.{ℕ}
 use Rattle.rules.specs.Forms.{Form}
 use Rattle.rules.specs.Outcomes.{Answer}
-use Rattle.rules.specs.Runs.{Turn}
+use Rattle.rules.specs.Planes.{planes}
+use Rattle.rules.specs.Runs.{Call, Turn}
 use Rattle.rules.specs.Memory.{Memory, perform, afterIn, answersIn}
+use Rattle.laws.specs.Clamped.{clamped}
+use Rattle.laws.proofs.Clamped.{t-clamped}
 use Rattle.keeping.specs.Keeping.{butRescans}
 use Rattle.plain.specs.Objects.{Plain}
 use Rattle.programs.specs.Programs.{Program, give, ask, Ran, ran, run, Lent, lent, repliesIn, leftIn, single, mapped}
@@ -60,3 +63,16 @@ pub mapped-list : {A B : Type 0} (k : A → B) (p : Program A) (stack : List ℕ
 unfolding mapped runList
 mapped-list k (give a) stack l = refl
 mapped-list k (ask c go) stack l = mapped-list k (go _) _ _
+
+-- ---- forms
+
+-- forms that no call tells apart are told apart by no program
+run-alike : {A : Type 0} (f g : Form) → ((c : Call) (stack : List ℕ) (m : Memory) → perform f c stack m ≡ perform g c stack m) → (p : Program A) (stack : List ℕ) (m : Memory)
+    → run f p stack m ≡ run g p stack m
+unfolding run
+run-alike f g same (give a) stack m = refl
+run-alike f g same (ask c go) stack m = rw (same c stack m) (run-alike f g same (go _) _ _)
+
+-- a program with t clamped gives what it gives with t itself
+pub run-clamped : {A : Type 0} (t : ℕ) (p : Program A) (stack : List ℕ) (m : Memory) → run (planes (clamped t)) p stack m ≡ run (planes t) p stack m
+run-clamped t = run-alike (planes (clamped t)) (planes t) (t-clamped t)
