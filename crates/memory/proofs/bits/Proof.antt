@@ -7,6 +7,7 @@ use native.Mathlib.Omega.{arith}
 use lib.ListN.{getD}
 use borrow.Author.Needs.{needs}
 use Rattle.rules.specs.Words.{number}
+use Rattle.laws.proofs.Widths.{in-slice, as-u64}
 use Rattle.memory.specs.Bits.{BitsFrom}
 use Rattle.memory.proofs.Reading.{no-bytes, one-more}
 use Rattle.memory.proofs.bits.Statement.{statement}
@@ -34,19 +35,19 @@ shared-slice-read-from-le-bytes : tie.Need-shared-slice-read-from-le-bytes
 shared-slice-read-from-le-bytes c = search needs
 
 add-from-le-bytes : tie.Need-add-from-le-bytes
-add-from-le-bytes c = search needs
+add-from-le-bytes c = in-slice (c .before .before .args .bytes .now) (search needs) (search needs)
 
 shared-slice-read-from-le-bytes-2 : tie.Need-shared-slice-read-from-le-bytes-2
 shared-slice-read-from-le-bytes-2 c = search needs
 
 add-from-le-bytes-2 : tie.Need-add-from-le-bytes-2
-add-from-le-bytes-2 c = search needs
+add-from-le-bytes-2 c = in-slice (c .before .before .before .args .bytes .now) (search needs) (search needs)
 
 shared-slice-read-from-le-bytes-3 : tie.Need-shared-slice-read-from-le-bytes-3
 shared-slice-read-from-le-bytes-3 c = search needs
 
 add-from-le-bytes-3 : tie.Need-add-from-le-bytes-3
-add-from-le-bytes-3 c = search needs
+add-from-le-bytes-3 c = in-slice (c .before .before .before .before .args .bytes .now) (search needs) (search needs)
 
 shared-slice-read-from-le-bytes-4 : tie.Need-shared-slice-read-from-le-bytes-4
 shared-slice-read-from-le-bytes-4 c = search needs
@@ -55,25 +56,25 @@ from-le-bytes-requires : tie.Need-from-le-bytes-requires
 from-le-bytes-requires c κs = search needs
 
 add-from-le-bytes-4 : tie.Need-add-from-le-bytes-4
-add-from-le-bytes-4 c = search needs
+add-from-le-bytes-4 c = in-slice (c .before .before .before .before .before .before .args .bytes .now) (search needs) (search needs)
 
 shared-slice-read-from-le-bytes-5 : tie.Need-shared-slice-read-from-le-bytes-5
 shared-slice-read-from-le-bytes-5 c = search needs
 
 add-from-le-bytes-5 : tie.Need-add-from-le-bytes-5
-add-from-le-bytes-5 c = search needs
+add-from-le-bytes-5 c = in-slice (c .before .before .before .before .before .before .before .args .bytes .now) (search needs) (search needs)
 
 shared-slice-read-from-le-bytes-6 : tie.Need-shared-slice-read-from-le-bytes-6
 shared-slice-read-from-le-bytes-6 c = search needs
 
 add-from-le-bytes-6 : tie.Need-add-from-le-bytes-6
-add-from-le-bytes-6 c = search needs
+add-from-le-bytes-6 c = in-slice (c .before .before .before .before .before .before .before .before .args .bytes .now) (search needs) (search needs)
 
 shared-slice-read-from-le-bytes-7 : tie.Need-shared-slice-read-from-le-bytes-7
 shared-slice-read-from-le-bytes-7 c = search needs
 
 add-from-le-bytes-7 : tie.Need-add-from-le-bytes-7
-add-from-le-bytes-7 c = search needs
+add-from-le-bytes-7 c = in-slice (c .before .before .before .before .before .before .before .before .before .args .bytes .now) (search needs) (search needs)
 
 shared-slice-read-from-le-bytes-8 : tie.Need-shared-slice-read-from-le-bytes-8
 shared-slice-read-from-le-bytes-8 c = search needs
@@ -88,10 +89,10 @@ cast-result-2 : tie.Need-cast-result-2
 cast-result-2 c = search needs
 
 mul-result : tie.Need-mul-result
-mul-result c = search needs
+mul-result c = as-u64 (search needs)
 
 add-result : tie.Need-add-result
-add-result c = search needs
+add-result c = as-u64 (search needs)
 
 returns : tie.Need-returns
 returns c =

@@ -10,6 +10,7 @@ use lib.ListN.{length, getD, set, take, drop, length-set, length-drop}
 use lib.Seq.{sets, take-suc, getD-drop, length-take-le}
 use borrow.Author.Needs.{needs}
 use Rattle.laws.proofs.Lists.{sets-before, sets-after, sets-snoc}
+use Rattle.laws.proofs.Widths.{in-slice}
 use Rattle.memory.proofs.copy.Statement.{statement}
 use Rattle.memory.proofs.copy.Tie as tie
 
@@ -53,19 +54,19 @@ loop-holds : tie.Need-loop-holds Inv-loop μ-loop
 loop-holds c = (search needs, (search needs, refl))
 
 add-pool : tie.Need-add-pool Inv-loop μ-loop
-add-pool c = search needs
+add-pool c = in-slice (c .before .before .before .before .before .before .args .pool .now) (search needs) (search needs)
 
 slice-read-pool : tie.Need-slice-read-pool Inv-loop μ-loop
 slice-read-pool c = search needs
 
 add-pool-2 : tie.Need-add-pool-2 Inv-loop μ-loop
-add-pool-2 c = search needs
+add-pool-2 c = in-slice (c .before .before .before .before .before .before .before .args .pool .now) (search needs) (search needs)
 
 slice-write-pool : tie.Need-slice-write-pool Inv-loop μ-loop
 slice-write-pool c = search needs
 
 add-i : tie.Need-add-i Inv-loop μ-loop
-add-i c = search needs
+add-i c = in-slice (c .before .before .before .before .before .before .before .args .pool .now) (search needs) (search needs)
 
 loop-less : tie.Need-loop-less Inv-loop μ-loop
 loop-less c = search needs

@@ -3,6 +3,7 @@
 use native.Mathlib.Omega.{arith}
 use borrow.Author.Needs.{needs}
 use Rattle.rules.specs.Words.{number}
+use Rattle.laws.proofs.Widths.{as-u32}
 use Rattle.memory.proofs.from_le_bytes.Statement.{statement}
 use Rattle.memory.proofs.from_le_bytes.Tie as tie
 
@@ -13,28 +14,28 @@ wide-requires-2 : tie.Need-wide-requires-2
 wide-requires-2 c κs = search needs
 
 mul-result : tie.Need-mul-result
-mul-result c = search needs
+mul-result c = as-u32 (search needs)
 
 add-result : tie.Need-add-result
-add-result c = search needs
+add-result c = as-u32 (search needs)
 
 wide-requires-3 : tie.Need-wide-requires-3
 wide-requires-3 c κs = search needs
 
 mul-result-2 : tie.Need-mul-result-2
-mul-result-2 c = search needs
+mul-result-2 c = as-u32 (search needs)
 
 add-result-2 : tie.Need-add-result-2
-add-result-2 c = search needs
+add-result-2 c = as-u32 (search needs)
 
 wide-requires-4 : tie.Need-wide-requires-4
 wide-requires-4 c κs = search needs
 
 mul-result-3 : tie.Need-mul-result-3
-mul-result-3 c = search needs
+mul-result-3 c = as-u32 (search needs)
 
 add-result-3 : tie.Need-add-result-3
-add-result-3 c = search needs
+add-result-3 c = as-u32 (search needs)
 
 returns : tie.Need-returns
 unfolding number

@@ -13,6 +13,7 @@ use borrow.Author.Tests.{leb-true, ltb-true, ltb-false, le-leb, lt-ltb, le-ltb}
 use Rattle.rules.specs.Tests.{pick, both}
 use Rattle.rules.specs.Bits.{bitOf, bitAt}
 use Rattle.laws.proofs.Bits.{bitOf-mod, bitOf-shr, bitAt-stored, bitAt-kept}
+use Rattle.laws.proofs.Widths.{in-slice}
 use Rattle.memory.proofs.set_bits.Statement.{statement}
 use Rattle.memory.proofs.set_bits.Tie as tie
 
@@ -56,7 +57,7 @@ cast-bytes-2 : tie.Need-cast-bytes-2
 cast-bytes-2 c = search needs
 
 add-bytes : tie.Need-add-bytes
-add-bytes c = search needs
+add-bytes c = in-slice (c .args .bytes .now) (search needs) (search needs)
 
 slice-write-bytes-2 : tie.Need-slice-write-bytes-2
 slice-write-bytes-2 c = simp length-set (omega arith)
@@ -65,7 +66,7 @@ cast-bytes-3 : tie.Need-cast-bytes-3
 cast-bytes-3 c = search needs
 
 add-bytes-2 : tie.Need-add-bytes-2
-add-bytes-2 c = search needs
+add-bytes-2 c = in-slice (c .args .bytes .now) (search needs) (search needs)
 
 slice-write-bytes-3 : tie.Need-slice-write-bytes-3
 slice-write-bytes-3 c = simp length-set (omega arith)
@@ -74,7 +75,7 @@ cast-bytes-4 : tie.Need-cast-bytes-4
 cast-bytes-4 c = search needs
 
 add-bytes-3 : tie.Need-add-bytes-3
-add-bytes-3 c = search needs
+add-bytes-3 c = in-slice (c .args .bytes .now) (search needs) (search needs)
 
 slice-write-bytes-4 : tie.Need-slice-write-bytes-4
 slice-write-bytes-4 c = simp length-set (omega arith)
@@ -83,7 +84,7 @@ cast-bytes-5 : tie.Need-cast-bytes-5
 cast-bytes-5 c = search needs
 
 add-bytes-4 : tie.Need-add-bytes-4
-add-bytes-4 c = search needs
+add-bytes-4 c = in-slice (c .args .bytes .now) (search needs) (search needs)
 
 slice-write-bytes-5 : tie.Need-slice-write-bytes-5
 slice-write-bytes-5 c = simp length-set (omega arith)
@@ -92,7 +93,7 @@ cast-bytes-6 : tie.Need-cast-bytes-6
 cast-bytes-6 c = search needs
 
 add-bytes-5 : tie.Need-add-bytes-5
-add-bytes-5 c = search needs
+add-bytes-5 c = in-slice (c .args .bytes .now) (search needs) (search needs)
 
 slice-write-bytes-6 : tie.Need-slice-write-bytes-6
 slice-write-bytes-6 c = simp length-set (omega arith)
@@ -101,7 +102,7 @@ cast-bytes-7 : tie.Need-cast-bytes-7
 cast-bytes-7 c = search needs
 
 add-bytes-6 : tie.Need-add-bytes-6
-add-bytes-6 c = search needs
+add-bytes-6 c = in-slice (c .args .bytes .now) (search needs) (search needs)
 
 slice-write-bytes-7 : tie.Need-slice-write-bytes-7
 slice-write-bytes-7 c = simp length-set (omega arith)
@@ -110,7 +111,7 @@ cast-bytes-8 : tie.Need-cast-bytes-8
 cast-bytes-8 c = search needs
 
 add-bytes-7 : tie.Need-add-bytes-7
-add-bytes-7 c = search needs
+add-bytes-7 c = in-slice (c .args .bytes .now) (search needs) (search needs)
 
 slice-write-bytes-8 : tie.Need-slice-write-bytes-8
 slice-write-bytes-8 c = simp length-set (omega arith)

@@ -8,6 +8,7 @@ use lib.Seq.{sets}
 use borrow.Author.Needs.{needs}
 use Rattle.rules.specs.Words.{bytesOf, twoBytesOf}
 use Rattle.laws.proofs.Lists.{sets-next}
+use Rattle.laws.proofs.Widths.{in-slice}
 use Rattle.memory.proofs.set_four_bytes.Statement.{statement}
 use Rattle.memory.proofs.set_four_bytes.Tie as tie
 
@@ -20,7 +21,7 @@ set-two-bytes-requires : tie.Need-set-two-bytes-requires
 set-two-bytes-requires c κs = search needs
 
 add-set-two-bytes : tie.Need-add-set-two-bytes
-add-set-two-bytes c = search needs
+add-set-two-bytes c = in-slice (c .before .before .before .before .before .before .args .bytes .now) (search needs) (search needs)
 
 cast-set-two-bytes : tie.Need-cast-set-two-bytes
 cast-set-two-bytes c = search needs

@@ -7,6 +7,7 @@ use native.Mathlib.Omega.{arith}
 use lib.ListN.{length, getD, set, drop, length-set}
 use lib.Seq.{sets, drop-cons, drop-length}
 use borrow.Author.Needs.{needs}
+use Rattle.laws.proofs.Widths.{in-slice}
 use Rattle.memory.proofs.set_part.Statement.{statement}
 use Rattle.memory.proofs.set_part.Tie as tie
 
@@ -33,13 +34,13 @@ shared-slice-read-bytes : tie.Need-shared-slice-read-bytes Inv-loop μ-loop
 shared-slice-read-bytes c = search needs
 
 add-bytes : tie.Need-add-bytes Inv-loop μ-loop
-add-bytes c = search needs
+add-bytes c = in-slice (c .before .before .before .args .bytes .now) (search needs) (search needs)
 
 slice-write-bytes : tie.Need-slice-write-bytes Inv-loop μ-loop
 slice-write-bytes c = search needs
 
 add-i : tie.Need-add-i Inv-loop μ-loop
-add-i c = search needs
+add-i c = in-slice (c .before .before .before .args .part .now) (search needs) (search needs)
 
 loop-less : tie.Need-loop-less Inv-loop μ-loop
 loop-less c = search needs

@@ -6,6 +6,7 @@ use native.Mathlib.Omega.{arith}
 use lib.ListN.{length-set}
 use borrow.Author.Needs.{needs}
 use Rattle.rules.specs.Words.{twoBytesOf}
+use Rattle.laws.proofs.Widths.{in-slice}
 use Rattle.memory.proofs.set_two_bytes.Statement.{statement}
 use Rattle.memory.proofs.set_two_bytes.Tie as tie
 
@@ -19,7 +20,7 @@ cast-bytes-2 : tie.Need-cast-bytes-2
 cast-bytes-2 c = search needs
 
 add-bytes : tie.Need-add-bytes
-add-bytes c = search needs
+add-bytes c = in-slice (c .args .bytes .now) (search needs) (search needs)
 
 slice-write-bytes-2 : tie.Need-slice-write-bytes-2
 slice-write-bytes-2 c = simp length-set (omega arith)

@@ -2,11 +2,12 @@
 -- Assumes nothing.
 use borrow.Author.Needs.{needs}
 use Rattle.rules.specs.Words.{withWord}
+use Rattle.laws.proofs.Widths.{in-slice}
 use Rattle.memory.proofs.set_word.Statement.{statement}
 use Rattle.memory.proofs.set_word.Tie as tie
 
 mul-set-four-bytes : tie.Need-mul-set-four-bytes
-mul-set-four-bytes c = search needs
+mul-set-four-bytes c = in-slice (c .before .before .args .bytes .now) (search needs) (search needs)
 
 set-four-bytes-requires : tie.Need-set-four-bytes-requires
 set-four-bytes-requires c κs = search needs

@@ -8,6 +8,7 @@ use lib.ListN.{getD, drop}
 use lib.Seq.{getD-drop}
 use borrow.Author.Needs.{needs}
 use Rattle.rules.specs.Words.{number, firstTwo}
+use Rattle.laws.proofs.Widths.{in-slice}
 use Rattle.memory.proofs.two_bytes.Statement.{statement}
 use Rattle.memory.proofs.two_bytes.Tie as tie
 
@@ -21,7 +22,7 @@ shared-slice-read-from-le-bytes : tie.Need-shared-slice-read-from-le-bytes
 shared-slice-read-from-le-bytes c = search needs
 
 add-from-le-bytes : tie.Need-add-from-le-bytes
-add-from-le-bytes c = search needs
+add-from-le-bytes c = in-slice (c .before .before .args .bytes .now) (search needs) (search needs)
 
 shared-slice-read-from-le-bytes-2 : tie.Need-shared-slice-read-from-le-bytes-2
 shared-slice-read-from-le-bytes-2 c = search needs

@@ -2,29 +2,30 @@
 -- Assumes nothing.
 use borrow.Author.Needs.{needs}
 use Rattle.rules.specs.Words.{wordAt}
+use Rattle.laws.proofs.Widths.{in-slice}
 use Rattle.memory.proofs.word.Statement.{statement}
 use Rattle.memory.proofs.word.Tie as tie
 
 mul-at : tie.Need-mul-at
-mul-at c = search needs
+mul-at c = in-slice (c .before .args .bytes .now) (search needs) (search needs)
 
 shared-slice-read-from-le-bytes : tie.Need-shared-slice-read-from-le-bytes
 shared-slice-read-from-le-bytes c = search needs
 
 add-from-le-bytes : tie.Need-add-from-le-bytes
-add-from-le-bytes c = search needs
+add-from-le-bytes c = in-slice (c .before .before .args .bytes .now) (search needs) (search needs)
 
 shared-slice-read-from-le-bytes-2 : tie.Need-shared-slice-read-from-le-bytes-2
 shared-slice-read-from-le-bytes-2 c = search needs
 
 add-from-le-bytes-2 : tie.Need-add-from-le-bytes-2
-add-from-le-bytes-2 c = search needs
+add-from-le-bytes-2 c = in-slice (c .before .before .before .args .bytes .now) (search needs) (search needs)
 
 shared-slice-read-from-le-bytes-3 : tie.Need-shared-slice-read-from-le-bytes-3
 shared-slice-read-from-le-bytes-3 c = search needs
 
 add-from-le-bytes-3 : tie.Need-add-from-le-bytes-3
-add-from-le-bytes-3 c = search needs
+add-from-le-bytes-3 c = in-slice (c .before .before .before .before .args .bytes .now) (search needs) (search needs)
 
 shared-slice-read-from-le-bytes-4 : tie.Need-shared-slice-read-from-le-bytes-4
 shared-slice-read-from-le-bytes-4 c = search needs
