@@ -2,7 +2,7 @@
 -- Assumes nothing.
 use mathlib.Core.Path.{_≡_, refl, sym, ap, _∙_}
 use mathlib.Core.List.{List}
-use Prim.Native.Nat.{ℕ, _+_, _*_, _/_, _%_, _<_}
+use Prim.Native.Nat.{ℕ, _+_, _*_, _/_, _%_, _≤_, _<_}
 use native.Mathlib.Omega.{arith}
 use lib.ListN.{length, getD, set, length-set}
 use Rattle.rules.specs.Bits.{bitOf, bitAt}
@@ -18,6 +18,10 @@ use Rattle.entries.specs.Groups.{lane}
 -- the byte of a block is in the plane
 pub block-byte : (t : ℕ) (table : List ℕ) (k : ℕ) → k < length (entriesIn t table) → k / 8 < planeBytes t
 block-byte t table k h = omega (arith, h, length-entriesIn t table, room-entries t .0)
+
+-- and that of its high bit is one of few
+pub high-byte : (t : ℕ) (table : List ℕ) (k : ℕ) → t ≤ 1024 → k < length (entriesIn t table) → planeBytes t + k / 8 < 1024
+high-byte t table k few h = omega (arith, few, block-byte t table k h, room-entries t .1)
 
 -- entry k is in byte k / 8 of each plane
 pub entry-byte : (t : ℕ) (table : List ℕ) (k : ℕ) → entryIn t table k ≡ bitOf (getD table (k / 8) 0) (k % 8) + 2 * bitOf (getD table (planeBytes t + k / 8) 0) (k % 8)

@@ -10,6 +10,7 @@ use borrow.Author.Tests.{leb-true, leb-false, le-leb, lt-leb}
 use Rattle.rules.specs.Tests.{pick}
 use Rattle.rules.specs.Bits.{bitOf}
 use Rattle.laws.proofs.Bits.{bitOf-ones}
+use Rattle.laws.proofs.Widths.{in-32-bits}
 use Rattle.entries.proofs.Masks.{upper-bits}
 use Rattle.entries.proofs.bits_from.Statement.{statement}
 use Rattle.entries.proofs.bits_from.Tie as tie
@@ -29,7 +30,7 @@ all : (first from : ℕ) → from ≤ first → (j : ℕ) → j < 8 → bitOf 25
 all first from h j hj = rw (le-leb from (first + j) (omega arith)) (bitOf-ones 8 j hj)
 
 mul-first : tie.Need-mul-first
-mul-first c = search needs
+mul-first c = in-32-bits (search needs)
 
 sub-result : tie.Need-sub-result
 sub-result c = search needs

@@ -10,6 +10,7 @@ use borrow.Author.Tests.{ltb-true, ltb-false, lt-ltb, le-ltb}
 use Rattle.rules.specs.Tests.{pick}
 use Rattle.rules.specs.Bits.{bitOf}
 use Rattle.laws.proofs.Bits.{bitOf-ones}
+use Rattle.laws.proofs.Widths.{in-32-bits}
 use Rattle.entries.proofs.Masks.{lower-bits}
 use Rattle.entries.proofs.bits_to.Statement.{statement}
 use Rattle.entries.proofs.bits_to.Tie as tie
@@ -29,10 +30,10 @@ all : (first to : ℕ) → first + 8 ≤ to → (j : ℕ) → j < 8 → bitOf 25
 all first to h j hj = rw (lt-ltb (first + j) to (omega arith)) (bitOf-ones 8 j hj)
 
 mul-end : tie.Need-mul-end
-mul-end c = search needs
+mul-end c = in-32-bits (search needs)
 
 add-end : tie.Need-add-end
-add-end c = search needs
+add-end c = in-32-bits (search needs)
 
 sub-result : tie.Need-sub-result
 sub-result c = search needs

@@ -2,7 +2,8 @@
 -- Assumes nothing.
 use native.Mathlib.Omega.{arith}
 use borrow.Author.Needs.{needs}
-use Rattle.entries.proofs.Holding.{block-byte, bit-small, both-read}
+use Rattle.laws.proofs.Widths.{in-32-bits, as-u8}
+use Rattle.entries.proofs.Holding.{block-byte, high-byte, bit-small, both-read}
 use Rattle.entries.proofs.entry.Statement.{statement}
 use Rattle.entries.proofs.entry.Tie as tie
 
@@ -13,7 +14,9 @@ plane-bytes-requires : tie.Need-plane-bytes-requires
 plane-bytes-requires c κs = search needs
 
 add-high : tie.Need-add-high
-add-high c = search needs
+add-high c =
+    let b = c .before .before .before in
+    in-32-bits (record { fits = omega (arith, c .before .index .ensures, c .plane-bytes .ensures, high-byte (b .args .t) (b .args .table .now) (b .args .k .0) (b .pre .0 .sized .few) (b .pre .1)) })
 
 shared-slice-read-bit : tie.Need-shared-slice-read-bit
 shared-slice-read-bit c =
@@ -32,10 +35,10 @@ bit-requires-2 : tie.Need-bit-requires-2
 bit-requires-2 c κs = search needs
 
 mul-result : tie.Need-mul-result
-mul-result c = record { fits = omega (arith, bit-small _ _ _ (c .bit2 .ensures)) }
+mul-result c = as-u8 (record { fits = omega (arith, bit-small _ _ _ (c .bit2 .ensures)) })
 
 add-result : tie.Need-add-result
-add-result c = record { fits = omega (arith, bit-small _ _ _ (c .before .before .bit .ensures), bit-small _ _ _ (c .bit2 .ensures)) }
+add-result c = as-u8 (record { fits = omega (arith, bit-small _ _ _ (c .before .before .bit .ensures), bit-small _ _ _ (c .bit2 .ensures)) })
 
 returns : tie.Need-returns
 returns c =

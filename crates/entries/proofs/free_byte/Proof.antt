@@ -12,7 +12,8 @@ use Rattle.rules.specs.Bits.{bitOf}
 use Rattle.rules.specs.Tables.{entryAt}
 use Rattle.rules.specs.Planes.{planeBytes, entriesIn, spareFree}
 use Rattle.laws.proofs.Bits.{bitOf-lt, bitOf-or, bitOf-not}
-use Rattle.laws.proofs.Planes.{neither-bit, entry-clean}
+use Rattle.laws.proofs.Planes.{room-entries, neither-bit, entry-clean}
+use Rattle.laws.proofs.Widths.{in-32-bits}
 use Rattle.entries.specs.Groups.{FreeByte}
 use Rattle.entries.proofs.Holding.{entry-in}
 use Rattle.entries.proofs.free_byte.Statement.{statement}
@@ -34,7 +35,9 @@ plane-bytes-requires : tie.Need-plane-bytes-requires
 plane-bytes-requires c κs = search needs
 
 add-result : tie.Need-add-result
-add-result c = search needs
+add-result c =
+    let b = c .before .before .before in
+    in-32-bits (record { fits = omega (arith, c .plane-bytes .ensures, b .pre .0 .sized .few, b .pre .1, room-entries (b .args .t) .1) })
 
 shared-slice-read-result-2 : tie.Need-shared-slice-read-result-2
 shared-slice-read-result-2 c = search needs

@@ -15,6 +15,7 @@ use Rattle.rules.specs.Entries.{FREE}
 use Rattle.rules.specs.Tables.{entryAt}
 use Rattle.rules.specs.Planes.{planeBytes, entryIn, entriesIn, IsTable}
 use Rattle.laws.proofs.Planes.{length-entriesIn, room-entries, entry-clean}
+use Rattle.laws.proofs.Widths.{in-32-bits}
 use Rattle.memory.specs.Bits.{BitsFrom}
 use Rattle.entries.specs.Groups.{InGroup}
 use Rattle.entries.proofs.group.Statement.{statement}
@@ -51,16 +52,18 @@ plane-bytes-requires : tie.Need-plane-bytes-requires
 plane-bytes-requires c κs = search needs
 
 mul-at : tie.Need-mul-at
-mul-at c = record { fits = omega (arith, short c) }
+mul-at c = in-32-bits (record { fits = omega (arith, short c) })
 
 add-if1 : tie.Need-add-if1
-add-if1 c = record { fits = omega (arith, short c) }
+add-if1 c = in-32-bits (record { fits = omega (arith, short c) })
 
 bits-requires : tie.Need-bits-requires
 bits-requires c κs = search needs
 
 add-bits : tie.Need-add-bits
-add-bits c = search needs
+add-bits c =
+    let b = c .before .before .before .before in
+    in-32-bits (record { fits = omega (arith, c .before .before .plane-bytes .ensures, b .pre .0 .sized .few, room-entries (b .args .t) .1) })
 
 bits-requires-2 : tie.Need-bits-requires-2
 bits-requires-2 c κs = search needs
@@ -80,10 +83,12 @@ last-bits-requires c κs =
 add-last-bits : tie.Need-add-last-bits
 add-last-bits c =
     let b = c .before .before .before .before in
-    record { fits = omega (arith, c .before .before .plane-bytes .ensures, starts (b .args .t) (b .args .table .now) (b .args .i) (b .pre .1), room-entries (b .args .t) .1) }
+    in-32-bits (record { fits = omega (arith, c .before .before .plane-bytes .ensures, starts (b .args .t) (b .args .table .now) (b .args .i) (b .pre .1), room-entries (b .args .t) .1) })
 
 mul-last-bits : tie.Need-mul-last-bits
-mul-last-bits c = search needs
+mul-last-bits c =
+    let b = c .before .before .before .before in
+    in-32-bits (record { fits = omega (arith, c .before .before .plane-bytes .ensures, b .pre .0 .sized .few, room-entries (b .args .t) .1) })
 
 last-bits-requires-2 : tie.Need-last-bits-requires-2
 last-bits-requires-2 c κs =

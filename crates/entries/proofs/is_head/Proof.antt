@@ -9,7 +9,8 @@ use borrow.Author.Needs.{needs}
 use borrow.Author.Tests.{eqb-true, eqb-false, eq-eqb, ne-eqb}
 use Rattle.rules.specs.Entries.{HEAD}
 use Rattle.rules.specs.Tables.{isHead}
-use Rattle.entries.proofs.Holding.{block-byte, bit-small, low-read, both-read}
+use Rattle.laws.proofs.Widths.{in-32-bits}
+use Rattle.entries.proofs.Holding.{block-byte, high-byte, bit-small, low-read, both-read}
 use Rattle.entries.proofs.is_head.Statement.{statement}
 use Rattle.entries.proofs.is_head.Tie as tie
 
@@ -46,7 +47,9 @@ plane-bytes-requires : tie.Need-plane-bytes-requires
 plane-bytes-requires c κs = search needs
 
 add-high : tie.Need-add-high
-add-high c = search needs
+add-high c =
+    let b = c .before .before .before .before .before .before in
+    in-32-bits (record { fits = omega (arith, c .before .before .before .before .index .ensures, c .plane-bytes .ensures, high-byte (b .args .t) (b .args .table .now) (b .args .k .0) (b .pre .0 .sized .few) (b .pre .1)) })
 
 shared-slice-read-bit-2 : tie.Need-shared-slice-read-bit-2
 shared-slice-read-bit-2 c =

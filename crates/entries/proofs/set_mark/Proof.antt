@@ -17,7 +17,8 @@ use Rattle.rules.specs.Planes.{planeBytes, entryIn, entriesIn, IsTable, Holds}
 use Rattle.laws.proofs.Bits.{bitOf-lt, bitOf-or, bitAt-lt}
 use Rattle.laws.proofs.Planes.{length-entriesIn, entry-clean, holds-of}
 use Rattle.laws.proofs.Tables.{entry-inside}
-use Rattle.entries.proofs.Holding.{block-byte, entry-high, high-stored, high-kept}
+use Rattle.laws.proofs.Widths.{in-32-bits}
+use Rattle.entries.proofs.Holding.{block-byte, high-byte, entry-high, high-stored, high-kept}
 use Rattle.entries.proofs.Masks.{one-bit}
 use Rattle.entries.proofs.set_mark.Statement.{statement}
 use Rattle.entries.proofs.set_mark.Tie as tie
@@ -98,7 +99,9 @@ plane-bytes-requires : tie.Need-plane-bytes-requires
 plane-bytes-requires c κs = search needs
 
 add-high : tie.Need-add-high
-add-high c = search needs
+add-high c =
+    let b = c .before .before .before in
+    in-32-bits (record { fits = omega (arith, c .before .index .ensures, c .plane-bytes .ensures, high-byte (b .args .t) (b .args .table .now) (b .args .k .0) (b .pre .0 .sized .few) (head-inside (b .args .t) (b .args .table .now) (b .args .k .0) (b .pre .1))) })
 
 slice-read-table : tie.Need-slice-read-table
 slice-read-table c = byte-inside c

@@ -18,6 +18,7 @@ use Rattle.rules.specs.Tables.{entryAt}
 use Rattle.rules.specs.Planes.{planeBytes, entryIn, entriesIn, IsTable, Holds}
 use Rattle.laws.proofs.Lists.{sets-in, sets-out}
 use Rattle.laws.proofs.Planes.{length-entriesIn, room-entries, entry-clean, holds-of}
+use Rattle.laws.proofs.Widths.{in-32-bits}
 use Rattle.entries.specs.Groups.{Span}
 use Rattle.entries.proofs.Holding.{entry-byte, both-stored, both-kept}
 use Rattle.entries.proofs.set_run.Statement.{statement}
@@ -140,7 +141,7 @@ index-requires c κs = search needs
 add-end : tie.Need-add-end Inv-loop μ-loop
 add-end c =
     let b = c .before .before in
-    record { fits = omega (arith, c .index .ensures, b .pre .0 .sized .few, b .pre .1 .0, length-entriesIn (b .args .t) (b .args .table .now)) }
+    in-32-bits (record { fits = omega (arith, c .index .ensures, b .pre .0 .sized .few, b .pre .1 .0, length-entriesIn (b .args .t) (b .args .table .now)) })
 
 plane-bytes-requires : tie.Need-plane-bytes-requires Inv-loop μ-loop
 plane-bytes-requires c κs = c .before .before .pre .0 .sized .few
@@ -149,7 +150,7 @@ loop-holds : tie.Need-loop-holds Inv-loop μ-loop
 loop-holds c = (omega arith, (omega arith, none-filled _ _ _ _ _))
 
 mul-loop : tie.Need-mul-loop Inv-loop μ-loop
-mul-loop c = record { fits = omega (arith, knows c .0, knows c .1 .0, c .loop .inv .1 .0) }
+mul-loop c = in-32-bits (record { fits = omega (arith, knows c .0, knows c .1 .0, c .loop .inv .1 .0) })
 
 span-requires : tie.Need-span-requires Inv-loop μ-loop
 span-requires c κs =
@@ -166,7 +167,7 @@ slice-write-table : tie.Need-slice-write-table Inv-loop μ-loop
 slice-write-table c = let k = knows (c .before .before .before .before) in omega (arith, k .0, k .1 .1)
 
 add-with-bits : tie.Need-add-with-bits Inv-loop μ-loop
-add-with-bits c = let k = knows (c .before .before .before .before) in record { fits = omega (arith, k .0, k .1 .0) }
+add-with-bits c = let k = knows (c .before .before .before .before) in in-32-bits (record { fits = omega (arith, k .0, k .1 .0) })
 
 slice-read-with-bits-2 : tie.Need-slice-read-with-bits-2 Inv-loop μ-loop
 slice-read-with-bits-2 c = let k = knows (c .before .before .before .before .before) in simp length-set (omega (arith, k .0, k .1 .1))
@@ -175,13 +176,13 @@ with-bits-requires-2 : tie.Need-with-bits-requires-2 Inv-loop μ-loop
 with-bits-requires-2 c κs = let b = c .before .before .before .before .before .before .before .before .before in omega (arith, b .pre .1 .1)
 
 add-table : tie.Need-add-table Inv-loop μ-loop
-add-table c = let k = knows (c .before .before .before .before .before .before) in record { fits = omega (arith, k .0, k .1 .0) }
+add-table c = let k = knows (c .before .before .before .before .before .before) in in-32-bits (record { fits = omega (arith, k .0, k .1 .0) })
 
 slice-write-table-2 : tie.Need-slice-write-table-2 Inv-loop μ-loop
 slice-write-table-2 c = let k = knows (c .before .before .before .before .before .before) in simp length-set (omega (arith, k .0, k .1 .1))
 
 add-i : tie.Need-add-i Inv-loop μ-loop
-add-i c = let k = knows (c .before .before .before .before .before .before) in record { fits = omega (arith, k .0, k .1 .0) }
+add-i c = let k = knows (c .before .before .before .before .before .before) in in-32-bits (record { fits = omega (arith, k .0, k .1 .0) })
 
 loop-less : tie.Need-loop-less Inv-loop μ-loop
 loop-less c = omega arith

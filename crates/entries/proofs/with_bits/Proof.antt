@@ -11,6 +11,7 @@ use lib.Pow.{pow-mono}
 use Rattle.rules.specs.Tests.{pick}
 use Rattle.rules.specs.Bits.{bitOf}
 use Rattle.laws.proofs.Bits.{bitOf-lt, bitOf-zero, bitOf-above, bitOf-and, bitOf-or, bitOf-not}
+use Rattle.laws.proofs.Widths.{as-u8}
 use Rattle.entries.proofs.with_bits.Statement.{statement}
 use Rattle.entries.proofs.with_bits.Tie as tie
 
@@ -63,7 +64,7 @@ replaced b bits to hb h l j =
     one-of false = omega arith
 
 mul-result : tie.Need-mul-result
-mul-result c = record { fits = times-small (c .args .bits) (c .args .to) (c .fits .bits .fits) (c .pre) }
+mul-result c = as-u8 (record { fits = times-small (c .args .bits) (c .args .to) (c .fits .bits .fits) (c .pre) })
 
 returns : tie.Need-returns
 returns c = replaced (c .args .b) (c .args .bits) (c .args .to) (c .fits .b .fits) (c .fits .bits .fits) (c .pre)
