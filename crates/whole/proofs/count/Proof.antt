@@ -13,6 +13,7 @@ use Rattle.rules.specs.Tables.{isUsed, isHead}
 use Rattle.laws.specs.Meaning.{AllBytes}
 use Rattle.rules.specs.Planes.{planeBytes}
 use Rattle.laws.proofs.Planes.{room-entries}
+use Rattle.laws.proofs.Widths.{in-32-bits, as-u16}
 use Rattle.whole.proofs.Ones.{upTo, few, used-turn, heads-turn, used-end, heads-end}
 use Rattle.whole.proofs.count.Statement.{statement}
 use Rattle.whole.proofs.count.Tie as tie
@@ -22,6 +23,10 @@ Inv-loop t table half used₀ heads₀ i₀ used heads i = (i ≤ half) × (used
 
 abbrev μ-loop : tie.MeasureT-loop
 μ-loop t table half used₀ heads₀ i₀ used heads i = half - i
+
+-- a plane is short
+short : (c : tie.After-plane-bytes Inv-loop μ-loop) → c .plane-bytes .result ≤ 512
+short c = omega (arith, c .plane-bytes .ensures, c .before .before .pre .sized .few, room-entries (c .before .before .args .t) .1)
 
 plane-bytes-requires : tie.Need-plane-bytes-requires Inv-loop μ-loop
 plane-bytes-requires c κs = search needs
@@ -35,7 +40,7 @@ shared-slice-read-low : tie.Need-shared-slice-read-low Inv-loop μ-loop
 shared-slice-read-low c = search needs
 
 add-high : tie.Need-add-high Inv-loop μ-loop
-add-high c = search needs
+add-high c = in-32-bits (record { fits = omega (arith, short (c .before .before .before)) })
 
 shared-slice-read-high : tie.Need-shared-slice-read-high Inv-loop μ-loop
 shared-slice-read-high c = search needs
@@ -83,16 +88,16 @@ cast-used : tie.Need-cast-used Inv-loop μ-loop
 cast-used c = record { fits = omega (arith, used-after c, small c isUsed) }
 
 add-used : tie.Need-add-used Inv-loop μ-loop
-add-used c = record { fits = omega (arith, used-after c, small c isUsed) }
+add-used c = as-u16 (record { fits = omega (arith, used-after c, small c isUsed) })
 
 cast-heads : tie.Need-cast-heads Inv-loop μ-loop
 cast-heads c = record { fits = omega (arith, heads-after c, small c isHead) }
 
 add-heads : tie.Need-add-heads Inv-loop μ-loop
-add-heads c = record { fits = omega (arith, heads-after c, small c isHead) }
+add-heads c = as-u16 (record { fits = omega (arith, heads-after c, small c isHead) })
 
 add-i : tie.Need-add-i Inv-loop μ-loop
-add-i c = search needs
+add-i c = in-32-bits (record { fits = omega (arith, short (c .before .before .before .before)) })
 
 loop-less : tie.Need-loop-less Inv-loop μ-loop
 loop-less c = search needs

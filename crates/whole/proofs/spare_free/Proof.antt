@@ -18,7 +18,8 @@ use Rattle.rules.specs.Planes.{planeBytes, entryIn, spare, spareFree}
 use Rattle.laws.proofs.Below.{alike-below}
 use Rattle.laws.proofs.Lists.{one}
 use Rattle.laws.proofs.Bits.{bitOf-lt, bitOf-or, bitOf-shr}
-use Rattle.laws.proofs.Planes.{entryIn-byte}
+use Rattle.laws.proofs.Planes.{room-entries, entryIn-byte}
+use Rattle.laws.proofs.Widths.{in-32-bits}
 use Rattle.whole.proofs.Lanes.{used-bit}
 use Rattle.whole.proofs.Ones.{count-ones}
 use Rattle.whole.proofs.spare_free.Statement.{statement}
@@ -84,7 +85,9 @@ shared-slice-read-result : tie.Need-shared-slice-read-result
 shared-slice-read-result c = omega (arith, some-byte (c .before), c .before .plane-bytes .ensures, c .before .before .before .before .pre .long)
 
 mul-result : tie.Need-mul-result
-mul-result c = search needs
+mul-result c =
+    let b = c .before .before .before .before in
+    in-32-bits (record { fits = omega (arith, c .before .plane-bytes .ensures, b .pre .few, room-entries (b .args .t) .1) })
 
 sub-result-2 : tie.Need-sub-result-2
 sub-result-2 c = omega (arith, some-byte (c .before))

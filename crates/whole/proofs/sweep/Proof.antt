@@ -7,6 +7,8 @@ use native.Mathlib.Omega.{arith}
 use lib.ListN.{length}
 use borrow.Author.Needs.{needs}
 use Rattle.rules.specs.Planes.{planeBytes, entriesIn}
+use Rattle.laws.proofs.Planes.{room-entries}
+use Rattle.laws.proofs.Widths.{in-32-bits}
 use Rattle.whole.specs.Sweeps.{SweptTo}
 use Rattle.whole.proofs.Steps.{swept-start, swept-end, keeping-lt}
 use Rattle.whole.proofs.sweep.Statement.{statement}
@@ -25,6 +27,10 @@ Inv-loop2 t table₁ half groups keeping₀ i j₀ table keeping j =
 abbrev μ-loop2 : tie.MeasureT-loop2
 μ-loop2 t table₁ half groups keeping₀ i j₀ table keeping j = half - j
 
+-- a plane is short
+short : (c : tie.After-plane-bytes Inv-loop μ-loop Inv-loop2 μ-loop2) → c .plane-bytes .result ≤ 512
+short c = omega (arith, c .plane-bytes .ensures, c .before .before .pre .sized .few, room-entries (c .before .before .args .t) .1)
+
 plane-bytes-requires : tie.Need-plane-bytes-requires Inv-loop μ-loop Inv-loop2 μ-loop2
 plane-bytes-requires c κs = search needs
 
@@ -34,7 +40,7 @@ loop-holds c =
     (omega arith, rw (c .plane-bytes .ensures) (a .pre .sized .long), swept-start (a .args .t) (a .args .table .now) (a .pre .clean))
 
 mul-sweep-eight : tie.Need-mul-sweep-eight Inv-loop μ-loop Inv-loop2 μ-loop2
-mul-sweep-eight c = search needs
+mul-sweep-eight c = in-32-bits (record { fits = omega (arith, short (c .before .before .before)) })
 
 sweep-eight-requires : tie.Need-sweep-eight-requires Inv-loop μ-loop Inv-loop2 μ-loop2
 sweep-eight-requires c κs =
@@ -42,7 +48,7 @@ sweep-eight-requires c κs =
     (keeping-lt (l .inv .2), (omega arith, l .inv .1))
 
 add-i : tie.Need-add-i Inv-loop μ-loop Inv-loop2 μ-loop2
-add-i c = search needs
+add-i c = in-32-bits (record { fits = omega (arith, short (c .before .before .before .before .before .before)) })
 
 loop-less : tie.Need-loop-less Inv-loop μ-loop Inv-loop2 μ-loop2
 loop-less c = search needs
@@ -59,7 +65,7 @@ loop-again c =
     )
 
 mul-j : tie.Need-mul-j Inv-loop μ-loop Inv-loop2 μ-loop2
-mul-j c = search needs
+mul-j c = in-32-bits (record { fits = omega (arith, short (c .before .before)) })
 
 -- what the first loop leaves
 first : (c : tie.After-loop Inv-loop μ-loop Inv-loop2 μ-loop2) →
@@ -79,7 +85,7 @@ sweep-one-requires c κs =
     (keeping-lt (l .inv .2 _ (first (c .before .before .before))), (omega arith, l .inv .1))
 
 add-j : tie.Need-add-j Inv-loop μ-loop Inv-loop2 μ-loop2
-add-j c = search needs
+add-j c = in-32-bits (record { fits = omega (arith, short (c .before .before .before .before .before .before .before .before)) })
 
 loop2-less : tie.Need-loop2-less Inv-loop μ-loop Inv-loop2 μ-loop2
 loop2-less c = search needs

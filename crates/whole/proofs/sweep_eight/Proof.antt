@@ -12,6 +12,7 @@ use Rattle.memory.specs.Bits.{BitsFrom, WithBits}
 use Rattle.rules.specs.Tests.{pick, both}
 use Rattle.rules.specs.Bits.{bitOf, bitAt}
 use Rattle.rules.specs.Planes.{planeBytes, entryIn}
+use Rattle.laws.proofs.Widths.{in-slice}
 use Rattle.whole.proofs.Steps.{Step, swept-on}
 use Rattle.whole.proofs.sweep_eight.Statement.{statement}
 use Rattle.whole.proofs.sweep_eight.Tie as tie
@@ -69,7 +70,7 @@ bits-requires : tie.Need-bits-requires
 bits-requires c κs = search needs
 
 add-bits : tie.Need-add-bits
-add-bits c = search needs
+add-bits c = in-slice (c .before .before .before .before .args .table .now) (search needs) (search needs)
 
 bits-requires-2 : tie.Need-bits-requires-2
 bits-requires-2 c κs = search needs
@@ -81,7 +82,7 @@ set-bits-requires : tie.Need-set-bits-requires
 set-bits-requires c κs = search needs
 
 add-set-bits : tie.Need-add-set-bits
-add-set-bits c = search needs
+add-set-bits c = in-slice (c .before .before .before .before .before .before .before .before .before .before .before .args .table .now) (search needs) (search needs)
 
 set-bits-requires-2 : tie.Need-set-bits-requires-2
 set-bits-requires-2 c κs = search needs

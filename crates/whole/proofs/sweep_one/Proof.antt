@@ -11,6 +11,7 @@ use lib.Seq.{getD-set-same, getD-set-other}
 use borrow.Author.Needs.{needs}
 use Rattle.rules.specs.Bits.{bitOf}
 use Rattle.rules.specs.Planes.{planeBytes, entryIn}
+use Rattle.laws.proofs.Widths.{in-slice}
 use Rattle.entries.proofs.Holding.{entry-in}
 use Rattle.whole.proofs.Steps.{Step, swept-on}
 use Rattle.whole.proofs.sweep_one.Statement.{statement}
@@ -64,7 +65,7 @@ cast-sweep-bits : tie.Need-cast-sweep-bits
 cast-sweep-bits c = record { fits = omega (arith, c .slice-known2 .given (c .before .before .args .at) .fits) }
 
 add-sweep-bits : tie.Need-add-sweep-bits
-add-sweep-bits c = search needs
+add-sweep-bits c = in-slice (c .before .before .args .table .now) (search needs) (search needs)
 
 slice-read-sweep-bits-2 : tie.Need-slice-read-sweep-bits-2
 slice-read-sweep-bits-2 c = search needs
@@ -87,7 +88,7 @@ cast-table-2 c =
     record { fits = omega (arith, c .before .before .sweep-bits .ensures .fits .1, c .before .before .before .slice-known3 .given (a .half + a .at) .fits) }
 
 add-table : tie.Need-add-table
-add-table c = search needs
+add-table c = in-slice (c .before .before .before .before .before .before .args .table .now) (search needs) (search needs)
 
 slice-write-table-2 : tie.Need-slice-write-table-2
 slice-write-table-2 c =

@@ -21,6 +21,7 @@ use Rattle.laws.proofs.Lists.{one, one-lt}
 use Rattle.laws.proofs.Tables.{entry-outside, may-at, may-all}
 use Rattle.laws.proofs.Bits.{two-bits, or-none, bitOf-lt, bitOf-first, bitOf-suc, bitOf-zero, bitOf-and, bitOf-or, bitOf-not, bitOf-mod, bitOf-shl, bitOf-below, bits-same}
 use Rattle.laws.proofs.Planes.{length-entriesIn, room-entries, entry-clean}
+use Rattle.laws.proofs.Widths.{in-32-bits}
 use Rattle.entries.proofs.Holding.{entry-in}
 use Rattle.whole.proofs.Lanes.{used-bit}
 use Rattle.whole.proofs.well_formed.Statement.{statement}
@@ -171,6 +172,10 @@ Inv-loop t table half bad₀ before₀ i₀ bad before i = (i ≤ half) × Found
 abbrev μ-loop : tie.MeasureT-loop
 μ-loop t table half bad₀ before₀ i₀ bad before i = half - i
 
+-- a plane is short
+short : (c : tie.After-plane-bytes Inv-loop μ-loop) → c .plane-bytes .result ≤ 512
+short c = omega (arith, c .plane-bytes .ensures, c .before .before .pre .sized .few, room-entries (c .before .before .args .t) .1)
+
 plane-bytes-requires : tie.Need-plane-bytes-requires Inv-loop μ-loop
 plane-bytes-requires c κs = search needs
 
@@ -181,13 +186,13 @@ shared-slice-read-low : tie.Need-shared-slice-read-low Inv-loop μ-loop
 shared-slice-read-low c = search needs
 
 add-high : tie.Need-add-high Inv-loop μ-loop
-add-high c = search needs
+add-high c = in-32-bits (record { fits = omega (arith, short (c .before .before .before)) })
 
 shared-slice-read-high : tie.Need-shared-slice-read-high Inv-loop μ-loop
 shared-slice-read-high c = search needs
 
 add-i : tie.Need-add-i Inv-loop μ-loop
-add-i c = search needs
+add-i c = in-32-bits (record { fits = omega (arith, short (c .before .before .before .before)) })
 
 loop-less : tie.Need-loop-less Inv-loop μ-loop
 loop-less c = search needs
