@@ -13,6 +13,7 @@ use Rattle.rules.specs.Planes.{planeBytes, entriesIn}
 use Rattle.laws.proofs.Entries.{length-tableOf, getD-tableOf}
 use Rattle.laws.proofs.Bits.{bitOf-lt}
 use Rattle.laws.proofs.Planes.{length-entriesIn, getD-entriesIn, room-entries}
+use Rattle.laws.proofs.Widths.{in-32-bits, in-slice}
 use Rattle.entries.specs.Groups.{lane}
 use Rattle.entries.proofs.Holding.{entry-in}
 use Rattle.packing.specs.Packing.{Interleaved}
@@ -93,6 +94,10 @@ Inv-loop t table buffer₀ at half i₀ buffer i =
 abbrev μ-loop : tie.MeasureT-loop
 μ-loop t table buffer₀ at half i₀ buffer i = t / 2 - i
 
+-- a plane is short
+short : (c : tie.After-plane-bytes Inv-loop μ-loop) → c .plane-bytes .result ≤ 512
+short c = let b = c .before .before .before in omega (arith, c .plane-bytes .ensures, b .pre .0 .sized .few, room-entries (b .args .t) .1)
+
 plane-bytes-requires : tie.Need-plane-bytes-requires Inv-loop μ-loop
 plane-bytes-requires c κs = search needs
 
@@ -114,7 +119,7 @@ shared-slice-read-interleave c =
     omega (arith, in-plane (c .before), p .plane-bytes .ensures, p .before .before .before .pre .0 .sized .long)
 
 add-interleave : tie.Need-add-interleave Inv-loop μ-loop
-add-interleave c = search needs
+add-interleave c = in-32-bits (record { fits = omega (arith, short (c .before .before .before)) })
 
 shared-slice-read-interleave-2 : tie.Need-shared-slice-read-interleave-2 Inv-loop μ-loop
 shared-slice-read-interleave-2 c =
@@ -125,10 +130,10 @@ interleave-requires : tie.Need-interleave-requires Inv-loop μ-loop
 interleave-requires c κs = search needs
 
 mul-set-two-bytes : tie.Need-mul-set-two-bytes Inv-loop μ-loop
-mul-set-two-bytes c = search needs
+mul-set-two-bytes c = in-32-bits (search needs)
 
 add-set-two-bytes : tie.Need-add-set-two-bytes Inv-loop μ-loop
-add-set-two-bytes c = search needs
+add-set-two-bytes c = in-slice (c .before .before .before .before .before .before .before .before .before .args .buffer .now) (search needs) (search needs)
 
 cast-set-two-bytes : tie.Need-cast-set-two-bytes Inv-loop μ-loop
 cast-set-two-bytes c = search needs
@@ -137,7 +142,7 @@ set-two-bytes-requires : tie.Need-set-two-bytes-requires Inv-loop μ-loop
 set-two-bytes-requires c κs = search needs
 
 add-i : tie.Need-add-i Inv-loop μ-loop
-add-i c = search needs
+add-i c = in-32-bits (search needs)
 
 loop-less : tie.Need-loop-less Inv-loop μ-loop
 loop-less c = search needs
@@ -170,7 +175,7 @@ shared-slice-read-interleave-3 c =
     omega (arith, last-in-plane (c .before), p .plane-bytes .ensures, p .before .before .before .pre .0 .sized .long)
 
 add-interleave-2 : tie.Need-add-interleave-2 Inv-loop μ-loop
-add-interleave-2 c = search needs
+add-interleave-2 c = in-32-bits (record { fits = omega (arith, short (c .before .before .before .before)) })
 
 shared-slice-read-interleave-4 : tie.Need-shared-slice-read-interleave-4 Inv-loop μ-loop
 shared-slice-read-interleave-4 c =
@@ -184,10 +189,10 @@ cast-buffer : tie.Need-cast-buffer Inv-loop μ-loop
 cast-buffer c = search needs
 
 mul-buffer : tie.Need-mul-buffer Inv-loop μ-loop
-mul-buffer c = search needs
+mul-buffer c = in-32-bits (search needs)
 
 add-buffer : tie.Need-add-buffer Inv-loop μ-loop
-add-buffer c = search needs
+add-buffer c = in-slice (c .before .before .before .before .before .before .before .before .before .args .buffer .now) (search needs) (search needs)
 
 slice-write-buffer : tie.Need-slice-write-buffer Inv-loop μ-loop
 slice-write-buffer c = search needs

@@ -12,6 +12,7 @@ use Rattle.rules.specs.Tables.{entryAt}
 use Rattle.rules.specs.Planes.{planeBytes, Sized, Holds}
 use Rattle.laws.proofs.Entries.{four, length-entriesOf, getD-entriesOf}
 use Rattle.laws.proofs.Planes.{room-entries, holds-of}
+use Rattle.laws.proofs.Widths.{in-32-bits}
 use Rattle.packing.specs.Packing.{UnpackedTo}
 use Rattle.packing.proofs.unpack.Statement.{statement}
 use Rattle.packing.proofs.unpack.Tie as tie
@@ -61,16 +62,16 @@ loop-holds : tie.Need-loop-holds Inv-loop μ-loop
 loop-holds c = (omega arith, refl, λ k h. absurd (omega arith))
 
 mul-unpack-eight : tie.Need-mul-unpack-eight Inv-loop μ-loop
-mul-unpack-eight c = search needs
+mul-unpack-eight c = in-32-bits (search needs)
 
 shared-slice-read-unpack-eight : tie.Need-shared-slice-read-unpack-eight Inv-loop μ-loop
 shared-slice-read-unpack-eight c = search needs
 
 mul-unpack-eight-2 : tie.Need-mul-unpack-eight-2 Inv-loop μ-loop
-mul-unpack-eight-2 c = search needs
+mul-unpack-eight-2 c = in-32-bits (search needs)
 
 add-unpack-eight : tie.Need-add-unpack-eight Inv-loop μ-loop
-add-unpack-eight c = search needs
+add-unpack-eight c = in-32-bits (search needs)
 
 shared-slice-read-unpack-eight-2 : tie.Need-shared-slice-read-unpack-eight-2 Inv-loop μ-loop
 shared-slice-read-unpack-eight-2 c = search needs
@@ -82,7 +83,7 @@ unpack-eight-requires c κs =
     (omega (arith, p .plane-bytes .ensures, room-entries (s .args .t) .0), omega arith)
 
 add-i : tie.Need-add-i Inv-loop μ-loop
-add-i c = search needs
+add-i c = in-32-bits (search needs)
 
 loop-less : tie.Need-loop-less Inv-loop μ-loop
 loop-less c = search needs
@@ -99,7 +100,7 @@ loop-again c =
     )
 
 mul-unpack-eight-3 : tie.Need-mul-unpack-eight-3 Inv-loop μ-loop
-mul-unpack-eight-3 c = search needs
+mul-unpack-eight-3 c = in-32-bits (search needs)
 
 shared-slice-read-unpack-eight-3 : tie.Need-shared-slice-read-unpack-eight-3 Inv-loop μ-loop
 shared-slice-read-unpack-eight-3 c =

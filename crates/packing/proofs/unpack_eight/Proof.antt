@@ -12,6 +12,7 @@ use Rattle.rules.specs.Entries.{entryOf}
 use Rattle.rules.specs.Tables.{entryAt}
 use Rattle.rules.specs.Planes.{planeBytes, entryIn}
 use Rattle.laws.proofs.Bits.{eight}
+use Rattle.laws.proofs.Widths.{in-slice, as-u16}
 use Rattle.entries.specs.Groups.{lane}
 use Rattle.entries.proofs.Holding.{both-stored, both-kept}
 use Rattle.packing.specs.Packing.{Gathered, UnpacksOn}
@@ -44,10 +45,10 @@ module _ (half i x low high : ℕ) (table : List ℕ) (inside : i < half) (long 
       go (no n) = both-kept t table i low high two in-plane k (omega (arith, h, in-plane)) n ∙ done k (omega (arith, h, n))
 
 mul-eight : tie.Need-mul-eight
-mul-eight c = search needs
+mul-eight c = as-u16 (search needs)
 
 add-eight : tie.Need-add-eight
-add-eight c = search needs
+add-eight c = as-u16 (search needs)
 
 gather-requires : tie.Need-gather-requires
 gather-requires c κs = search needs
@@ -59,7 +60,7 @@ gather-requires-2 : tie.Need-gather-requires-2
 gather-requires-2 c κs = search needs
 
 add-table : tie.Need-add-table
-add-table c = search needs
+add-table c = in-slice (c .before .before .before .args .table .now) (search needs) (search needs)
 
 slice-write-table-2 : tie.Need-slice-write-table-2
 slice-write-table-2 c =

@@ -14,6 +14,7 @@ use Rattle.rules.specs.Tables.{isUsed, used}
 use Rattle.laws.proofs.Below.{equal-below}
 use Rattle.laws.proofs.Lists.{count-le, count-append}
 use Rattle.laws.proofs.Entries.{length-entriesOf}
+use Rattle.laws.proofs.Widths.{in-32-bits, as-u16}
 use Rattle.packing.proofs.Fours.{fourOf, left, left-next, left-none}
 use Rattle.packing.proofs.used.Statement.{statement}
 use Rattle.packing.proofs.used.Tie as tie
@@ -74,10 +75,10 @@ cast-n : tie.Need-cast-n Inv-loop μ-loop
 cast-n c = record { fits = omega (arith, counted-few (counted-after c)) }
 
 add-n : tie.Need-add-n Inv-loop μ-loop
-add-n c = record { fits = omega (arith, counted-few (counted-after c)) }
+add-n c = as-u16 (record { fits = omega (arith, counted-few (counted-after c)) })
 
 add-i : tie.Need-add-i Inv-loop μ-loop
-add-i c = search needs
+add-i c = in-32-bits (search needs)
 
 loop-less : tie.Need-loop-less Inv-loop μ-loop
 loop-less c = search needs

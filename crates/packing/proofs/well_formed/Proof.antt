@@ -17,6 +17,7 @@ use Rattle.laws.proofs.Below.{equal-below, alike-below}
 use Rattle.laws.proofs.Lists.{one, one-lt}
 use Rattle.laws.proofs.Refusals.{both-true}
 use Rattle.laws.proofs.Bits.{one-bit, or-none}
+use Rattle.laws.proofs.Widths.{in-slice}
 use Rattle.packing.proofs.Fours.{fourOf, left, left-next, left-none}
 use Rattle.packing.proofs.well_formed.Statement.{statement}
 use Rattle.packing.proofs.well_formed.Tie as tie
@@ -132,7 +133,7 @@ shared-slice-read-b : tie.Need-shared-slice-read-b Inv-loop μ-loop
 shared-slice-read-b c = search needs
 
 add-i : tie.Need-add-i Inv-loop μ-loop
-add-i c = search needs
+add-i c = in-slice (c .before .before .before .args .packed .now) (search needs) (search needs)
 
 loop-less : tie.Need-loop-less Inv-loop μ-loop
 loop-less c = search needs
