@@ -5,6 +5,7 @@ use Prim.Native.Nat.{_-_, _*_}
 use borrow.Author.Needs.{needs}
 use Rattle.rules.specs.Planes.{entriesIn}
 use Rattle.laws.proofs.Planes.{few-entries}
+use Rattle.laws.proofs.Widths.{in-32-bits}
 use Rattle.freeruns.proofs.Frees.{mask-some, free-whole, free-left}
 use Rattle.freeruns.proofs.free_bits.Statement.{statement}
 use Rattle.freeruns.proofs.free_bits.Tie as tie
@@ -18,7 +19,7 @@ blocks-requires c κs = search needs
 mul-left : tie.Need-mul-left
 mul-left c =
     let s = c .before .before .before .before in
-    record { fits = omega (arith, few-entries (s .args .t) (s .args .table .now) (s .pre .0), s .pre .1) }
+    in-32-bits (record { fits = omega (arith, few-entries (s .args .t) (s .args .table .now) (s .pre .0), s .pre .1) })
 
 sub-left : tie.Need-sub-left
 sub-left c =

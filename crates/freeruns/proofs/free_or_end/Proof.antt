@@ -3,6 +3,7 @@
 use native.Mathlib.Omega.{arith}
 use borrow.Author.Needs.{needs}
 use Rattle.rules.specs.Planes.{entriesIn}
+use Rattle.laws.proofs.Widths.{in-32-bits}
 use Rattle.freeruns.proofs.Frees.{none-free}
 use Rattle.freeruns.proofs.free_or_end.Statement.{statement}
 use Rattle.freeruns.proofs.free_or_end.Tie as tie
@@ -11,7 +12,7 @@ blocks-requires : tie.Need-blocks-requires
 blocks-requires c κs = search needs
 
 mul-if1 : tie.Need-mul-if1
-mul-if1 c = search needs
+mul-if1 c = in-32-bits (search needs)
 
 returns : tie.Need-returns
 returns c =

@@ -8,6 +8,7 @@ use Rattle.rules.specs.Planes.{entriesIn}
 use Rattle.rules.specs.Tables.{longest}
 use Rattle.laws.proofs.Planes.{few-entries}
 use Rattle.laws.proofs.Tables.{longest-says, longest-one}
+use Rattle.laws.proofs.Widths.{in-32-bits}
 use Rattle.freeruns.specs.Scans.{Scanned}
 use Rattle.freeruns.proofs.Scans.{scan-start, scan-end}
 use Rattle.freeruns.proofs.longest.Statement.{statement}
@@ -26,7 +27,7 @@ loop-holds : tie.Need-loop-holds Inv-loop μ-loop
 loop-holds c = (omega arith, scan-start (entriesIn (c .before .before .args .t) (c .before .before .args .table .now)))
 
 mul-loop : tie.Need-mul-loop Inv-loop μ-loop
-mul-loop c = search needs
+mul-loop c = in-32-bits (search needs)
 
 -- 64 more are left
 more : (c : tie.In-loop Inv-loop μ-loop) → c .before .loop .i < 64
@@ -43,7 +44,7 @@ read-on-requires : tie.Need-read-on-requires Inv-loop μ-loop
 read-on-requires c κs = omega (arith, c .before .before .loop .inv .1 .room, more (c .before))
 
 add-i : tie.Need-add-i Inv-loop μ-loop
-add-i c = search needs
+add-i c = in-32-bits (search needs)
 
 loop-less : tie.Need-loop-less Inv-loop μ-loop
 loop-less c = omega (arith, more (c .before .before))

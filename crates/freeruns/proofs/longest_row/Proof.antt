@@ -5,6 +5,7 @@ use mathlib.Core.Logic.{_⊎_, inl, inr}
 use Prim.Native.Nat.{ℕ, _-_, _≤_, _<_}
 use native.Mathlib.Omega.{arith}
 use borrow.Author.Needs.{needs}
+use Rattle.laws.proofs.Widths.{in-32-bits}
 use Rattle.freeruns.specs.Rows.{Row}
 use Rattle.freeruns.proofs.Rows.{first-lt, none-longer, whole-longer}
 use Rattle.freeruns.proofs.longest_row.Statement.{statement}
@@ -20,7 +21,7 @@ loop-holds : tie.Need-loop-holds Inv-loop μ-loop
 loop-holds c = (search needs, inl refl)
 
 add-row-starts : tie.Need-add-row-starts Inv-loop μ-loop
-add-row-starts c = search needs
+add-row-starts c = in-32-bits (search needs)
 
 row-starts-requires : tie.Need-row-starts-requires Inv-loop μ-loop
 row-starts-requires c κs = (omega arith, omega arith)

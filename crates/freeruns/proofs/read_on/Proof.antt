@@ -2,12 +2,13 @@
 -- Assumes nothing.
 use native.Mathlib.Omega.{arith}
 use borrow.Author.Needs.{needs}
+use Rattle.laws.proofs.Widths.{in-32-bits}
 use Rattle.freeruns.proofs.Scans.{all-free, some-used}
 use Rattle.freeruns.proofs.read_on.Statement.{statement}
 use Rattle.freeruns.proofs.read_on.Tie as tie
 
 add-t6 : tie.Need-add-t6
-add-t6 c = search needs
+add-t6 c = in-32-bits (search needs)
 
 returns : tie.Need-returns
 returns c =
@@ -18,7 +19,7 @@ first-requires : tie.Need-first-requires
 first-requires c κs = search needs
 
 add-closed : tie.Need-add-closed
-add-closed c = search needs
+add-closed c = in-32-bits (search needs)
 
 greatest-requires : tie.Need-greatest-requires
 greatest-requires c κs = search needs

@@ -3,6 +3,7 @@
 use Prim.Native.Nat.{_+_, _-_, _*_, _^_, _≤_, _<_}
 use native.Mathlib.Omega.{arith}
 use borrow.Author.Needs.{needs}
+use Rattle.laws.proofs.Widths.{in-32-bits}
 use Rattle.freeruns.proofs.Rows.{Begins, row-one, begins-turn, starts-turn, starts-done}
 use Rattle.freeruns.proofs.row_starts.Statement.{statement}
 use Rattle.freeruns.proofs.row_starts.Tie as tie
@@ -33,7 +34,7 @@ shr-after : tie.Need-shr-after Inv-loop μ-loop
 shr-after c = search needs
 
 mul-length : tie.Need-mul-length Inv-loop μ-loop
-mul-length c = search needs
+mul-length c = in-32-bits (search needs)
 
 loop-less : tie.Need-loop-less Inv-loop μ-loop
 loop-less c = search needs
