@@ -6,6 +6,7 @@ use native.Mathlib.Omega.{arith}
 use borrow.Author.Needs.{needs}
 use Rattle.rules.specs.Planes.{entriesIn}
 use Rattle.laws.proofs.Planes.{few-entries}
+use Rattle.laws.proofs.Widths.{in-32-bits}
 use Rattle.backscan.proofs.Tails.{Tails, tails-join, up-to-last, tails-here, back-to, back-first}
 use Rattle.backscan.proofs.past_tails.Statement.{statement}
 use Rattle.backscan.proofs.past_tails.Tie as tie
@@ -35,13 +36,13 @@ small c =
     omega (arith, c .before .before .before .before .loop .inv .0, few-entries (s .args .t) (s .args .table .now) (s .pre .0), s .pre .1)
 
 mul-plus : tie.Need-mul-plus Inv-loop μ-loop
-mul-plus c = record { fits = omega (arith, small c) }
+mul-plus c = in-32-bits (record { fits = omega (arith, small c) })
 
 last-requires : tie.Need-last-requires Inv-loop μ-loop
 last-requires c κs = search needs
 
 add-plus : tie.Need-add-plus Inv-loop μ-loop
-add-plus c = record { fits = omega (arith, small (c .before), c .last .ensures .inside) }
+add-plus c = in-32-bits (record { fits = omega (arith, small (c .before), c .last .ensures .inside) })
 
 plus-requires : tie.Need-plus-requires Inv-loop μ-loop
 plus-requires c κs = omega (arith, small (c .before), c .last .ensures .inside, c .before .first .ensures)

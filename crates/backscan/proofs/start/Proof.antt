@@ -1,12 +1,13 @@
 -- `start`: the object starts in the 64 blocks of block k, or before them.
 -- Assumes nothing.
 use mathlib.Core.Path.{_≡_, sym, ap, _∙_}
-use Prim.Native.Nat.{_+_, _*_, _/_, _%_}
+use Prim.Native.Nat.{_+_, _*_, _/_, _%_, _<_}
 use native.Mathlib.Omega.{arith}
 use borrow.Author.Needs.{needs}
 use Rattle.rules.specs.Planes.{entriesIn}
 use Rattle.rules.specs.Tables.{startOf}
 use Rattle.laws.proofs.Planes.{few-entries}
+use Rattle.laws.proofs.Widths.{in-32-bits}
 use Rattle.backscan.proofs.Tails.{up-to-mask, start-here, start-before}
 use Rattle.backscan.proofs.start.Statement.{statement}
 use Rattle.backscan.proofs.start.Tie as tie
@@ -26,19 +27,23 @@ shr-here c = search needs
 first-requires : tie.Need-first-requires
 first-requires c κs = search needs
 
+-- the block is one of the table
+small : (c : tie.After-first) → c .before .before .before .index .result < 4096
+small c =
+    let s = c .before .before .before .before .before in
+    omega (arith, few-entries (s .args .t) (s .args .table .now) (s .pre .0), s .pre .1)
+
 mul-plus : tie.Need-mul-plus
-mul-plus c = search needs
+mul-plus c = in-32-bits (record { fits = omega (arith, small c) })
 
 last-requires : tie.Need-last-requires
 last-requires c κs = search needs
 
 add-plus : tie.Need-add-plus
-add-plus c = search needs
+add-plus c = in-32-bits (record { fits = omega (arith, small (c .before), c .last .ensures .inside) })
 
 plus-requires : tie.Need-plus-requires
-plus-requires c κs =
-    let s = c .before .before .before .before .before .before in
-    omega (arith, few-entries (s .args .t) (s .args .table .now) (s .pre .0), s .pre .1, c .last .ensures .inside, c .before .first .ensures)
+plus-requires c κs = omega (arith, small (c .before), c .last .ensures .inside, c .before .first .ensures)
 
 returns : tie.Need-returns
 returns c =
