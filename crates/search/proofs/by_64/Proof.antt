@@ -7,6 +7,7 @@ use lib.ListN.{length}
 use borrow.Author.Needs.{needs}
 use Rattle.rules.specs.Planes.{entriesIn}
 use Rattle.laws.proofs.Planes.{few-entries}
+use Rattle.laws.proofs.Widths.{in-32-bits}
 use Rattle.freeruns.proofs.Rows.{first-lt}
 use Rattle.search.proofs.Searches.{Stands, StandsOn, stands-first, found-next, stands-next, end-next}
 use Rattle.search.proofs.by_64.Statement.{statement}
@@ -55,7 +56,7 @@ stands c =
     (stands-first (entriesIn (s .args .t) (s .args .table .now)) (s .args .count) (s .args .from .0) (k .result) (i .index2 .result) (bits .result) (omega arith) (k .ensures) (i .index2 .ensures) (bits .ensures))
 
 mul-loop : tie.Need-mul-loop Inv-loop μ-loop
-mul-loop c = search needs
+mul-loop c = in-32-bits (search needs)
 
 -- more blocks are left
 more : (c : tie.In-loop Inv-loop μ-loop) → c .before .loop .at < 64
@@ -65,7 +66,7 @@ more c =
     omega (arith, c .loop-test .taken, b .blocks2 .ensures (s .args .table .now), few-entries (s .args .t) (s .args .table .now) (s .pre .0))
 
 add-free-or-end : tie.Need-add-free-or-end Inv-loop μ-loop
-add-free-or-end c = search needs
+add-free-or-end c = in-32-bits (search needs)
 
 free-or-end-requires-2 : tie.Need-free-or-end-requires-2 Inv-loop μ-loop
 free-or-end-requires-2 c κs = (c .before .before .before .before .before .before .before .pre .0, omega (arith, more c))
@@ -77,7 +78,7 @@ first-requires : tie.Need-first-requires Inv-loop μ-loop
 first-requires c κs = search needs
 
 mul-plus : tie.Need-mul-plus Inv-loop μ-loop
-mul-plus c = search needs
+mul-plus c = in-32-bits (search needs)
 
 first-requires-2 : tie.Need-first-requires-2 Inv-loop μ-loop
 first-requires-2 c κs = search needs
@@ -87,7 +88,7 @@ few : (c : tie.After-first2 Inv-loop μ-loop) → c .first2 .result < 64
 few c = first-lt (c .before .before .before .starts .result) (c .first2 .result) (omega arith) (c .before .before .if1 .taken) (c .first2 .ensures)
 
 add-plus : tie.Need-add-plus Inv-loop μ-loop
-add-plus c = record { fits = omega (arith, few c, more (c .before .before .before .before .before)) }
+add-plus c = in-32-bits (record { fits = omega (arith, few c, more (c .before .before .before .before .before)) })
 
 plus-requires : tie.Need-plus-requires Inv-loop μ-loop
 plus-requires c κs = omega (arith, few c, more (c .before .before .before .before .before), c .before .first .ensures)
@@ -104,7 +105,7 @@ returns c =
     (found .before .free-or-end2 .ensures) (found .starts .ensures) (n .result) (few (c .before)) (n .ensures))
 
 add-at : tie.Need-add-at Inv-loop μ-loop
-add-at c = search needs
+add-at c = in-32-bits (search needs)
 
 loop-less : tie.Need-loop-less Inv-loop μ-loop
 loop-less c = omega (arith, more (c .before .before .before))

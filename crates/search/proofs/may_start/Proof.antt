@@ -1,6 +1,9 @@
 -- `may_start`: what holds of the two bytes holds of the eight blocks of byte i.
 -- Assumes nothing.
+use native.Mathlib.Omega.{arith}
 use borrow.Author.Needs.{needs}
+use Rattle.laws.proofs.Planes.{room-entries}
+use Rattle.laws.proofs.Widths.{in-32-bits}
 use Rattle.search.proofs.may_start.Statement.{statement}
 use Rattle.search.proofs.may_start.Tie as tie
 
@@ -8,7 +11,7 @@ free-byte-requires : tie.Need-free-byte-requires
 free-byte-requires c κs = search needs
 
 add-free-byte : tie.Need-add-free-byte
-add-free-byte c = search needs
+add-free-byte c = let s = c .before .before in in-32-bits (record { fits = omega (arith, s .pre .0 .sized .few, room-entries (s .args .t) .1) })
 
 free-byte-requires-2 : tie.Need-free-byte-requires-2
 free-byte-requires-2 c κs = search needs

@@ -6,6 +6,8 @@ use native.Mathlib.Omega.{arith}
 use borrow.Author.Needs.{needs}
 use Rattle.rules.specs.Planes.{entriesIn}
 use Rattle.laws.proofs.Bits.{or-none}
+use Rattle.laws.proofs.Planes.{room-entries}
+use Rattle.laws.proofs.Widths.{in-32-bits}
 use Rattle.search.specs.Starts.{NoStart}
 use Rattle.search.proofs.Bytes.{none-at-all}
 use Rattle.search.proofs.Searches.{no-start-join}
@@ -22,13 +24,13 @@ loop-holds : tie.Need-loop-holds Inv-loop μ-loop
 loop-holds c = (search needs, λ z q l h r. omega arith)
 
 add-may-start : tie.Need-add-may-start Inv-loop μ-loop
-add-may-start c = search needs
+add-may-start c = let s = c .before .before .before in in-32-bits (record { fits = omega (arith, s .pre .0 .sized .few, room-entries (s .args .t) .1) })
 
 may-start-requires : tie.Need-may-start-requires Inv-loop μ-loop
 may-start-requires c κs = search needs
 
 add-j : tie.Need-add-j Inv-loop μ-loop
-add-j c = search needs
+add-j c = in-32-bits (search needs)
 
 loop-less : tie.Need-loop-less Inv-loop μ-loop
 loop-less c = search needs

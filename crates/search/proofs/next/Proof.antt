@@ -6,6 +6,7 @@ use native.Mathlib.Omega.{arith}
 use borrow.Author.Needs.{needs}
 use Rattle.rules.specs.Planes.{entriesIn}
 use Rattle.laws.proofs.Planes.{few-entries}
+use Rattle.laws.proofs.Widths.{in-32-bits}
 use Rattle.search.proofs.Searches.{next-join}
 use Rattle.search.proofs.next.Statement.{statement}
 use Rattle.search.proofs.next.Tie as tie
@@ -32,7 +33,7 @@ few c =
     omega (arith, c .before .pass-by-16 .ensures .1 .0, few-entries (s .args .t) (s .args .table .now) (s .pre .0))
 
 mul-plus : tie.Need-mul-plus
-mul-plus c = record { fits = omega (arith, few c) }
+mul-plus c = in-32-bits (record { fits = omega (arith, few c) })
 
 plus-requires : tie.Need-plus-requires
 plus-requires c κs = omega (arith, few c, c .first .ensures)

@@ -6,6 +6,7 @@ use lib.ListN.{length}
 use borrow.Author.Needs.{needs}
 use Rattle.rules.specs.Planes.{entriesIn}
 use Rattle.laws.proofs.Planes.{length-entriesIn, few-entries, room-entries}
+use Rattle.laws.proofs.Widths.{in-32-bits}
 use Rattle.search.specs.Starts.{NoStart}
 use Rattle.search.proofs.Searches.{no-start-join}
 use Rattle.search.proofs.pass_by_16.Statement.{statement}
@@ -28,13 +29,13 @@ few : (c : tie.At-loop Inv-loop μ-loop) → c .loop .at ≤ 64
 few c = let s = c .before .before .before in omega (arith, c .loop .inv .1 .0, few-entries (s .args .t) (s .args .table .now) (s .pre .0))
 
 mul-loop : tie.Need-mul-loop Inv-loop μ-loop
-mul-loop c = record { fits = omega (arith, few c) }
+mul-loop c = in-32-bits (record { fits = omega (arith, few c) })
 
 add-loop : tie.Need-add-loop Inv-loop μ-loop
-add-loop c = record { fits = omega (arith, few c) }
+add-loop c = in-32-bits (record { fits = omega (arith, few c) })
 
 mul-may-start-in-16 : tie.Need-mul-may-start-in-16 Inv-loop μ-loop
-mul-may-start-in-16 c = record { fits = omega (arith, few (c .before)) }
+mul-may-start-in-16 c = in-32-bits (record { fits = omega (arith, few (c .before)) })
 
 -- 128 blocks more are left
 more : (c : tie.In-loop Inv-loop μ-loop)
@@ -51,7 +52,7 @@ returns : tie.Need-returns Inv-loop μ-loop
 returns c = c .before .before .before .loop .inv
 
 add-at : tie.Need-add-at Inv-loop μ-loop
-add-at c = record { fits = omega (arith, few (c .before .before .before)) }
+add-at c = in-32-bits (record { fits = omega (arith, few (c .before .before .before)) })
 
 loop-less : tie.Need-loop-less Inv-loop μ-loop
 loop-less c = omega (arith, more (c .before .before))
