@@ -14,6 +14,7 @@ use Rattle.rules.specs.Tables.{entryAt, isTail, blockCount}
 use Rattle.rules.specs.Planes.{entriesIn}
 use Rattle.laws.proofs.Planes.{few-entries}
 use Rattle.laws.proofs.Tables.{count-is, entry-outside}
+use Rattle.laws.proofs.Widths.{in-32-bits}
 use Rattle.table.proofs.block_count.Statement.{statement}
 use Rattle.table.proofs.block_count.Tie as tie
 
@@ -66,7 +67,7 @@ returns c =
     counted _ _ (l .count) (omega arith) (omega arith) (l .inv .1) (eqb-false _ _ (sym (tail-is (c .before)) ∙ not-true _ (c .if2 .taken)))
 
 add-count : tie.Need-add-count Inv-loop μ-loop
-add-count c = omega (arith, below (c .before .before .before), few-entries _ _ (c .before .before .before .before .before .before .before .before .before .pre .0))
+add-count c = in-32-bits (omega (arith, below (c .before .before .before), few-entries _ _ (c .before .before .before .before .before .before .before .before .before .pre .0)))
 
 loop-less : tie.Need-loop-less Inv-loop μ-loop
 loop-less c = omega (arith, below (c .before .before .before))

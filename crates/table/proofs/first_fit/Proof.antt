@@ -16,6 +16,7 @@ use Rattle.rules.specs.Planes.{entriesIn}
 use Rattle.laws.specs.Meaning.{Run, Lowest}
 use Rattle.laws.proofs.Planes.{few-entries}
 use Rattle.laws.proofs.Tables.{first-is, none-first, run-shorter}
+use Rattle.laws.proofs.Widths.{in-32-bits}
 use Rattle.search.specs.Starts.{Next}
 use Rattle.search.proofs.Searches.{next-join, none-over}
 use Rattle.table.proofs.first_fit.Statement.{statement}
@@ -108,10 +109,10 @@ few : (c : tie.After-free-from Inv-loop μ-loop Inv-starts μ-starts)
 few c = omega (arith, longer c .room, few-entries _ _ (c .before .before .before .before .before .before .before .before .before .before .before .pre .0))
 
 add-i : tie.Need-add-i Inv-loop μ-loop Inv-starts μ-starts
-add-i c = record { fits = omega (arith, few (c .before)) }
+add-i c = in-32-bits (record { fits = omega (arith, few (c .before)) })
 
 add-plus : tie.Need-add-plus Inv-loop μ-loop Inv-starts μ-starts
-add-plus c = record { fits = omega (arith, few (c .before .before .before)) }
+add-plus c = in-32-bits (record { fits = omega (arith, few (c .before .before .before)) })
 
 plus-requires-2 : tie.Need-plus-requires-2 Inv-loop μ-loop Inv-starts μ-starts
 plus-requires-2 c κs = omega (arith, few (c .before .before .before), c .before .before .before .before .before .before .loop .inv .0)

@@ -12,6 +12,7 @@ use Rattle.rules.specs.Tables.{entryAt, freeFrom}
 use Rattle.rules.specs.Planes.{entriesIn}
 use Rattle.laws.proofs.Planes.{few-entries}
 use Rattle.laws.proofs.Tables.{free-room, no-run-lt, run-le}
+use Rattle.laws.proofs.Widths.{in-32-bits}
 use Rattle.table.proofs.is_free.Statement.{statement}
 use Rattle.table.proofs.is_free.Tie as tie
 
@@ -55,7 +56,7 @@ returns-2 c =
     sym (lt-leb _ _ (no-run-lt _ _ _ (search needs) (λ r. c .if2 .taken (entry-is (c .before) ∙ r .free (l .i) (search needs)))))
 
 add-i : tie.Need-add-i Inv-loop μ-loop
-add-i c = search needs
+add-i c = in-32-bits (record { fits = omega (arith, few-entries _ _ (c .before .before .before .before .before .before .before .before .before .pre .0)) })
 
 loop-less : tie.Need-loop-less Inv-loop μ-loop
 loop-less c = search needs
