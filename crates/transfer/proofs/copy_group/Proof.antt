@@ -8,6 +8,7 @@ use lib.ListN.{length}
 use borrow.Author.Needs.{needs}
 use Rattle.rules.specs.Images.{blockBytes}
 use Rattle.laws.proofs.Images.{length-block}
+use Rattle.laws.proofs.Widths.{in-32-bits, in-slice}
 use Rattle.transfer.specs.Copying.{Inside, blocksIn}
 use Rattle.transfer.proofs.Copying.{Remains, remains-all, remains-none, remains-room, remains-next, blocks-none, First, first-bit, first-split, first-inside, others-inside}
 use Rattle.transfer.proofs.copy_group.Statement.{statement}
@@ -56,10 +57,10 @@ first-requires-2 : tie.Need-first-requires-2 Inv-loop μ-loop
 first-requires-2 c κs = search needs
 
 mul-plus : tie.Need-mul-plus Inv-loop μ-loop
-mul-plus c = search needs
+mul-plus c = in-32-bits (search needs)
 
 add-plus : tie.Need-add-plus Inv-loop μ-loop
-add-plus c = record { fits = omega (arith, turn (c .before) .few) }
+add-plus c = in-32-bits (record { fits = omega (arith, turn (c .before) .few) })
 
 plus-requires : tie.Need-plus-requires Inv-loop μ-loop
 plus-requires c κs = omega (arith, turn (c .before) .few, c .first2 .ensures)
@@ -70,7 +71,9 @@ copy-block-requires c κs =
     (omega (arith, block-is (c .before), turn bit .few), (rw (block-is (c .before)) (inside bit), room bit))
 
 add-to : tie.Need-add-to Inv-loop μ-loop
-add-to c = record { fits = omega (arith, room (c .before .before .before .before .before .before)) }
+add-to c =
+    let bit = c .before .before .before .before .before .before in
+    in-slice (start bit .args .image .now) (omega (arith, room bit, bit .before .before .loop .inv .1 .1 .long)) (search needs)
 
 sub-left : tie.Need-sub-left Inv-loop μ-loop
 sub-left c = search needs

@@ -13,6 +13,7 @@ use Rattle.rules.specs.Tables.{used}
 use Rattle.rules.specs.Planes.{entriesIn}
 use Rattle.laws.proofs.Bits.{bitOf-or}
 use Rattle.laws.proofs.Planes.{few-entries}
+use Rattle.laws.proofs.Widths.{in-32-bits}
 use Rattle.transfer.specs.Copying.{groupIn}
 use Rattle.transfer.proofs.Copying.{group-inside}
 use Rattle.transfer.proofs.Placing.{group-used, full-used, full-inside, full-pool, group-pool}
@@ -44,13 +45,13 @@ module _ (c : tie.After-group) where
   few = omega (arith, start .pre .0 .1 .0, few-entries (start .args .t) (start .args .table .now) (start .pre .0 .0))
 
 mul-from : tie.Need-mul-from
-mul-from c = search needs
+mul-from c = in-32-bits (search needs)
 
 add-to : tie.Need-add-to
-add-to c = search needs
+add-to c = in-32-bits (search needs)
 
 mul-set-part : tie.Need-mul-set-part
-mul-set-part c = search needs
+mul-set-part c = in-32-bits (record { fits = omega (arith, few (c .before .before .before)) })
 
 sub-set-part : tie.Need-sub-set-part
 sub-set-part c = search needs
@@ -78,7 +79,7 @@ set-part-requires c κs =
     omega (arith, length-take (16 * a .first + 1024 - 16 * a .first) (drop (16 * a .first) (a .bytes .now)), fits (c .before .before))
 
 add-result : tie.Need-add-result
-add-result c = search needs
+add-result c = in-32-bits (search needs)
 
 same-length : tie.Need-same-length
 same-length c = search needs
@@ -101,7 +102,7 @@ group-end-requires : tie.Need-group-end-requires
 group-end-requires c κs = few (c .before .before .before)
 
 mul-of-blocks : tie.Need-mul-of-blocks
-mul-of-blocks c = search needs
+mul-of-blocks c = in-32-bits (record { fits = omega (arith, few (c .before .before .before .before .before)) })
 
 of-blocks-requires : tie.Need-of-blocks-requires
 of-blocks-requires c κs = omega (arith, few (c .before .before .before .before .before))

@@ -9,6 +9,7 @@ use Rattle.rules.specs.Images.{usedFrom}
 use Rattle.laws.proofs.Bits.{bitOf-or}
 use Rattle.laws.proofs.Planes.{few-entries}
 use Rattle.laws.proofs.Images.{length-used}
+use Rattle.laws.proofs.Widths.{in-32-bits}
 use Rattle.transfer.proofs.Copying.{Remains, remains-all, remains-none, remains-room, remains-next, groups-end, group-next, group-inside}
 use Rattle.transfer.proofs.gather.Statement.{statement}
 use Rattle.transfer.proofs.gather.Tie as tie
@@ -27,7 +28,7 @@ loop-holds : tie.Need-loop-holds Inv-loop μ-loop
 loop-holds c = (omega arith, remains-all _ _ _)
 
 mul-loop : tie.Need-mul-loop Inv-loop μ-loop
-mul-loop c = search needs
+mul-loop c = in-32-bits (search needs)
 
 -- 64 more are left
 more : (c : tie.In-loop Inv-loop μ-loop) → c .before .loop .i < 64
@@ -60,7 +61,7 @@ copy-group-requires c κs =
     )
 
 add-i : tie.Need-add-i Inv-loop μ-loop
-add-i c = record { fits = omega (arith, more (c .before .before .before .before .before .before)) }
+add-i c = in-32-bits (record { fits = omega (arith, more (c .before .before .before .before .before .before)) })
 
 loop-less : tie.Need-loop-less Inv-loop μ-loop
 loop-less c = omega (arith, more (c .before .before .before .before .before .before))

@@ -5,6 +5,7 @@ use Prim.Native.Nat.{_+_, _*_, _≤_, _<_}
 use native.Mathlib.Omega.{arith}
 use lib.ListN.{length}
 use borrow.Author.Needs.{needs}
+use Rattle.laws.proofs.Widths.{in-32-bits}
 use Rattle.transfer.proofs.Copying.{First, first-bit, first-inside}
 use Rattle.transfer.proofs.Placing.{Places, places-all, places-none, places-next, fewer}
 use Rattle.transfer.proofs.place_group.Statement.{statement}
@@ -52,13 +53,13 @@ plus-requires : tie.Need-plus-requires Inv-loop μ-loop
 plus-requires c κs = omega (arith, few (c .before), c .first2 .ensures)
 
 mul-copy-block : tie.Need-mul-copy-block Inv-loop μ-loop
-mul-copy-block c = search needs
+mul-copy-block c = in-32-bits (search needs)
 
 add-copy-block : tie.Need-add-copy-block Inv-loop μ-loop
-add-copy-block c = record { fits = omega (arith, turn (c .before .before .before) .few) }
+add-copy-block c = in-32-bits (record { fits = omega (arith, turn (c .before .before .before) .few) })
 
 mul-copy-block-2 : tie.Need-mul-copy-block-2 Inv-loop μ-loop
-mul-copy-block-2 c = record { fits = omega (arith, turn (c .before .before .before) .few) }
+mul-copy-block-2 c = in-32-bits (record { fits = omega (arith, turn (c .before .before .before) .few) })
 
 copy-block-requires : tie.Need-copy-block-requires Inv-loop μ-loop
 copy-block-requires c κs =
@@ -66,7 +67,7 @@ copy-block-requires c κs =
     (rw (block-is (c .before)) (few bit), (rw (block-is (c .before)) (enough bit), inside bit))
 
 add-next : tie.Need-add-next Inv-loop μ-loop
-add-next c = record { fits = omega (arith, few (c .before .before .before .before .before .before)) }
+add-next c = in-32-bits (record { fits = omega (arith, few (c .before .before .before .before .before .before)) })
 
 sub-left : tie.Need-sub-left Inv-loop μ-loop
 sub-left c = search needs

@@ -9,6 +9,7 @@ use borrow.Author.Needs.{needs}
 use Rattle.rules.specs.Planes.{entriesIn}
 use Rattle.laws.proofs.Tables.{used-le}
 use Rattle.laws.proofs.Planes.{few-entries}
+use Rattle.laws.proofs.Widths.{in-32-bits}
 use Rattle.transfer.proofs.Placing.{Fills, fills-all, fills-none, fills-next, fills-room}
 use Rattle.transfer.proofs.scatter.Statement.{statement}
 use Rattle.transfer.proofs.scatter.Tie as tie
@@ -28,7 +29,7 @@ loop-holds c =
     (omega arith, fills-all (entriesIn (s .args .t) (s .args .table .now)) (s .args .bytes .now) (s .args .pool .now) (s .pre .1 .1))
 
 mul-loop : tie.Need-mul-loop Inv-loop μ-loop
-mul-loop c = search needs
+mul-loop c = in-32-bits (search needs)
 
 -- 64 more are left
 module _ (c : tie.In-loop Inv-loop μ-loop) where
@@ -54,7 +55,7 @@ fill-group-requires c κs =
     )
 
 add-i : tie.Need-add-i Inv-loop μ-loop
-add-i c = let l = c .before .before .before .before in record { fits = omega (arith, inside l, few l) }
+add-i c = let l = c .before .before .before .before in in-32-bits (record { fits = omega (arith, inside l, few l) })
 
 loop-less : tie.Need-loop-less Inv-loop μ-loop
 loop-less c = let l = c .before .before .before .before in omega (arith, inside l, few l)
