@@ -10,6 +10,7 @@ use Rattle.rules.specs.Refusals.{firstOf, noWord, nameTests}
 use Rattle.rules.specs.Planes.{heapAt}
 use Rattle.laws.proofs.Planes.{few-entries}
 use Rattle.laws.proofs.Refusals.{first-yes, first-last, first-more, refused-first, named}
+use Rattle.laws.proofs.Widths.{in-32-bits}
 use Rattle.checks.proofs.object_word.Statement.{statement}
 use Rattle.checks.proofs.object_word.Tie as tie
 
@@ -36,7 +37,7 @@ mul-if2 : tie.Need-mul-if2
 mul-if2 c =
     let few = few-entries _ _ (c .before .before .before .before .pre) in
     let end = c .block-count .ensures .1 in
-    omega arith
+    in-32-bits (omega arith)
 
 returns-2 : tie.Need-returns-2
 returns-2 c = past (heapAt _ [] _) _ _ (c .before .before .before .named .ensures) (c .before .before .if1 .left) (c .before .block-count .ensures .0) (c .if2 .taken)
