@@ -16,6 +16,7 @@ use Rattle.rules.specs.Files.{Kind, sectionTests}
 use Rattle.laws.proofs.Refusals.{both-left, both-right}
 use Rattle.laws.proofs.Faults.{whole-section}
 use Rattle.laws.proofs.Sections.{rightCount, count-cut, count-wrong, body-cut}
+use Rattle.laws.proofs.Widths.{in-32-bits, in-slice}
 use Rattle.parser.specs.declared.Section.{Section}
 use Rattle.parser.specs.Reading.{kindBy, Small, Reads}
 use Rattle.parser.proofs.section_at.Statement.{statement}
@@ -82,14 +83,17 @@ returns-2 c =
     wrong _ _ _ (counted .before .if1 .left) (c .no-section2 .ensures) (start .pre .1 .wrong)
     (rw (counted .two-bytes .ensures) at (sym (c .before .before .allows .ensures) ∙ not-true _ (c .before .if2 .taken)))
 
+abbrev start : tie.Else2 → tie.Start
+start c = c .before .before .before .before .before
+
 -- there may be as many as it counts
-is-right : (c : tie.Else2) → let a = c .before .before .before .before .before .args in rightCount (kindBy (a .kind)) (drop (a .at) (a .image .now)) ≡ true
+is-right : (c : tie.Else2) → let a = start c .args in rightCount (kindBy (a .kind)) (drop (a .at) (a .image .now)) ≡ true
 is-right c = rw (c .before .before .two-bytes .ensures) at (sym (c .before .allows .ensures) ∙ not-false _ (c .if2 .left))
 
 mul-size : tie.Need-mul-size
 mul-size c =
     let counted = c .before .before .before in
-    record { fits = omega (arith, few _ _ (counted .before .before .before .pre .1) (is-right (c .before)) (counted .two-bytes .ensures)) }
+    in-32-bits (record { fits = omega (arith, few _ _ (counted .before .before .before .pre .1) (is-right (c .before)) (counted .two-bytes .ensures)) })
 
 no-section-requires-3 : tie.Need-no-section-requires-3
 no-section-requires-3 c κs = search needs
@@ -101,10 +105,10 @@ returns-3 c =
     short _ _ _ (counted .before .if1 .left) (is-right right) (counted .two-bytes .ensures) (c .no-section3 .ensures) (c .before .if3 .taken)
 
 add-t7 : tie.Need-add-t7
-add-t7 c = search needs
+add-t7 c = in-slice (start (c .before .before) .args .image .now) (search needs) (search needs)
 
 add-t10 : tie.Need-add-t10
-add-t10 c = search needs
+add-t10 c = in-slice (start (c .before .before) .args .image .now) (search needs) (search needs)
 
 returns-4 : tie.Need-returns-4
 returns-4 c =
