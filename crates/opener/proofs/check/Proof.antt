@@ -19,6 +19,7 @@ use Rattle.rules.specs.Calls.{goodTarget}
 use Rattle.laws.proofs.Refusals.{both-false, both-true, first-yes, first-no, first-last}
 use Rattle.laws.proofs.Entries.{length-entriesOf}
 use Rattle.laws.proofs.Planes.{length-entriesIn}
+use Rattle.laws.proofs.Widths.{in-32-bits, in-slice}
 use Rattle.parser.specs.declared.File.{File}
 use Rattle.parser.specs.Reading.{Says}
 use Rattle.opener.specs.Filling.{lentTests}
@@ -111,7 +112,7 @@ returns-3 c =
     ill-shaped (begun g .pre) _ _ _ _ (words-passed g .before .if1 .left) (words-passed g .if2 .left) (shape-is g) (c .if3 .taken)
 
 add-end : tie.Need-add-end
-add-end c = search needs
+add-end c = in-slice (begun (c .before) .args .image .now) (search needs) (search needs)
 
 sub-packed : tie.Need-sub-packed
 sub-packed c = search needs
@@ -132,7 +133,7 @@ returns-4 c =
     ill-formed (begun g .pre) _ _ _ _ (words-passed g .before .if1 .left) (words-passed g .if2 .left) (shape-is g) (shaped .if3 .left) (c .before .well-formed .ensures) (c .if4 .taken)
 
 mul-if5 : tie.Need-mul-if5
-mul-if5 c = search needs
+mul-if5 c = in-32-bits (search needs)
 
 returns-5 : tie.Need-returns-5
 returns-5 c =

@@ -11,6 +11,7 @@ use Rattle.rules.specs.Tables.{used}
 use Rattle.rules.specs.Planes.{entriesIn, IsTable, Holds}
 use Rattle.rules.specs.Files.{poolOf, File as FileOf, fileOf, entriesFor, rootsOf}
 use Rattle.laws.proofs.Planes.{length-entriesIn}
+use Rattle.laws.proofs.Widths.{in-32-bits, in-slice}
 use Rattle.parser.specs.declared.File.{File}
 use Rattle.opener.specs.Filling.{Suits}
 use Rattle.opener.proofs.Ends.{blocks-long}
@@ -57,7 +58,7 @@ module _ {image : List ℕ} {file : File} {t : ℕ} {pool table roots : List ℕ
     pool-is e = rw (holds .entries, blocks-part) at e
 
 add-table-end : tie.Need-add-table-end
-add-table-end c = search needs
+add-table-end c = in-32-bits (search needs)
 
 sub-unpack : tie.Need-sub-unpack
 sub-unpack c = search needs
@@ -71,14 +72,17 @@ part-unpack-end c = search needs
 unpack-requires : tie.Need-unpack-requires
 unpack-requires c κs = search needs
 
+abbrev start : tie.After-unpack → tie.Start
+start c = c .before .before .before .before .before .before .before
+
 add-blocks : tie.Need-add-blocks
-add-blocks c = search needs
+add-blocks c = in-32-bits (search needs)
 
 mul-blocks-end : tie.Need-mul-blocks-end
-mul-blocks-end c = search needs
+mul-blocks-end c = in-slice (start (c .before .before .before) .args .image .now) (search needs) (search needs)
 
 add-blocks-end : tie.Need-add-blocks-end
-add-blocks-end c = search needs
+add-blocks-end c = in-slice (start (c .before .before .before) .args .image .now) (search needs) (search needs)
 
 sub-scatter : tie.Need-sub-scatter
 sub-scatter c = search needs
@@ -89,14 +93,11 @@ part-scatter-start c = search needs
 part-scatter-end : tie.Need-part-scatter-end
 part-scatter-end c = search needs
 
-abbrev start : tie.After-unpack → tie.Start
-start c = c .before .before .before .before .before .before .before
-
 scatter-requires : tie.Need-scatter-requires
 scatter-requires c κs = let u = c .before .before .before .before .before .before in scattered (start u .pre) (u .unpack .ensures)
 
 add-words : tie.Need-add-words
-add-words c = search needs
+add-words c = in-slice (start (c .before .before .before .before .before .before .before .before .before) .args .image .now) (search needs) (search needs)
 
 sub-set-part : tie.Need-sub-set-part
 sub-set-part c = search needs
