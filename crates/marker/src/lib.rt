@@ -241,6 +241,7 @@ fn mark_roots(
     roots: &[u8],
 ) -> bool
     requires { ⌜ Shape t (now pool) (now table) ⌝ }
+    requires { ⌜ length (now roots) / 4 ≤ 4096 ⌝ }
     ensures { λ r. ⌜ IsTable t (now (table .exit)) × (idle t (now (table .exit)) r
         ≡ markRoots (contextOf (base .0) (now (pool .entry)) (now (stack .entry))) (first ∷ wordsOf (now (roots .entry))) (idle t (now (table .entry)) false)) ⌝ }
 {
@@ -309,6 +310,7 @@ pub fn mark(
     roots: &[u8],
 ) -> u32
     requires { ⌜ Shape t (now pool) (now table) ⌝ }
+    requires { ⌜ length (now roots) / 4 ≤ 4096 ⌝ }
     ensures { λ r. ⌜ IsTable t (now (table .exit)) × (markedIn (idle t (now (table .exit)) false) r
         ≡ markAll (contextOf (base .0) (now (pool .entry)) (now (stack .entry))) (first ∷ wordsOf (now (roots .entry))) (entriesIn t (now (table .entry)))) ⌝ }
 {

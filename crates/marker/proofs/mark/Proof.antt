@@ -11,6 +11,7 @@ use Rattle.rules.specs.Planes.{IsTable}
 use Rattle.rules.specs.Marking.{rescan}
 use Rattle.laws.proofs.Planes.{few-entries}
 use Rattle.laws.proofs.Marking.{toRescan, rescan-most}
+use Rattle.laws.proofs.Widths.{as-u32}
 use Rattle.marker.specs.Variables.{contextOf, idle}
 use Rattle.marker.proofs.Turning.{shape-same, Rescanned, rescanned, mark-end}
 use Rattle.marker.proofs.mark.Statement.{statement}
@@ -36,7 +37,7 @@ loop-holds c = (omega arith, c .before .before .before .before .mark-roots .ensu
 rescan-requires : tie.Need-rescan-requires Inv-loop μ-loop
 rescan-requires c κs =
     let a = c .before .before .before .before .before .before .before .before .before .before .before .before .before .before .before .args in
-    shape-same (a .t) (a .pool .now) (a .table .now) (c .before .before .before .loop .table) (c .before .before .before .before .before .before .before .before .before .before .before .before .before .before .before .pre) (c .before .before .before .loop .inv .1)
+    shape-same (a .t) (a .pool .now) (a .table .now) (c .before .before .before .loop .table) (c .before .before .before .before .before .before .before .before .before .before .before .before .before .before .before .pre .0) (c .before .before .before .loop .inv .1)
 
 turned : (c : tie.After-slice-known6 Inv-loop μ-loop) →
     let l = c .before .before .before .before .before .before .before .before .loop in
@@ -52,7 +53,7 @@ add-rescans : tie.Need-add-rescans Inv-loop μ-loop
 add-rescans c =
     let a = c .before .before .before .before .before .before .before .before .before .before .before .before .before .before .before .before .before .before .before .before .args in
     let m = c .before .before .before .before .before .before .before .before .before .before .before .before .before .mark-roots in
-    omega (arith, turned c .less, c .before .before .before .before .before .before .before .before .loop .inv .0, rescan-most (idle (a .t) (m .last .1 .1 .1 .0) (m .result)), few-entries (a .t) (m .last .1 .1 .1 .0) (m .ensures .0))
+    as-u32 (omega (arith, turned c .less, c .before .before .before .before .before .before .before .before .loop .inv .0, rescan-most (idle (a .t) (m .last .1 .1 .1 .0) (m .result)), few-entries (a .t) (m .last .1 .1 .1 .0) (m .ensures .0)))
 
 loop-less : tie.Need-loop-less Inv-loop μ-loop
 loop-less c = turned c .less

@@ -12,6 +12,7 @@ use Rattle.rules.specs.Planes.{IsTable}
 use Rattle.rules.specs.Marking.{markRoots}
 use Rattle.laws.proofs.Words.{length-wordsOf}
 use Rattle.laws.proofs.Marking.{roots-end}
+use Rattle.laws.proofs.Widths.{in-32-bits}
 use Rattle.marker.specs.Variables.{contextOf, idle}
 use Rattle.marker.proofs.Turning.{shape-same, roots-next}
 use Rattle.marker.proofs.mark_roots.Statement.{statement}
@@ -28,16 +29,16 @@ abbrev μ-loop : tie.MeasureT-loop
 μ-loop base t pool table₀ stack₀ first roots overflow₀ i₀ table stack overflow i = length roots / 4 + 1 - i
 
 loop-holds : tie.Need-loop-holds Inv-loop μ-loop
-loop-holds c = (c .before .before .before .before .pre .is-table, refl, refl, refl)
+loop-holds c = (c .before .before .before .before .pre .0 .is-table, refl, refl, refl)
 
 root-requires : tie.Need-root-requires Inv-loop μ-loop
 root-requires c κs = omega (arith, c .before .before .loop-test .taken)
 
 mark-root-requires : tie.Need-mark-root-requires Inv-loop μ-loop
-mark-root-requires c κs = shape-same (c .before .before .before .before .before .before .before .before .before .args .t) (c .before .before .before .before .before .before .before .before .before .args .pool .now) (c .before .before .before .before .before .before .before .before .before .args .table .now) (c .before .before .before .before .loop .table) (c .before .before .before .before .before .before .before .before .before .pre) (c .before .before .before .before .loop .inv .0)
+mark-root-requires c κs = shape-same (c .before .before .before .before .before .before .before .before .before .args .t) (c .before .before .before .before .before .before .before .before .before .args .pool .now) (c .before .before .before .before .before .before .before .before .before .args .table .now) (c .before .before .before .before .loop .table) (c .before .before .before .before .before .before .before .before .before .pre .0) (c .before .before .before .before .loop .inv .0)
 
 add-i : tie.Need-add-i Inv-loop μ-loop
-add-i c = search needs
+add-i c = in-32-bits (search needs)
 
 loop-less : tie.Need-loop-less Inv-loop μ-loop
 loop-less c = search needs

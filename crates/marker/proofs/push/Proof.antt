@@ -7,6 +7,7 @@ use lib.ListN.{length}
 use Rattle.rules.specs.Planes.{entriesIn}
 use Rattle.laws.proofs.Planes.{few-entries}
 use Rattle.laws.proofs.Marking.{head-inside}
+use Rattle.laws.proofs.Widths.{in-slice}
 use Rattle.marker.proofs.Stacking.{came-pushes, came-loses}
 use Rattle.marker.proofs.push.Statement.{statement}
 use Rattle.marker.proofs.push.Tie as tie
@@ -25,7 +26,7 @@ set-word-requires : tie.Need-set-word-requires
 set-word-requires c κs = search needs
 
 add-deeper : tie.Need-add-deeper
-add-deeper c = search needs
+add-deeper c = in-slice (c .before .before .before .before .before .before .before .before .before .before .before .before .before .before .args .stack .now) (search needs) (search needs)
 
 same-length : tie.Need-same-length
 same-length c = search needs

@@ -8,6 +8,7 @@ use lib.ListN.{length}
 use Rattle.rules.specs.Planes.{entriesIn, IsTable}
 use Rattle.rules.specs.Marking.{walkWords}
 use Rattle.laws.proofs.Planes.{few-entries}
+use Rattle.laws.proofs.Widths.{in-32-bits}
 use Rattle.marker.specs.Variables.{contextOf, stateOf, Knows}
 use Rattle.marker.proofs.Turning.{walk-turn, walk-end}
 use Rattle.marker.proofs.walk.Statement.{statement}
@@ -33,7 +34,7 @@ block-count-requires : tie.Need-block-count-requires Inv-loop μ-loop
 block-count-requires c κs = search needs
 
 mul-i : tie.Need-mul-i Inv-loop μ-loop
-mul-i c = omega (arith, c .block-count .ensures .1, few-entries (c .before .before .before .before .before .before .args .t) (c .before .before .before .before .before .before .args .table .now) (c .before .before .before .before .before .before .pre .0 .is-table))
+mul-i c = in-32-bits (omega (arith, c .block-count .ensures .1, few-entries (c .before .before .before .before .before .before .args .t) (c .before .before .before .before .before .before .args .table .now) (c .before .before .before .before .before .before .pre .0 .is-table)))
 
 loop-holds : tie.Need-loop-holds Inv-loop μ-loop
 loop-holds c = (omega arith, c .before .before .before .before .before .before .pre .1 .0, c .before .before .before .before .before .before .pre .0 .is-table, refl, refl, c .before .before .before .before .before .before .pre .1 .1 .1, refl)
@@ -46,7 +47,9 @@ within : (c : tie.After-visit-arg2 Inv-loop μ-loop) → 4 * (c .before .before 
 within c = omega (arith, c .before .before .before .loop .inv .0, c .before .before .before .before .block-count .ensures .1, c .before .before .before .before .before .before .first-word .ensures, c .before .before .before .before .before .before .before .before .before .before .pre .0 .whole)
 
 add-word : tie.Need-add-word Inv-loop μ-loop
-add-word c = record { fits = omega (arith, within c, c .before .before .before .before .before .before .before .before .before .before .good) }
+add-word c =
+    let start = c .before .before .before .before .before .before .before .before .before .before in
+    in-32-bits (omega (arith, within c, start .pre .0 .whole, few-entries (start .args .t) (start .args .table .now) (start .pre .0 .is-table)))
 
 word-requires : tie.Need-word-requires Inv-loop μ-loop
 word-requires c κs = omega (arith, within c, c .before .before .loop-test .taken)
