@@ -4,6 +4,7 @@ use native.Mathlib.Omega.{arith}
 use Rattle.rules.specs.Outcomes.{Heap}
 use Rattle.rules.specs.Refusals.{wordTests}
 use Rattle.checks.specs.Refusal.{refusalBy}
+use Rattle.laws.proofs.Widths.{in-32-bits}
 use Rattle.heap.proofs.Ends.{survey-accepted, survey-checked, word-next, load-refused, load-done, word-inside}
 use Rattle.heap.proofs.load_checked.Statement.{statement}
 use Rattle.heap.proofs.load_checked.Tie as tie
@@ -23,7 +24,7 @@ first-word-requires : tie.Need-first-word-requires
 first-word-requires c κs = omega (arith, word-inside _ _ _ _ _ _ (tested (c .before)) (c .if1 .left) .0)
 
 add-word : tie.Need-add-word
-add-word c = let w = word-inside _ _ _ _ _ _ (tested (c .before .before)) (c .before .if1 .left) in omega arith
+add-word c = let w = word-inside _ _ _ _ _ _ (tested (c .before .before)) (c .before .if1 .left) in in-32-bits (omega arith)
 
 word-requires : tie.Need-word-requires
 word-requires c κs = let w = word-inside _ _ _ _ _ _ (tested (c .before .before)) (c .before .if1 .left) in omega arith

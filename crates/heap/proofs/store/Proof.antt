@@ -1,6 +1,7 @@
 -- `heap::store` meets its contract. Assumes nothing.
 use native.Mathlib.Omega.{arith}
 use borrow.Author.Needs.{needs}
+use Rattle.laws.proofs.Widths.{in-32-bits}
 use Rattle.heap.proofs.Ends.{store-refused, store-done, word-inside}
 use Rattle.heap.proofs.store.Statement.{statement}
 use Rattle.heap.proofs.store.Tie as tie
@@ -18,7 +19,7 @@ first-word-requires : tie.Need-first-word-requires
 first-word-requires c κs = omega (arith, word-inside _ _ _ _ _ _ (c .before .before .word .ensures) (c .before .if1 .left) .0)
 
 add-set-word : tie.Need-add-set-word
-add-set-word c = let w = word-inside _ _ _ _ _ _ (c .before .before .before .word .ensures) (c .before .before .if1 .left) in omega arith
+add-set-word c = let w = word-inside _ _ _ _ _ _ (c .before .before .before .word .ensures) (c .before .before .if1 .left) in in-32-bits (omega arith)
 
 set-word-requires : tie.Need-set-word-requires
 set-word-requires c κs = let w = word-inside _ _ _ _ _ _ (c .before .before .before .word .ensures) (c .before .before .if1 .left) in omega arith
