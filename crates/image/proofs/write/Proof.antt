@@ -4,6 +4,7 @@ use mathlib.Core.Path.{refl}
 use Prim.Native.Nat.{_≤_}
 use native.Mathlib.Omega.{arith}
 use borrow.Author.Needs.{needs}
+use Rattle.laws.proofs.Widths.{in-32-bits}
 use Rattle.image.proofs.Ends.{Known, known, image-refused, image-short, image-done}
 use Rattle.image.proofs.write.Statement.{statement}
 use Rattle.image.proofs.write.Tie as tie
@@ -33,16 +34,16 @@ few : (c : tie.After-count) → c .count .result .used ≤ 4096
 few c = omega (arith, c .count .ensures .0, knows (c .before) .few)
 
 add-length : tie.Need-add-length
-add-length c = record { fits = omega (arith, knows (c .before) .is .sized .few) }
+add-length c = in-32-bits (record { fits = omega (arith, knows (c .before) .is .sized .few) })
 
 mul-length : tie.Need-mul-length
-mul-length c = record { fits = omega (arith, few c) }
+mul-length c = in-32-bits (record { fits = omega (arith, few c) })
 
 add-length-2 : tie.Need-add-length-2
-add-length-2 c = record { fits = omega (arith, few c, knows (c .before) .is .sized .few) }
+add-length-2 c = in-32-bits (record { fits = omega (arith, few c, knows (c .before) .is .sized .few) })
 
 add-length-3 : tie.Need-add-length-3
-add-length-3 c = record { fits = omega (arith, few c, knows (c .before) .is .sized .few, knows (c .before) .few-roots) }
+add-length-3 c = in-32-bits (record { fits = omega (arith, few c, knows (c .before) .is .sized .few, knows (c .before) .few-roots) })
 
 unwritten-requires-2 : tie.Need-unwritten-requires-2
 unwritten-requires-2 c κs = search needs

@@ -1,7 +1,7 @@
 -- `write_sections`: each section goes behind the one before it.
 -- Assumes nothing.
 use mathlib.Core.Path.{_≡_, _∙_}
-use Prim.Native.Nat.{_+_, _*_, _/_}
+use Prim.Native.Nat.{_+_, _*_, _/_, _≤_}
 use native.Mathlib.Omega.{arith}
 use lib.ListN.{length}
 use borrow.Author.Needs.{needs}
@@ -12,8 +12,10 @@ use Rattle.rules.specs.Planes.{entriesIn, heapAt}
 use Rattle.rules.specs.Images.{usedFrom}
 use Rattle.laws.proofs.Words.{length-bytesOf}
 use Rattle.laws.proofs.Entries.{length-tableOf}
-use Rattle.laws.proofs.Planes.{length-entriesIn}
+use Rattle.laws.proofs.Planes.{length-entriesIn, few-entries}
+use Rattle.laws.proofs.Tables.{used-le}
 use Rattle.laws.proofs.Images.{length-used}
+use Rattle.laws.proofs.Widths.{in-32-bits}
 use Rattle.image.proofs.Sections.{begins-empty, section-next, all-sections}
 use Rattle.image.proofs.write_sections.Statement.{statement}
 use Rattle.image.proofs.write_sections.Tie as tie
@@ -34,13 +36,13 @@ pack-requires : tie.Need-pack-requires
 pack-requires c κs = search needs
 
 add-blocks : tie.Need-add-blocks
-add-blocks c = search needs
+add-blocks c = in-32-bits (search needs)
 
 set-two-bytes-requires-3 : tie.Need-set-two-bytes-requires-3
 set-two-bytes-requires-3 c κs = search needs
 
 add-gather : tie.Need-add-gather
-add-gather c = search needs
+add-gather c = in-32-bits (search needs)
 
 -- the image is as long as it was
 module _ (c : tie.After-set-two-bytes3) where
@@ -55,6 +57,13 @@ module _ (c : tie.After-set-two-bytes3) where
       let one = base .before .before .before .before .before in
       c .set-two-bytes3 .kept .0 ∙ table .pack .kept .1 .1 .0 ∙ table-count .set-two-bytes2 .kept .0 ∙ base .set-four-bytes .kept .0 ∙ one .set-two-bytes .kept .0
 
+-- the table has at most 1024 bytes, and at most 4096 blocks are used
+small : (c : tie.After-set-two-bytes3) → start c .args .t + 16 * start c .args .used ≤ 1024 + 16 * 4096
+small c =
+    let s = start c in
+    let is = s .pre .0 .0 in
+    omega (arith, is .sized .few, s .pre .1 .0, used-le (entriesIn (s .args .t) (s .args .table .now)), few-entries (s .args .t) (s .args .table .now) is)
+
 still-long : (c : tie.After-gather) → length (c .gather .last .1 .1 .1 .0) ≡ length (start (c .before .before .before .before) .args .image .now)
 still-long c = c .gather .kept .1 .1 .1 .0 ∙ long (c .before .before .before .before)
 
@@ -64,13 +73,13 @@ gather-requires c κs =
     (s .pre .0 .0, (s .pre .0 .1 .0, omega (arith, long (c .before .before .before), s .pre .1 .0, s .pre .1 .1)))
 
 add-list : tie.Need-add-list
-add-list c = let s = start (c .before .before .before .before .before .before) in record { fits = omega (arith, s .pre .1 .1) }
+add-list c = in-32-bits (record { fits = omega (arith, small (c .before .before .before .before .before .before)) })
 
 mul-list : tie.Need-mul-list
-mul-list c = let s = start (c .before .before .before .before .before .before) in record { fits = omega (arith, s .pre .1 .1) }
+mul-list c = in-32-bits (record { fits = omega (arith, small (c .before .before .before .before .before .before)) })
 
 add-list-2 : tie.Need-add-list-2
-add-list-2 c = let s = start (c .before .before .before .before .before .before) in record { fits = omega (arith, s .pre .1 .1) }
+add-list-2 c = in-32-bits (record { fits = omega (arith, small (c .before .before .before .before .before .before)) })
 
 set-two-bytes-requires-4 : tie.Need-set-two-bytes-requires-4
 set-two-bytes-requires-4 c κs =
@@ -78,7 +87,7 @@ set-two-bytes-requires-4 c κs =
     omega (arith, still-long blocks, start (blocks .before .before .before .before) .pre .1 .1)
 
 add-set-part : tie.Need-add-set-part
-add-set-part c = let s = start (c .before .before .before .before .before .before .before .before .before .before .before) in record { fits = omega (arith, s .pre .1 .1) }
+add-set-part c = in-32-bits (record { fits = omega (arith, small (c .before .before .before .before .before .before .before .before .before .before .before)) })
 
 set-part-requires : tie.Need-set-part-requires
 set-part-requires c κs =
