@@ -18,7 +18,7 @@ pub extern "C" fn blockheap_init(base: u64, t: u64, pool: &[u8], table: &mut [u8
     ensures { λ r. ⌜ result (onlyRefusal r) (memory (now (pool .entry)) (now (table .exit))) []
         ≡ perform (planes t) (Init base) [] (memory (now (pool .entry)) (now (table .entry))) ⌝ }
 {
-    heap::init(Address::of_number(base), t as usize, pool, table)
+    heap::init(Address::of_number(base), numbers::clamped(t), pool, table)
 }
 
 #[no_mangle]
@@ -36,7 +36,7 @@ pub extern "C" fn blockheap_allocate(
 {
     let p = heap::allocate(
         Address::of_number(base),
-        t as usize,
+        numbers::clamped(t),
         pool,
         table,
         Bytes::of_number(bytes),
@@ -61,7 +61,7 @@ pub extern "C" fn blockheap_free(
 {
     let f = heap::free(
         Address::of_number(base),
-        t as usize,
+        numbers::clamped(t),
         pool,
         table,
         Block::of_number(block),
@@ -87,7 +87,7 @@ pub extern "C" fn blockheap_reallocate(
 {
     let p = heap::reallocate(
         Address::of_number(base),
-        t as usize,
+        numbers::clamped(t),
         pool,
         table,
         Block::of_number(block),
@@ -116,7 +116,7 @@ pub extern "C" fn blockheap_collect(
 {
     let c = collector::collect(
         Address::of_number(base),
-        t as usize,
+        numbers::clamped(t),
         pool,
         table,
         roots,
@@ -142,7 +142,7 @@ pub extern "C" fn blockheap_survey(
     ensures { λ r. ⌜ result (findings r (now (used .exit)) (now (objects .exit)) (now (longest .exit))) (memory (now (pool .entry)) (now (table .entry))) []
         ≡ perform (planes t) (Survey base) [] (memory (now (pool .entry)) (now (table .entry))) ⌝ }
 {
-    let s = heap::survey(Address::of_number(base), t as usize, pool, table);
+    let s = heap::survey(Address::of_number(base), numbers::clamped(t), pool, table);
     *used = s.used;
     *objects = s.objects;
     *longest = s.longest;
@@ -164,11 +164,11 @@ pub extern "C" fn blockheap_load(
 {
     let l = heap::load(
         Address::of_number(base),
-        t as usize,
+        numbers::clamped(t),
         pool,
         table,
         Block::of_number(block),
-        word as usize,
+        numbers::clamped(word),
     );
     *value = l.value;
     l.refusal
@@ -189,11 +189,11 @@ pub extern "C" fn blockheap_store(
 {
     heap::store(
         Address::of_number(base),
-        t as usize,
+        numbers::clamped(t),
         pool,
         table,
         Block::of_number(block),
-        word as usize,
+        numbers::clamped(word),
         value,
     )
 }
@@ -214,7 +214,7 @@ pub extern "C" fn blockheap_write_image(
 {
     let w = image::write(
         Address::of_number(base),
-        t as usize,
+        numbers::clamped(t),
         pool,
         table,
         roots,
@@ -238,7 +238,7 @@ pub extern "C" fn blockheap_open_image(
         ≡ withBuffer (now (roots .entry))
         (perform (planes t) (OpenImage (now (image .entry)) (lengthOf (now (roots .entry)))) [] (memory (now (pool .entry)) (now (table .entry)))) ⌝ }
 {
-    let o = opener::open_image(image, t as usize, pool, table, roots);
+    let o = opener::open_image(image, numbers::clamped(t), pool, table, roots);
     *base = o.base;
     *count = o.roots;
     o.refusal
@@ -263,7 +263,7 @@ pub extern "C" fn blockheap_log_append(
 {
     let l = rainlog::append(
         Address::of_number(base),
-        t as usize,
+        numbers::clamped(t),
         pool,
         table,
         Address::of_number(first),
@@ -294,11 +294,11 @@ pub extern "C" fn blockheap_log_read(
 {
     let e = rainlog::read(
         Address::of_number(base),
-        t as usize,
+        numbers::clamped(t),
         pool,
         table,
         Address::of_number(first),
-        index as usize,
+        index,
     );
     *time = e.time;
     *tips = e.tips;
@@ -320,7 +320,7 @@ pub extern "C" fn blockheap_log_drop(
 {
     let l = rainlog::drop(
         Address::of_number(base),
-        t as usize,
+        numbers::clamped(t),
         pool,
         table,
         Address::of_number(first),

@@ -39,14 +39,14 @@ fn broken() -> Walk
 }
 
 // The block with the wanted index, once the entry at block k is passed.
-fn wanted(w: Walk, k: Block, index: usize) -> Block
+fn wanted(w: Walk, k: Block, index: u64) -> Block
     ensures { λ r. ⌜ r .0 ≡ pick (eqb (w .count) index) (k .0) (w .wanted .0) ⌝ }
 {
-    if w.count == index { k } else { w.wanted }
+    if w.count as u64 == index { k } else { w.wanted }
 }
 
 // Passes the entry where the walk stands, if there is one: the address of a head whose object has two blocks, so that its word 7 can be read and word 8 is refused with 8.
-fn advance(base: Address, t: usize, pool: &[u8], table: &[u8], w: Walk, index: usize) -> Walk
+fn advance(base: Address, t: usize, pool: &[u8], table: &[u8], w: Walk, index: u64) -> Walk
     requires { ⌜ AcceptedIn (perform (planes t) (Survey (base .0)) [] (memory (now pool) (now table))) × (w .count < 4096) ⌝ }
     ensures { λ r. ⌜ Steps index w (linkFrom (loadsIn (base .0) t (now (pool .entry)) (now (table .entry))) (targetOf (base .0) 4096 (w .at .0))) r ⌝ }
 {
@@ -78,7 +78,7 @@ pub fn follow(
     pool: &[u8],
     table: &[u8],
     first: Address,
-    index: usize,
+    index: u64,
 ) -> Walk
     requires { ⌜ AcceptedIn (perform (planes t) (Survey (base .0)) [] (memory (now pool) (now table))) ⌝ }
     ensures { λ r. ⌜ Walked index r (headsFrom (loadsIn (base .0) t (now (pool .entry)) (now (table .entry))) (base .0) 4096 (first .0)) ⌝ }

@@ -4,17 +4,18 @@ use mathlib.Core.Path.{_≡_, refl, sym, ap, _∙_}
 use mathlib.Core.Bool.{not, false}
 use mathlib.Core.List.{List, _∷_, _++_}
 use mathlib.Core.Option.{none}
-use Prim.Native.Nat.{ℕ, _+_, _<_}
+use Prim.Native.Nat.{ℕ, _+_, _/_, _≤_, _<_}
 use native.Mathlib.Omega.{arith}
 use lib.IntN.{ℤ, pos, negℤ}
 use lib.ListN.{length, replicate, length-append}
+use borrow.Author.Tests.{ltb-false}
 use Rattle.rules.specs.Words.{bytesOf, wordsOf}
 use Rattle.rules.specs.Pointers.{addressOf, leadsTo}
 use Rattle.rules.specs.Tables.{used}
 use Rattle.rules.specs.Planes.{planes, entriesIn, IsTable, heapAt}
 use Rattle.laws.specs.Meaning.{AllBytes, Leads, Shape as GoodShape}
 use Rattle.rules.specs.Outcomes.{Heap, Outcome, changeFrom}
-use Rattle.rules.specs.Refusals.{firstOf, goodLists, collectionTests}
+use Rattle.rules.specs.Refusals.{firstOf, goodLists, manyRoots, collectionTests}
 use Rattle.rules.specs.Marking.{Context, Marked, markedIn, rootTo, markRoot, markRoots, markAll}
 use Rattle.rules.specs.Calls.{collecting, collect}
 use Rattle.rules.specs.Runs.{Collect, step}
@@ -23,7 +24,7 @@ use Rattle.laws.proofs.Words.{length-bytesOf}
 use Rattle.laws.proofs.Pointers.{leads-says, leads-one}
 use Rattle.laws.proofs.Planes.{planes-faithful, table-sound}
 use Rattle.checks.proofs.FirstTests.{is-table-lists}
-use Rattle.laws.proofs.Refusals.{refusal-is, accepts, lists-say, first-passed}
+use Rattle.laws.proofs.Refusals.{refusal-is, accepts, lists-say, first-passed, first-none}
 use Rattle.laws.proofs.Calls.{sub-less}
 use Rattle.laws.proofs.Used.{marking-used}
 use Rattle.laws.proofs.Memory.{sound-of, left-in, acted-in}
@@ -104,6 +105,9 @@ module _ (t base : ℕ) (pool table roots stack : List ℕ) (r : ℕ)
 
     pub collect-shape : Shape t pool table
     collect-shape = record { is-table = is-table-lists base t pool table roots stack first ok .0; whole = good .pool }
+
+    pub collect-few : length roots / 4 ≤ 4096
+    collect-few = ltb-false 4096 (length roots / 4) (first-none (manyRoots roots) _ (omega arith) (first-passed (goodLists base h roots stack) h _ (passes .1) .2) .0)
 
     pub base-above : 0 < base
     base-above = omega (arith, good .above)

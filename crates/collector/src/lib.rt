@@ -1,6 +1,8 @@
 // The collection: it checks its arguments first, and then marks, sweeps and clears the mark stack.
 ghost use mathlib.Core.Path.{_≡_};
 ghost use mathlib.Core.List.{_∷_, _++_};
+ghost use Prim.Native.Nat.{_/_, _≤_, _<_};
+ghost use lib.ListN.{length};
 ghost use Rattle.rules.specs.Words.{bytesOf, wordsOf};
 ghost use Rattle.rules.specs.Planes.{planes, entriesIn, IsTable, heapAt};
 ghost use Rattle.rules.specs.Marking.{markAll};
@@ -30,6 +32,7 @@ fn run(
     stack: &mut [u8],
 ) -> Collected
     requires { ⌜ Shape t (now pool) (now table) ⌝ }
+    requires { ⌜ length (now roots) / 4 ≤ 4096 ⌝ }
     ensures { λ r. ⌜ IsTable t (now (table .exit)) × (outcomeOf r (heapAt t (now (pool .entry)) (now (table .exit))) (now (stack .exit))
         ≡ collecting (heapAt t (now (pool .entry)) (now (table .entry))) (now (stack .entry))
         (markAll (contextOf (base .0) (now (pool .entry)) (now (stack .entry))) (first ∷ wordsOf (now (roots .entry))) (entriesIn t (now (table .entry))))) ⌝ }
@@ -72,7 +75,7 @@ pub fn collect(
     run(base, t, pool, table, 0, roots, stack)
 }
 
-// A collection from a root word and then the caller's roots.
+// A collection from a root word and then the caller's roots, one fewer than `collect` takes.
 pub fn collect_with(
     base: Address,
     t: usize,
@@ -82,6 +85,7 @@ pub fn collect_with(
     roots: &[u8],
     stack: &mut [u8],
 ) -> Collected
+    requires { ⌜ length (now roots) / 4 < 4096 ⌝ }
     ensures { λ r. ⌜ resultOf r (now (pool .entry)) (now (table .exit)) (now (stack .exit))
         ≡ perform (planes t) (Collect (base .0) (bytesOf first ++ now (roots .entry))) (now (stack .entry)) (memory (now (pool .entry)) (now (table .entry))) ⌝ }
 {

@@ -88,7 +88,7 @@ fn unplaced(refusal: u32) -> Placed
 {
     Placed {
         refusal,
-        block: Block::of_number(0),
+        block: Block::first(),
         change: 0,
     }
 }

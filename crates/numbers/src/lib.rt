@@ -8,6 +8,7 @@ ghost use lib.ListN.{length};
 ghost use Rattle.rules.specs.Tables.{aligned};
 ghost use Rattle.rules.specs.Pointers.{addressOf, goodBase, targetOf};
 ghost use Rattle.rules.specs.Calls.{blocksFor};
+ghost use Rattle.laws.specs.Clamped.{clamped as clampedTo};
 ghost use Rattle.numbers.specs.Places.{found};
 
 // A block's number in the pool, from 0.
@@ -21,6 +22,13 @@ pub struct Bytes(usize);
 
 // The first number that is no address.
 const END: u64 = 4294967296;
+
+// A number that a caller gave, or the largest of 32 bits if it is larger: every host's usize holds it, and no call tells the two apart.
+pub fn clamped(n: u64) -> usize
+    ensures { λ r. ⌜ r ≡ clampedTo n ⌝ }
+{
+    if n < 4294967296 { n as usize } else { 4294967295 }
+}
 
 // The block that a search found or that an address is of, or none.
 pub enum Found {
@@ -36,11 +44,11 @@ impl Block {
         Block(0)
     }
 
-    // The block whose number a caller gave. There may be no such block.
+    // The block whose number a caller gave, clamped. There may be no such block.
     pub fn of_number(n: u64) -> Block
-        ensures { λ r. ⌜ r .0 ≡ n ⌝ }
+        ensures { λ r. ⌜ r .0 ≡ clampedTo n ⌝ }
     {
-        Block(n as usize)
+        Block(clamped(n))
     }
 
     // The number for a caller.
@@ -99,7 +107,7 @@ impl Block {
 
     // Where the block's bytes start in the pool.
     pub fn offset(self) -> Bytes
-        requires { ⌜ self .0 < 2 ^ 32 ⌝ }
+        requires { ⌜ self .0 < 2 ^ 28 ⌝ }
         ensures { λ r. ⌜ r .0 ≡ 16 * self .0 ⌝ }
     {
         Bytes(16 * self.0)
@@ -107,7 +115,7 @@ impl Block {
 
     // The index of the block's first word among the pool's words.
     pub fn first_word(self) -> usize
-        requires { ⌜ self .0 < 2 ^ 32 ⌝ }
+        requires { ⌜ self .0 < 2 ^ 28 ⌝ }
         ensures { λ r. ⌜ r ≡ 4 * self .0 ⌝ }
     {
         4 * self.0
@@ -130,11 +138,11 @@ impl Block {
 }
 
 impl Bytes {
-    // So many bytes as a caller asked for.
+    // So many bytes as a caller asked for, clamped.
     pub fn of_number(n: u64) -> Bytes
-        ensures { λ r. ⌜ r .0 ≡ n ⌝ }
+        ensures { λ r. ⌜ r .0 ≡ clampedTo n ⌝ }
     {
-        Bytes(n as usize)
+        Bytes(clamped(n))
     }
 
     // The number as an index into bytes.
@@ -167,7 +175,7 @@ impl Bytes {
 
     // How many blocks hold so many bytes.
     pub fn blocks(self) -> usize
-        requires { ⌜ self .0 < 2 ^ 32 ⌝ }
+        requires { ⌜ self .0 < 2 ^ 31 ⌝ }
         ensures { λ r. ⌜ r ≡ blocksFor (self .0) ⌝ }
     {
         (self.0 + 15) / 16
@@ -175,7 +183,7 @@ impl Bytes {
 
     // The bytes of so many blocks.
     pub fn of_blocks(count: usize) -> Bytes
-        requires { ⌜ count < 2 ^ 32 ⌝ }
+        requires { ⌜ count < 2 ^ 28 ⌝ }
         ensures { λ r. ⌜ r .0 ≡ 16 * count ⌝ }
     {
         Bytes(16 * count)
@@ -258,9 +266,9 @@ impl Address {
         if d % 16 != 0 {
             return Found::Nowhere;
         }
-        let k = (d / 16) as usize;
-        if k < n {
-            Found::At(Block(k))
+        let k = d / 16;
+        if k < n as u64 {
+            Found::At(Block(k as usize))
         } else {
             Found::Nowhere
         }

@@ -2,7 +2,8 @@
 // Every call here is made of public calls of the heap and of the collection: this layer reads and writes no byte itself.
 ghost use mathlib.Core.Path.{_≡_};
 ghost use mathlib.Core.List.{List, []};
-ghost use Prim.Native.Nat.{ℕ, _<_, _^_};
+ghost use Prim.Native.Nat.{ℕ, _/_, _<_, _^_};
+ghost use lib.ListN.{length};
 ghost use Rattle.rules.specs.Pointers.{addressOf};
 ghost use Rattle.rules.specs.Planes.{planes};
 ghost use Rattle.rules.specs.Memory.{memory};
@@ -77,11 +78,12 @@ fn add_again(
     stack: &mut [u8],
     w: Walk,
 ) -> Logged
+    requires { ⌜ length (now roots) / 4 < 4096 ⌝ }
     ensures { λ r. ⌜ ((ks : List ℕ) → lastOf ks ≡ lastBy w → logs r (now (pool .exit)) (now (table .exit)) (now (stack .exit))
         ≡ run (planes t) (againTo (base .0) first time tips (now (roots .entry)) ks) (now (stack .entry)) (memory (now (pool .entry)) (now (table .entry)))) ⌝ }
 {
     let c = collector::collect_with(base, t, &*pool, &mut *table, first, roots, stack);
-    let a = heap::allocate(base, t, &mut *pool, &mut *table, Bytes::of_number(32));
+    let a = heap::allocate(base, t, &mut *pool, &mut *table, Bytes::of_blocks(2));
     if a.refusal != 0 {
         return Logged {
             refusal: 9,
@@ -117,10 +119,11 @@ fn add(
     stack: &mut [u8],
     w: Walk,
 ) -> Logged
+    requires { ⌜ length (now roots) / 4 < 4096 ⌝ }
     ensures { λ r. ⌜ ((ks : List ℕ) → lastOf ks ≡ lastBy w → logs r (now (pool .exit)) (now (table .exit)) (now (stack .exit))
         ≡ run (planes t) (appendTo (base .0) first time tips (now (roots .entry)) ks) (now (stack .entry)) (memory (now (pool .entry)) (now (table .entry)))) ⌝ }
 {
-    let a = heap::allocate(base, t, &mut *pool, &mut *table, Bytes::of_number(32));
+    let a = heap::allocate(base, t, &mut *pool, &mut *table, Bytes::of_blocks(2));
     if a.refusal != 0 {
         return add_again(base, t, pool, table, first, time, tips, roots, stack, w);
     }
@@ -216,7 +219,7 @@ pub fn read(
     pool: &[u8],
     table: &[u8],
     first: Address,
-    index: usize,
+    index: u64,
 ) -> Readout
     ensures { λ r. ⌜ reads r (now (pool .entry)) (now (table .entry)) ≡ run (planes t) (readProgram (base .0) (first .0) index) [] (memory (now (pool .entry)) (now (table .entry))) ⌝ }
 {
@@ -228,7 +231,7 @@ pub fn read(
     if !w.whole {
         return unread(18);
     }
-    if w.count <= index {
+    if w.count as u64 <= index {
         return unread(19);
     }
     let time = heap::load_checked(base, t, pool, table, w.wanted, 1).value;

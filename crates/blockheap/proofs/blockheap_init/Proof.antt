@@ -1,10 +1,17 @@
--- `blockheap::blockheap_init` meets its contract: the numbers go on as they came. Assumes nothing.
+-- `blockheap::blockheap_init` meets its contract: clamping changes no answer. Assumes nothing.
+use mathlib.Core.Path.{_∙_}
+use mathlib.Core.List.{[]}
 use borrow.Author.Needs.{needs}
+use Rattle.rules.specs.Runs.{Init}
+use Rattle.laws.proofs.Clamped.{call-clamped}
 use Rattle.blockheap.proofs.blockheap_init.Statement.{statement}
 use Rattle.blockheap.proofs.blockheap_init.Tie as tie
 
 of-number-requires : tie.Need-of-number-requires
 of-number-requires c κs = search needs
+
+clamped-requires : tie.Need-clamped-requires
+clamped-requires c κs = search needs
 
 init-requires : tie.Need-init-requires
 init-requires c κs = search needs
@@ -14,7 +21,8 @@ same-length c = search needs
 
 returns : tie.Need-returns
 returns c =
-    rw (c .before .before .before .before .of-number .ensures) at (c .before .before .init .ensures)
+    let a = c .before .before .before .before .before .before .before .before .args in
+    (rw (c .before .before .before .before .before .of-number .ensures, c .before .before .before .before .clamped .ensures) at (c .before .before .init .ensures)) ∙ call-clamped (a .t) (Init (a .base)) [] _
 
 pub blockheap-init-spec : {M : Type 1} → statement M
-blockheap-init-spec = tie.close (tie.spec of-number-requires init-requires same-length returns)
+blockheap-init-spec = tie.close (tie.spec of-number-requires clamped-requires init-requires same-length returns)

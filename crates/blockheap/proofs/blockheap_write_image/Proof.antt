@@ -1,10 +1,19 @@
--- `blockheap::blockheap_write_image` meets its contract: the numbers go on as they came. Assumes nothing.
+-- `blockheap::blockheap_write_image` meets its contract: clamping changes no answer. Assumes nothing.
+use mathlib.Core.Path.{ap, _∙_}
+use mathlib.Core.List.{[]}
+use lib.ListN.{length}
 use borrow.Author.Needs.{needs}
+use Rattle.rules.specs.Runs.{WriteImage}
+use Rattle.rules.specs.Memory.{withBuffer}
+use Rattle.laws.proofs.Clamped.{call-clamped}
 use Rattle.blockheap.proofs.blockheap_write_image.Statement.{statement}
 use Rattle.blockheap.proofs.blockheap_write_image.Tie as tie
 
 of-number-requires : tie.Need-of-number-requires
 of-number-requires c κs = search needs
+
+clamped-requires : tie.Need-clamped-requires
+clamped-requires c κs = search needs
 
 write-requires : tie.Need-write-requires
 write-requires c κs = search needs
@@ -13,7 +22,9 @@ same-length : tie.Need-same-length
 same-length c = search needs
 
 returns : tie.Need-returns
-returns c = rw (c .before .before .before .before .of-number .ensures) at (c .before .before .write .ensures)
+returns c =
+    let a = c .before .before .before .before .before .before .before .before .before .before .args in
+    (rw (c .before .before .before .before .before .of-number .ensures, c .before .before .before .before .clamped .ensures) at (c .before .before .write .ensures)) ∙ ap (withBuffer _) (call-clamped (a .t) (WriteImage (a .base) (a .roots .now) (length (a .image .now))) [] _)
 
 pub blockheap-write-image-spec : {M : Type 1} → statement M
-blockheap-write-image-spec = tie.close (tie.spec of-number-requires write-requires same-length returns)
+blockheap-write-image-spec = tie.close (tie.spec of-number-requires clamped-requires write-requires same-length returns)

@@ -6,6 +6,7 @@ use native.Mathlib.Omega.{arith}
 use borrow.Author.Needs.{needs}
 use Rattle.numbers.specs.Places.{found}
 use Rattle.rules.specs.Pointers.{targetOf}
+use Rattle.laws.proofs.Widths.{in-32-bits}
 use Prim.Native.Nat.{suc, _+_}
 use Rattle.chain.specs.Walks.{passedBy, pass, loadsIn}
 use Rattle.chain.proofs.Walking.{refusal-is, value-is, steps-nowhere, steps-short, steps-long, steps-on}
@@ -60,7 +61,7 @@ load-checked-requires-3 : tie.Need-load-checked-requires-3
 load-checked-requires-3 c κs = search needs
 
 add-passed : tie.Need-add-passed
-add-passed c = record { fits = omega (arith, c .before .before .before .before .before .before .before .before .before .before .before .before .before .before .pre .1) }
+add-passed c = in-32-bits (record { fits = omega (arith, c .before .before .before .before .before .before .before .before .before .before .before .before .before .before .pre .1) })
 
 of-word-requires : tie.Need-of-word-requires
 of-word-requires c κs = search needs

@@ -5,7 +5,7 @@ use borrow.Author.Needs.{needs}
 use Rattle.rules.specs.Words.{wordsOf}
 use Rattle.rules.specs.Planes.{entriesIn}
 use Rattle.marker.specs.Variables.{contextOf}
-use Rattle.collector.proofs.Collecting.{root-nowhere, collect-refused, collect-accepted, collect-shape, base-above}
+use Rattle.collector.proofs.Collecting.{root-nowhere, collect-refused, collect-accepted, collect-shape, collect-few, base-above}
 use Rattle.collector.proofs.collect.Statement.{statement}
 use Rattle.collector.proofs.collect.Tie as tie
 
@@ -26,7 +26,11 @@ returns c =
 run-requires : tie.Need-run-requires
 run-requires c κs =
     let a = c .before .before .before .before .before .before .before .before .before .before .args in
-    collect-shape (a .t) (a .base .0) (a .pool .now) (a .table .now) (a .roots .now) (a .stack .now) (c .before .before .before .collection .result) (c .before .before .before .collection .ensures _ refl) (c .before .before .if1 .left)
+    let passed = c .before .before in
+    let first = passed .before .collection .ensures _ refl in (
+      collect-shape (a .t) (a .base .0) (a .pool .now) (a .table .now) (a .roots .now) (a .stack .now) _ first (passed .if1 .left),
+      collect-few (a .t) (a .base .0) (a .pool .now) (a .table .now) (a .roots .now) (a .stack .now) _ first (passed .if1 .left),
+    )
 
 same-length-3 : tie.Need-same-length-3
 same-length-3 c = search needs

@@ -3,6 +3,7 @@
 use mathlib.Core.Path.{_≡_, ap, sym}
 use mathlib.Core.List.{List, _++_}
 use Prim.Native.Nat.{ℕ}
+use native.Mathlib.Omega.{arith}
 use borrow.Author.Needs.{needs}
 use Rattle.rules.specs.Words.{bytesOf}
 use Rattle.rules.specs.Outcomes.{Heap}
@@ -12,6 +13,7 @@ use Rattle.rules.specs.Marking.{markAll}
 use Rattle.checks.specs.Refusal.{refusalBy}
 use Rattle.marker.specs.Variables.{contextOf}
 use Rattle.laws.proofs.Words.{words-first}
+use Rattle.laws.proofs.Widths.{in-32-bits}
 use Rattle.collector.proofs.Collecting.{bytes-first, collect-refused, collect-accepted, collect-shape}
 use Rattle.collector.proofs.collect_with.Statement.{statement}
 use Rattle.collector.proofs.collect_with.Tie as tie
@@ -29,7 +31,7 @@ module _ (c : tie.After-collection) where
   tested = c .collection .ensures all-roots (bytes-first (start .args .first) (start .args .roots .now))
 
 add-collection : tie.Need-add-collection
-add-collection c = search needs
+add-collection c = in-32-bits (search needs)
 
 collection-requires : tie.Need-collection-requires
 collection-requires c κs = search needs
@@ -46,7 +48,7 @@ returns c = collect-refused _ _ _ _ (all-roots (c .before)) _ _ (tested (c .befo
 run-requires : tie.Need-run-requires
 run-requires c κs =
     let passed = c .before .before in
-    collect-shape _ _ _ _ (all-roots (passed .before)) _ _ (tested (passed .before)) (passed .if1 .left)
+    (collect-shape _ _ _ _ (all-roots (passed .before)) _ _ (tested (passed .before)) (passed .if1 .left), omega (arith, start (passed .before) .pre))
 
 same-length-3 : tie.Need-same-length-3
 same-length-3 c = search needs

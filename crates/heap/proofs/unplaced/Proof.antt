@@ -3,11 +3,11 @@ use borrow.Author.Needs.{needs}
 use Rattle.heap.proofs.unplaced.Statement.{statement}
 use Rattle.heap.proofs.unplaced.Tie as tie
 
-of-number-requires : tie.Need-of-number-requires
-of-number-requires c κs = search needs
+first-requires : tie.Need-first-requires
+first-requires c κs = search needs
 
 returns : tie.Need-returns
-returns c = rw (c .of-number .ensures)
+returns c = rw (c .first .ensures)
 
 pub unplaced-spec : {M : Type 1} → statement M
-unplaced-spec = tie.close (tie.spec of-number-requires returns)
+unplaced-spec = tie.close (tie.spec first-requires returns)

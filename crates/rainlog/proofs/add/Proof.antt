@@ -13,8 +13,8 @@ use Rattle.rainlog.proofs.Replies.{adds, adds-again}
 use Rattle.rainlog.proofs.add.Statement.{statement}
 use Rattle.rainlog.proofs.add.Tie as tie
 
-of-number-requires : tie.Need-of-number-requires
-of-number-requires c κs = search needs
+of-blocks-requires : tie.Need-of-blocks-requires
+of-blocks-requires c κs = search needs
 
 allocate-requires : tie.Need-allocate-requires
 allocate-requires c κs = search needs
@@ -35,7 +35,7 @@ same-length-3 c = search needs
 asked : (c : tie.After-allocate) →
     let a = c .before .before .before .before .before .before .before .before .args in
     placed (c .allocate .result) (c .allocate .last .1 .1 .0) (c .allocate .last .1 .1 .1 .0) ≡ perform (planes (a .t)) (Allocate (a .base .0) 32) [] (memory (a .pool .now) (a .table .now))
-asked c = rw (c .before .of-number .ensures) at (c .allocate .ensures)
+asked c = rw (c .before .of-blocks .ensures) at (c .allocate .ensures)
 
 returns : tie.Need-returns
 returns c ks last =
@@ -64,7 +64,7 @@ pub add-spec : {M : Type 1} → statement M
 add-spec =
     tie.close
     (tie.spec
-    of-number-requires
+    of-blocks-requires
     allocate-requires
     add-again-requires
     same-length

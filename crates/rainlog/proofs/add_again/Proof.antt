@@ -4,6 +4,7 @@ use Prim.Native.Nat.{_≤_}
 use lib.IntN.{natAbs}
 use borrow.Author.Needs.{needs}
 use Rattle.rules.specs.Memory.{memory}
+use Rattle.laws.proofs.Widths.{as-i32}
 use Rattle.rainlog.proofs.Bounds.{read-back, changes-fit, changes-sum, allocate-change, collect-change, entry-address}
 use Rattle.rainlog.proofs.Replies.{again-adds, again-full}
 use Rattle.rainlog.proofs.add_again.Statement.{statement}
@@ -12,8 +13,8 @@ use Rattle.rainlog.proofs.add_again.Tie as tie
 collect-with-requires : tie.Need-collect-with-requires
 collect-with-requires c κs = search needs
 
-of-number-requires : tie.Need-of-number-requires
-of-number-requires c κs = search needs
+of-blocks-requires : tie.Need-of-blocks-requires
+of-blocks-requires c κs = search needs
 
 allocate-requires : tie.Need-allocate-requires
 allocate-requires c κs = search needs
@@ -44,19 +45,19 @@ returns c ks last =
     let made = got .before .before .before .before .before .before .before .before in
     let a = made .before .before .before .before .before .before .before .before .args in
     again-full (a .t) (a .base .0) (a .first) (a .time) (a .tips) (a .roots .now) ks (a .stack .now) (a .pool .now) (a .table .now) (made .collect-with .result) (got .allocate .result) _ _ _ _ (made .collect-with .ensures)
-    (rw (got .before .of-number .ensures) at (got .allocate .ensures)) (c .before .if1 .taken) (read-back (made .collect-with .result .change) (collected-small made))
+    (rw (got .before .of-blocks .ensures) at (got .allocate .ensures)) (c .before .if1 .taken) (read-back (made .collect-with .result .change) (collected-small made))
 
 add-change : tie.Need-add-change
 add-change c =
     let got = c .before .before .before .before .before .before .before .before .before .before in
     let made = got .before .before .before .before .before .before .before .before in
-    changes-fit (made .collect-with .result .change) (got .allocate .result .change) (collected-small made) (placed-small got)
+    as-i32 (changes-fit (made .collect-with .result .change) (got .allocate .result .change) (collected-small made) (placed-small got))
 
 enter-requires : tie.Need-enter-requires
 enter-requires c κs =
     let got = c .before .before .before .before .before .before .before .before .before .before .before .before in
     let a = got .before .before .before .before .before .before .before .before .before .before .before .before .before .before .before .before .args in
-    entry-address (a .t) (a .base .0) _ (rw (got .before .of-number .ensures) at (got .allocate .ensures)) (c .before .before .before .before .before .before .if1 .left)
+    entry-address (a .t) (a .base .0) _ (rw (got .before .of-blocks .ensures) at (got .allocate .ensures)) (c .before .before .before .before .before .before .if1 .left)
 
 same-length-4 : tie.Need-same-length-4
 same-length-4 c = search needs
@@ -73,7 +74,7 @@ returns-2 c ks last =
     let made = got .before .before .before .before .before .before .before .before in
     let a = made .before .before .before .before .before .before .before .before .args in
     again-adds (a .t) (a .base .0) (a .first) (a .time) (a .tips) (a .roots .now) ks (a .stack .now) (a .pool .now) (a .table .now) (made .collect-with .result) (got .allocate .result) _ _ _ _ (made .collect-with .ensures)
-    (rw (got .before .of-number .ensures) at (got .allocate .ensures)) (c .before .before .before .before .before .before .before .before .before .if1 .left) (changes-sum (made .collect-with .result .change) (got .allocate .result .change) (collected-small made) (placed-small got))
+    (rw (got .before .of-blocks .ensures) at (got .allocate .ensures)) (c .before .before .before .before .before .before .before .before .before .if1 .left) (changes-sum (made .collect-with .result .change) (got .allocate .result .change) (collected-small made) (placed-small got))
     (c .before .before .enter .ensures ks _ last)
 
 pub add-again-spec : {M : Type 1} → statement M
@@ -81,7 +82,7 @@ add-again-spec =
     tie.close
     (tie.spec
     collect-with-requires
-    of-number-requires
+    of-blocks-requires
     allocate-requires
     same-length
     same-length-2

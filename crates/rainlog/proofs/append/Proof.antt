@@ -1,10 +1,34 @@
 -- `rainlog::append` meets its contract. Assumes nothing.
+use mathlib.Core.Path.{_≡_, refl, sym, ap, _∙_}
+use mathlib.Core.Bool.{Bool, true, false}
+use mathlib.Core.List.{List}
+use Prim.Native.Nat.{ℕ, _/_, _<_}
+use native.Mathlib.Omega.{arith}
+use lib.Dec.{leb}
+use lib.ListN.{length}
 use borrow.Author.Needs.{needs}
+use borrow.Author.Tests.{leb-false}
+use Rattle.rules.specs.Forms.{Form}
+use Rattle.rules.specs.Memory.{Memory}
+use Rattle.programs.specs.Programs.{Program, Ran, run}
+use Rattle.logs.specs.Log.{Reply, decline}
+use Rattle.rainlog.specs.Answers.{tested, Tests}
 use Rattle.laws.proofs.Refusals.{not-true, not-false}
 use Rattle.rainlog.proofs.Bounds.{first-small}
 use Rattle.rainlog.proofs.Replies.{the-log, append-refused, append-no-log, append-done}
 use Rattle.rainlog.proofs.append.Statement.{statement}
 use Rattle.rainlog.proofs.append.Tie as tie
+
+-- an append that has passed has few roots: with more, what is behind the tests would not matter
+few-roots : (f : Form) (base : ℕ) (roots stack : List ℕ) (m : Memory) {r : ℕ} → Tests f base roots stack m r → r ≡ 0 → length roots / 4 < 4096
+unfolding run
+few-roots f base roots stack m tests z = go (leb 4096 (length roots / 4)) refl
+  where
+    go : (many : Bool) → leb 4096 (length roots / 4) ≡ many → length roots / 4 < 4096
+    go false e = leb-false 4096 (length roots / 4) e
+    go true e =
+        let same : run f (tested base roots stack (decline 0)) stack m ≡ run f (tested base roots stack (decline 1)) stack m = rw e refl in
+        absurd (omega (arith, ap (λ (x : Ran Reply). x .reply .refusal) (tests .passes z (decline 0) ∙ same ∙ sym (tests .passes z (decline 1)))))
 
 check-requires : tie.Need-check-requires
 check-requires c κs = search needs
@@ -55,7 +79,7 @@ to-word-requires c κs =
     first-small (a .t) (a .base .0) (a .pool .now) (a .table .now) (c .before .before .before .before .before .before .before .before .check .ensures .accepts (c .before .before .before .before .before .before .before .if1 .left)) _ _ (the-log (c .before .before .before .before .follow .ensures) (not-false _ (c .before .before .if2 .left)) .are)
 
 add-requires : tie.Need-add-requires
-add-requires c κs = search needs
+add-requires c κs = few-roots _ _ _ _ _ (c .before .before .before .before .before .before .before .before .before .before .check .ensures) (c .before .before .before .before .before .before .before .before .before .if1 .left)
 
 same-length-7 : tie.Need-same-length-7
 same-length-7 c = search needs

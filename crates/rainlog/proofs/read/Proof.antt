@@ -33,17 +33,17 @@ unread-requires-3 c κs = search needs
 returns-3 : tie.Need-returns-3
 returns-3 c =
     rw (c .unread3 .ensures)
-    (read-past _ _ _ _ (λ i. c .before .before .before .before .before .before .before .before .shared-slice-known2 .given i .fits) (sym (c .before .before .before .before .before .before .before .check .ensures) ∙ c .before .before .before .before .before .before .if1 .left) _ (c .before .before .before .before .before .follow .ensures) (not-false _ (c .before .before .before .if2 .left)) (c .before .if3 .taken))
+    (read-past _ _ _ _ (λ i. c .before .before .before .before .before .before .before .shared-slice-known2 .given i .fits) (sym (c .before .before .before .before .before .before .check .ensures) ∙ c .before .before .before .before .before .if1 .left) _ (c .before .before .before .before .follow .ensures) (not-false _ (c .before .before .if2 .left)) (c .before .if3 .taken))
 
 load-checked-requires : tie.Need-load-checked-requires
-load-checked-requires c κs = sym (c .before .before .before .before .before .before .check .ensures) ∙ c .before .before .before .before .before .if1 .left
+load-checked-requires c κs = sym (c .before .before .before .before .before .check .ensures) ∙ c .before .before .before .before .if1 .left
 
 load-checked-requires-2 : tie.Need-load-checked-requires-2
-load-checked-requires-2 c κs = sym (c .before .before .before .before .before .before .before .check .ensures) ∙ c .before .before .before .before .before .before .if1 .left
+load-checked-requires-2 c κs = sym (c .before .before .before .before .before .before .check .ensures) ∙ c .before .before .before .before .before .if1 .left
 
 returns-4 : tie.Need-returns-4
 returns-4 c =
-    read-done _ _ _ _ (λ i. c .before .before .before .before .before .before .before .before .before .shared-slice-known2 .given i .fits) (sym (c .before .before .before .before .before .before .before .before .check .ensures) ∙ c .before .before .before .before .before .before .before .if1 .left) _ (c .before .before .before .before .before .before .follow .ensures) (not-false _ (c .before .before .before .before .if2 .left)) _ _ (omega (arith, c .before .before .if3 .left))
+    read-done _ _ _ _ (λ i. c .before .before .before .before .before .before .before .before .shared-slice-known2 .given i .fits) (sym (c .before .before .before .before .before .before .before .check .ensures) ∙ c .before .before .before .before .before .before .if1 .left) _ (c .before .before .before .before .before .follow .ensures) (not-false _ (c .before .before .before .if2 .left)) _ _ (omega (arith, c .before .before .if3 .left))
     (c .before .load-checked .ensures) (c .load-checked2 .ensures)
 
 pub read-spec : {M : Type 1} → statement M
