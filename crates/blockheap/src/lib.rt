@@ -34,7 +34,7 @@ pub extern "C" fn blockheap_allocate(
     ensures { λ r. ⌜ result (placement r (now (block .exit)) (now (change .exit))) (memory (now (pool .exit)) (now (table .exit))) []
         ≡ perform (planes t) (Allocate base bytes) [] (memory (now (pool .entry)) (now (table .entry))) ⌝ }
 {
-    let p = heap::allocate(
+    let p = allocator::allocate(
         Address::of_number(base),
         numbers::clamped(t),
         pool,
@@ -59,7 +59,7 @@ pub extern "C" fn blockheap_free(
     ensures { λ r. ⌜ result (placement r 0 (now (change .exit))) (memory (now (pool .entry)) (now (table .exit))) []
         ≡ perform (planes t) (Free base block) [] (memory (now (pool .entry)) (now (table .entry))) ⌝ }
 {
-    let f = heap::free(
+    let f = allocator::free(
         Address::of_number(base),
         numbers::clamped(t),
         pool,
@@ -85,7 +85,7 @@ pub extern "C" fn blockheap_reallocate(
     ensures { λ r. ⌜ result (placement r (now («new_block» .exit)) (now (change .exit))) (memory (now (pool .exit)) (now (table .exit))) []
         ≡ perform (planes t) (Reallocate base block bytes) [] (memory (now (pool .entry)) (now (table .entry))) ⌝ }
 {
-    let p = heap::reallocate(
+    let p = allocator::reallocate(
         Address::of_number(base),
         numbers::clamped(t),
         pool,

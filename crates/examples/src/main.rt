@@ -29,7 +29,7 @@ fn allocate(example: u64, pool: &mut [u8], table: &mut [u8], bytes: u64) {
     print::text(b" allocate ");
     print::bytes(bytes);
     let t = size(&*pool);
-    let r = heap::allocate(
+    let r = allocator::allocate(
         Address::of_number(BASE),
         t,
         &mut *pool,
@@ -46,7 +46,7 @@ fn free(example: u64, pool: &[u8], table: &mut [u8], k: u64) {
     print::begin(example, &*table);
     print::text(b" free block ");
     print::number(k);
-    let r = heap::free(
+    let r = allocator::free(
         Address::of_number(BASE),
         size(pool),
         pool,
@@ -65,7 +65,7 @@ fn reallocate(example: u64, pool: &mut [u8], table: &mut [u8], k: u64, bytes: u6
     print::text(b" to ");
     print::bytes(bytes);
     let t = size(&*pool);
-    let r = heap::reallocate(
+    let r = allocator::reallocate(
         Address::of_number(BASE),
         t,
         &mut *pool,

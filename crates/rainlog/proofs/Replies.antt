@@ -23,10 +23,11 @@ use Rattle.laws.proofs.Refusals.{true-not-false}
 use Rattle.laws.proofs.Planes.{planes-faithful}
 use Rattle.programs.specs.Programs.{Program, give, ask, Ran, ran, run}
 use Rattle.logs.specs.Log.{Reply, logged, readout, declined, isAccepted, declineIf, checked, onLog, lastOf, atIndex, join, enter, appendTo, append, readFrom, read, dropFrom, drop}
-use Rattle.heap.specs.Answers.{status, placed, freed, loaded}
-use Rattle.heap.specs.declared.Placed.{Placed}
-use Rattle.heap.specs.declared.Freed.{Freed}
+use Rattle.heap.specs.Answers.{status, loaded}
 use Rattle.heap.specs.declared.Loaded.{Loaded}
+use Rattle.objects.specs.declared.Placed.{Placed}
+use Rattle.allocator.specs.Answers.{placed, freed}
+use Rattle.allocator.specs.declared.Freed.{Freed}
 use Rattle.collector.specs.Answers.{resultOf}
 use Rattle.collector.specs.declared.Collected.{Collected}
 use Rattle.chain.specs.declared.Walk.{Walk}

@@ -83,7 +83,7 @@ fn add_again(
         ≡ run (planes t) (againTo (base .0) first time tips (now (roots .entry)) ks) (now (stack .entry)) (memory (now (pool .entry)) (now (table .entry)))) ⌝ }
 {
     let c = collector::collect_with(base, t, &*pool, &mut *table, first, roots, stack);
-    let a = heap::allocate(base, t, &mut *pool, &mut *table, Bytes::of_blocks(2));
+    let a = allocator::allocate(base, t, &mut *pool, &mut *table, Bytes::of_blocks(2));
     if a.refusal != 0 {
         return Logged {
             refusal: 9,
@@ -123,7 +123,7 @@ fn add(
     ensures { λ r. ⌜ ((ks : List ℕ) → lastOf ks ≡ lastBy w → logs r (now (pool .exit)) (now (table .exit)) (now (stack .exit))
         ≡ run (planes t) (appendTo (base .0) first time tips (now (roots .entry)) ks) (now (stack .entry)) (memory (now (pool .entry)) (now (table .entry)))) ⌝ }
 {
-    let a = heap::allocate(base, t, &mut *pool, &mut *table, Bytes::of_blocks(2));
+    let a = allocator::allocate(base, t, &mut *pool, &mut *table, Bytes::of_blocks(2));
     if a.refusal != 0 {
         return add_again(base, t, pool, table, first, time, tips, roots, stack, w);
     }
@@ -270,7 +270,7 @@ pub fn drop(base: Address, t: usize, pool: &[u8], table: &mut [u8], first: Addre
         return unlogged(19);
     }
     let next = heap::load_checked(base, t, pool, &*table, w.wanted, 0).value;
-    let freed = heap::free(base, t, pool, table, w.wanted);
+    let freed = allocator::free(base, t, pool, table, w.wanted);
     Logged {
         refusal: 0,
         first: next,

@@ -7,7 +7,7 @@ use mir.ValLaws.{toZ-ofZ}
 use Rattle.rules.specs.Planes.{planes}
 use Rattle.rules.specs.Runs.{Allocate}
 use Rattle.rules.specs.Memory.{memory, perform}
-use Rattle.heap.specs.Answers.{placed}
+use Rattle.allocator.specs.Answers.{placed}
 use Rattle.rainlog.proofs.Bounds.{entry-address}
 use Rattle.rainlog.proofs.Replies.{adds, adds-again}
 use Rattle.rainlog.proofs.add.Statement.{statement}

@@ -1,7 +1,7 @@
--- `heap::unplaced` meets its contract. Assumes nothing.
+-- `objects::unplaced` meets its contract. Assumes nothing.
 use borrow.Author.Needs.{needs}
-use Rattle.heap.proofs.unplaced.Statement.{statement}
-use Rattle.heap.proofs.unplaced.Tie as tie
+use Rattle.objects.proofs.unplaced.Statement.{statement}
+use Rattle.objects.proofs.unplaced.Tie as tie
 
 first-requires : tie.Need-first-requires
 first-requires c κs = search needs

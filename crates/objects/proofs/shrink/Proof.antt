@@ -1,4 +1,4 @@
--- `heap::shrink` meets its contract: the released blocks are the object's last, and the change is the difference of the counts.
+-- `objects::shrink` meets its contract: the released blocks are the object's last, and the change is the difference of the counts.
 -- Assumes nothing.
 use mathlib.Core.Path.{_≡_, sym}
 use mathlib.Core.List.{List}
@@ -13,10 +13,10 @@ use Rattle.rules.specs.Outcomes.{placedAt, leaves}
 use Rattle.rules.specs.Planes.{entriesIn, IsTable, Holds, heapAt}
 use Rattle.rules.specs.Calls.{placing, shrunk}
 use Rattle.laws.proofs.Calls.{shrink-change}
-use Rattle.heap.specs.Held.{Held}
-use Rattle.heap.proofs.Held.{held-few, held-room, change-is}
-use Rattle.heap.proofs.shrink.Statement.{statement}
-use Rattle.heap.proofs.shrink.Tie as tie
+use Rattle.objects.specs.Held.{Held}
+use Rattle.objects.proofs.Held.{held-few, held-room, change-is}
+use Rattle.objects.proofs.shrink.Statement.{statement}
+use Rattle.objects.proofs.shrink.Tie as tie
 
 shrinks : (t : ℕ) (pool table after : List ℕ) (k old new end : ℕ) (d : ℤ) → Held t pool table k old → (0 < new) × (new ≤ old) → end ≡ k + new
     → Holds t (released (entriesIn t table) end (old - new)) after → d ≡ subℕ new old

@@ -1,11 +1,11 @@
--- `heap::clear_blocks` meets its contract: the part from the first block's offset to the end's is 16 bytes for each block. Assumes nothing.
+-- `objects::clear_blocks` meets its contract: the part from the first block's offset to the end's is 16 bytes for each block. Assumes nothing.
 use mathlib.Core.Path.{_≡_}
 use Prim.Native.Nat.{_-_, _*_}
 use native.Mathlib.Omega.{arith}
 use borrow.Author.Needs.{needs}
 use Rattle.rules.specs.Outcomes.{clearedBlocks}
-use Rattle.heap.proofs.clear_blocks.Statement.{statement}
-use Rattle.heap.proofs.clear_blocks.Tie as tie
+use Rattle.objects.proofs.clear_blocks.Statement.{statement}
+use Rattle.objects.proofs.clear_blocks.Tie as tie
 
 offset-requires : tie.Need-offset-requires
 offset-requires c κs = search needs

@@ -1,4 +1,4 @@
--- `heap::take` meets its contract. Assumes nothing.
+-- `objects::take` meets its contract. Assumes nothing.
 use mathlib.Core.Path.{_≡_}
 use mathlib.Core.List.{List}
 use Prim.Native.Nat.{ℕ}
@@ -9,8 +9,8 @@ use Rattle.rules.specs.Outcomes.{clearedBlocks}
 use Rattle.rules.specs.Planes.{entriesIn, IsTable, Holds, heapAt}
 use Rattle.rules.specs.Calls.{taken}
 use Rattle.laws.proofs.Planes.{few-entries}
-use Rattle.heap.proofs.take.Statement.{statement}
-use Rattle.heap.proofs.take.Tie as tie
+use Rattle.objects.proofs.take.Statement.{statement}
+use Rattle.objects.proofs.take.Tie as tie
 
 both : (t : ℕ) (pool table pool′ table′ : List ℕ) (k b : ℕ) → pool′ ≡ clearedBlocks pool k b → Holds t (placed (entriesIn t table) k b) table′
     → IsTable t table′ × (heapAt t pool′ table′ ≡ taken (heapAt t pool table) k b)

@@ -1,4 +1,4 @@
--- `heap::relocate` meets its contract: where a start was found its blocks are a run, which the old object does not meet; so what is
+-- `objects::relocate` meets its contract: where a start was found its blocks are a run, which the old object does not meet; so what is
 -- copied is the old bytes, and copying and clearing are one run of stores. Where none was found the refusal is 9.
 -- Assumes nothing.
 use mathlib.Core.Path.{_≡_, sym, ap, _∙_}
@@ -23,11 +23,11 @@ use Rattle.laws.proofs.Changes.{placed-length}
 use Rattle.laws.proofs.Pools.{moved-steps}
 use Rattle.laws.proofs.Calls.{move-change, run-beside}
 use Rattle.numbers.specs.Places.{found}
-use Rattle.heap.specs.Held.{Held}
-use Rattle.heap.specs.Answers.{placedIn, unplacedBy}
-use Rattle.heap.proofs.Held.{held-few, held-room, change-is}
-use Rattle.heap.proofs.relocate.Statement.{statement}
-use Rattle.heap.proofs.relocate.Tie as tie
+use Rattle.objects.specs.Held.{Held}
+use Rattle.objects.specs.Answers.{placedIn, unplacedBy}
+use Rattle.objects.proofs.Held.{held-few, held-room, change-is}
+use Rattle.objects.proofs.relocate.Statement.{statement}
+use Rattle.objects.proofs.relocate.Tie as tie
 
 -- the start s was found
 module _ {t : ℕ} {pool table : List ℕ} {k old new s : ℕ} (held : Held t pool table k old) (more : (old < new) × (new ≤ 4096)) (start : firstFit (entriesIn t table) new ≡ some s) where

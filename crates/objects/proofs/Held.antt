@@ -14,7 +14,7 @@ use Rattle.laws.specs.Meaning.{Extent}
 use Rattle.laws.proofs.Planes.{few-entries}
 use Rattle.laws.proofs.Tables.{extent-of}
 use Rattle.numbers.proofs.Signed.{sub-fits}
-use Rattle.heap.specs.Held.{Held}
+use Rattle.objects.specs.Held.{Held}
 
 module _ {t : ℕ} {pool table : List ℕ} {k b : ℕ} (held : Held t pool table k b) where
   extent : Extent (entriesIn t table) k b

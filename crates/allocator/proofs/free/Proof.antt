@@ -1,10 +1,10 @@
--- `heap::free` meets its contract. Assumes nothing.
+-- `allocator::free` meets its contract. Assumes nothing.
 use mathlib.Core.Path.{_∙_}
 use borrow.Author.Needs.{needs}
-use Rattle.heap.proofs.Held.{signed}
-use Rattle.heap.proofs.Ends.{free-refused, free-checked, free-named, free-done}
-use Rattle.heap.proofs.free.Statement.{statement}
-use Rattle.heap.proofs.free.Tie as tie
+use Rattle.objects.proofs.Held.{signed}
+use Rattle.allocator.proofs.Ends.{free-refused, free-checked, free-named, free-done}
+use Rattle.allocator.proofs.free.Statement.{statement}
+use Rattle.allocator.proofs.free.Tie as tie
 
 object-requires : tie.Need-object-requires
 object-requires c κs = search needs

@@ -1,4 +1,4 @@
--- `heap::allocate` meets its contract. Assumes nothing.
+-- `allocator::allocate` meets its contract. Assumes nothing.
 use mathlib.Core.Path.{_≡_, sym, ap, _∙_}
 use mathlib.Core.List.{[], _∷_}
 use mathlib.Core.Option.{some}
@@ -14,10 +14,11 @@ use Rattle.rules.specs.Planes.{entriesIn}
 use Rattle.rules.specs.Refusals.{noBytes}
 use Rattle.laws.proofs.Calls.{blocks-some, blocks-least, request-nowhere}
 use Rattle.numbers.specs.Places.{found}
-use Rattle.heap.proofs.Held.{signed}
-use Rattle.heap.proofs.Ends.{Checked, gained, allocate-refused, allocate-checked, allocate-asks, allocate-full, allocate-done}
-use Rattle.heap.proofs.allocate.Statement.{statement}
-use Rattle.heap.proofs.allocate.Tie as tie
+use Rattle.objects.proofs.Held.{signed}
+use Rattle.heap.proofs.Ends.{Checked}
+use Rattle.allocator.proofs.Ends.{gained, allocate-refused, allocate-checked, allocate-asks, allocate-full, allocate-done}
+use Rattle.allocator.proofs.allocate.Statement.{statement}
+use Rattle.allocator.proofs.allocate.Tie as tie
 
 -- what is known once the request is not refused
 knows-at : (c : tie.Else1) → let a = c .before .before .before .before .before .before .args in Checked (a .t) (a .base .0) (a .pool .now) (a .table .now) (noBytes (a .bytes .0) ∷ [])

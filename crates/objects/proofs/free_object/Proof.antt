@@ -1,4 +1,4 @@
--- `heap::free_object` meets its contract: the released blocks are all of the object's. Assumes nothing.
+-- `objects::free_object` meets its contract: the released blocks are all of the object's. Assumes nothing.
 use mathlib.Core.Path.{_≡_, ap, _∙_}
 use mathlib.Core.List.{List}
 use Prim.Native.Nat.{ℕ}
@@ -8,9 +8,9 @@ use borrow.Author.Needs.{needs}
 use Rattle.rules.specs.Tables.{blockCount, released}
 use Rattle.rules.specs.Planes.{entriesIn, Holds}
 use Rattle.laws.proofs.Planes.{few-entries}
-use Rattle.heap.proofs.Held.{signed}
-use Rattle.heap.proofs.free_object.Statement.{statement}
-use Rattle.heap.proofs.free_object.Tie as tie
+use Rattle.objects.proofs.Held.{signed}
+use Rattle.objects.proofs.free_object.Statement.{statement}
+use Rattle.objects.proofs.free_object.Tie as tie
 
 -- so many blocks as were counted are all of the object's
 all : (t : ℕ) (table after : List ℕ) (k b : ℕ) → b ≡ blockCount (entriesIn t table) k → Holds t (released (entriesIn t table) k b) after

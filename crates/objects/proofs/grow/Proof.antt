@@ -1,4 +1,4 @@
--- `heap::grow` meets its contract: the blocks after the object are a run, which is extended and cleared.
+-- `objects::grow` meets its contract: the blocks after the object are a run, which is extended and cleared.
 -- Assumes nothing.
 use mathlib.Core.Path.{_≡_}
 use mathlib.Core.List.{List}
@@ -14,10 +14,10 @@ use Rattle.rules.specs.Outcomes.{placedAt, leaves, clearedBlocks}
 use Rattle.rules.specs.Planes.{entriesIn, IsTable, Holds, heapAt}
 use Rattle.rules.specs.Calls.{placing, grown}
 use Rattle.laws.proofs.Calls.{grow-change}
-use Rattle.heap.specs.Held.{Held}
-use Rattle.heap.proofs.Held.{held-few, held-room, change-is}
-use Rattle.heap.proofs.grow.Statement.{statement}
-use Rattle.heap.proofs.grow.Tie as tie
+use Rattle.objects.specs.Held.{Held}
+use Rattle.objects.proofs.Held.{held-few, held-room, change-is}
+use Rattle.objects.proofs.grow.Statement.{statement}
+use Rattle.objects.proofs.grow.Tie as tie
 
 grows : (t : ℕ) (pool table pool' table' : List ℕ) (k old new end : ℕ) (d : ℤ) → Held t pool table k old → (old < new) × GrowsInPlace (entriesIn t table) k old new
     → end ≡ k + old → pool' ≡ clearedBlocks pool end (new - old) → Holds t (extended (entriesIn t table) end (new - old)) table' → d ≡ subℕ new old

@@ -1,4 +1,4 @@
--- `heap::reallocate` meets its contract: where the check refuses, nothing was written; else the object is held, and the act that the
+-- `allocator::reallocate` meets its contract: where the check refuses, nothing was written; else the object is held, and the act that the
 -- counts of blocks choose leaves what the definition's way leaves.
 -- Assumes nothing.
 use mathlib.Core.Path.{_≡_, refl, sym, _∙_}
@@ -20,13 +20,15 @@ use Rattle.rules.specs.Memory.{memory, perform}
 use Rattle.laws.proofs.Tables.{grows-of, grows-says}
 use Rattle.laws.proofs.Refusals.{true-not-false, named-resize}
 use Rattle.laws.proofs.Calls.{blocks-some, blocks-least, request-no-way, reallocate-stuck, reallocate-shrinks, reallocate-grows, reallocate-moves}
-use Rattle.heap.specs.Held.{Held}
-use Rattle.heap.specs.Answers.{placed, placedIn}
-use Rattle.heap.specs.declared.Placed.{Placed}
-use Rattle.heap.proofs.Held.{held-few, held-room}
-use Rattle.heap.proofs.Ends.{Checked, reallocate-refused, reallocate-checked, reallocate-done}
-use Rattle.heap.proofs.reallocate.Statement.{statement}
-use Rattle.heap.proofs.reallocate.Tie as tie
+use Rattle.objects.specs.Held.{Held}
+use Rattle.objects.specs.Answers.{placedIn}
+use Rattle.allocator.specs.Answers.{placed}
+use Rattle.objects.specs.declared.Placed.{Placed}
+use Rattle.objects.proofs.Held.{held-few, held-room}
+use Rattle.heap.proofs.Ends.{Checked}
+use Rattle.allocator.proofs.Ends.{reallocate-refused, reallocate-checked, reallocate-done}
+use Rattle.allocator.proofs.reallocate.Statement.{statement}
+use Rattle.allocator.proofs.reallocate.Tie as tie
 
 -- none of the tests holds
 module _ (t base : ℕ) (pool table : List ℕ) (k bytes : ℕ) (e : Checked t base pool table (noBytes bytes ∷ nameTests (heapAt t pool table) k)) where
