@@ -31,7 +31,7 @@ use Rattle.laws.proofs.Memory.{sound-of, left-in, acted-in}
 use Rattle.checks.specs.Refusal.{refusalBy}
 use Rattle.sweeper.specs.declared.Swept.{Swept}
 use Rattle.collector.specs.declared.Collected.{Collected}
-use Rattle.marker.specs.Variables.{idle, contextOf, Shape}
+use Rattle.visitor.specs.Variables.{idle, contextOf, Shape}
 use Rattle.sweeper.specs.Sweeps.{TableSwept}
 use Rattle.collector.specs.Answers.{answerOf, outcomeOf, resultOf}
 

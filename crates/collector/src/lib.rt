@@ -9,7 +9,7 @@ ghost use Rattle.rules.specs.Marking.{markAll};
 ghost use Rattle.rules.specs.Calls.{collecting};
 ghost use Rattle.rules.specs.Runs.{Collect};
 ghost use Rattle.rules.specs.Memory.{memory, perform};
-ghost use Rattle.marker.specs.Variables.{contextOf, Shape};
+ghost use Rattle.visitor.specs.Variables.{contextOf, Shape};
 ghost use Rattle.collector.specs.Answers.{outcomeOf, resultOf};
 use numbers::Address;
 

@@ -1,3 +1,1 @@
-pub mod Pointing
-pub mod Stacking
 pub mod Turning

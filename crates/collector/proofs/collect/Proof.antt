@@ -4,7 +4,7 @@ use mathlib.Core.Path.{refl}
 use borrow.Author.Needs.{needs}
 use Rattle.rules.specs.Words.{wordsOf}
 use Rattle.rules.specs.Planes.{entriesIn}
-use Rattle.marker.specs.Variables.{contextOf}
+use Rattle.visitor.specs.Variables.{contextOf}
 use Rattle.collector.proofs.Collecting.{root-nowhere, collect-refused, collect-accepted, collect-shape, collect-few, base-above}
 use Rattle.collector.proofs.collect.Statement.{statement}
 use Rattle.collector.proofs.collect.Tie as tie

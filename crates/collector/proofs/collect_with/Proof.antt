@@ -11,7 +11,7 @@ use Rattle.rules.specs.Planes.{entriesIn}
 use Rattle.rules.specs.Refusals.{collectionTests}
 use Rattle.rules.specs.Marking.{markAll}
 use Rattle.checks.specs.Refusal.{refusalBy}
-use Rattle.marker.specs.Variables.{contextOf}
+use Rattle.visitor.specs.Variables.{contextOf}
 use Rattle.laws.proofs.Words.{words-first}
 use Rattle.laws.proofs.Widths.{in-32-bits}
 use Rattle.collector.proofs.Collecting.{bytes-first, collect-refused, collect-accepted, collect-shape}

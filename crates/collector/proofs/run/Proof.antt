@@ -12,7 +12,7 @@ use Rattle.rules.specs.Words.{wordsOf}
 use Rattle.rules.specs.Planes.{entriesIn}
 use Rattle.laws.proofs.Planes.{few-entries}
 use Rattle.laws.proofs.Tables.{used-le, objects-le}
-use Rattle.marker.specs.Variables.{contextOf}
+use Rattle.visitor.specs.Variables.{contextOf}
 use Rattle.collector.proofs.Collecting.{ran}
 use Rattle.collector.proofs.run.Statement.{statement}
 use Rattle.collector.proofs.run.Tie as tie

@@ -12,8 +12,9 @@ use Rattle.rules.specs.Marking.{rescan}
 use Rattle.laws.proofs.Planes.{few-entries}
 use Rattle.laws.proofs.Marking.{toRescan, rescan-most}
 use Rattle.laws.proofs.Widths.{as-u32}
-use Rattle.marker.specs.Variables.{contextOf, idle}
-use Rattle.marker.proofs.Turning.{shape-same, Rescanned, rescanned, mark-end}
+use Rattle.visitor.specs.Variables.{contextOf, idle}
+use Rattle.tracer.proofs.Turning.{shape-same}
+use Rattle.marker.proofs.Turning.{Rescanned, rescanned, mark-end}
 use Rattle.marker.proofs.mark.Statement.{statement}
 use Rattle.marker.proofs.mark.Tie as tie
 

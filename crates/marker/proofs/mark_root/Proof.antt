@@ -17,9 +17,9 @@ use Rattle.rules.specs.Marking.{state, trace}
 use Rattle.laws.proofs.Planes.{same-length as as-many}
 use Rattle.laws.proofs.Tables.{start-says}
 use Rattle.laws.proofs.Marking.{head-inside}
-use Rattle.marker.specs.Variables.{contextOf, idle}
-use Rattle.marker.proofs.Pointing.{target-inside, root-takes, root-stays, root-target, root-none}
-use Rattle.marker.proofs.Turning.{shape-same}
+use Rattle.visitor.specs.Variables.{contextOf, idle}
+use Rattle.visitor.proofs.Pointing.{target-inside, root-takes, root-stays, root-target, root-none}
+use Rattle.tracer.proofs.Turning.{shape-same}
 use Rattle.marker.proofs.mark_root.Statement.{statement}
 use Rattle.marker.proofs.mark_root.Tie as tie
 

@@ -13,8 +13,9 @@ use Rattle.rules.specs.Marking.{markRoots}
 use Rattle.laws.proofs.Words.{length-wordsOf}
 use Rattle.laws.proofs.Marking.{roots-end}
 use Rattle.laws.proofs.Widths.{in-32-bits}
-use Rattle.marker.specs.Variables.{contextOf, idle}
-use Rattle.marker.proofs.Turning.{shape-same, roots-next}
+use Rattle.visitor.specs.Variables.{contextOf, idle}
+use Rattle.tracer.proofs.Turning.{shape-same}
+use Rattle.marker.proofs.Turning.{roots-next}
 use Rattle.marker.proofs.mark_roots.Statement.{statement}
 use Rattle.marker.proofs.mark_roots.Tie as tie
 

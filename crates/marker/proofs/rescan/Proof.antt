@@ -10,8 +10,9 @@ use lib.ListN.{length}
 use Rattle.rules.specs.Planes.{IsTable}
 use Rattle.rules.specs.Marking.{passFrom}
 use Rattle.laws.proofs.Planes.{few-entries}
-use Rattle.marker.specs.Variables.{contextOf, idle}
-use Rattle.marker.proofs.Turning.{shape-same, pass-next, pass-last}
+use Rattle.visitor.specs.Variables.{contextOf, idle}
+use Rattle.tracer.proofs.Turning.{shape-same}
+use Rattle.marker.proofs.Turning.{pass-next, pass-last}
 use Rattle.marker.proofs.rescan.Statement.{statement}
 use Rattle.marker.proofs.rescan.Tie as tie
 

@@ -3,7 +3,7 @@
 use mathlib.Core.Path.{sym, _∙_}
 use borrow.Author.Needs.{needs}
 use Rattle.laws.proofs.Marking.{pass-skips}
-use Rattle.marker.specs.Variables.{contextOf, idle}
+use Rattle.visitor.specs.Variables.{contextOf, idle}
 use Rattle.marker.proofs.Turning.{block-end}
 use Rattle.marker.proofs.rescan_block.Statement.{statement}
 use Rattle.marker.proofs.rescan_block.Tie as tie

@@ -9,11 +9,11 @@ use Rattle.rules.specs.Tables.{entryAt}
 use Rattle.rules.specs.Planes.{entriesIn}
 use Rattle.rules.specs.Marking.{State, marked, pushed}
 use Rattle.laws.proofs.Tables.{start-says}
-use Rattle.marker.specs.Variables.{contextOf, stateOf}
-use Rattle.marker.proofs.Pointing.{visit-takes, visit-stays}
-use Rattle.marker.proofs.Stacking.{knows-either, state-remembers, came-to}
-use Rattle.marker.proofs.visit_tail.Statement.{statement}
-use Rattle.marker.proofs.visit_tail.Tie as tie
+use Rattle.visitor.specs.Variables.{contextOf, stateOf}
+use Rattle.visitor.proofs.Pointing.{visit-takes, visit-stays}
+use Rattle.visitor.proofs.Stacking.{knows-either, state-remembers, came-to}
+use Rattle.visitor.proofs.visit_tail.Statement.{statement}
+use Rattle.visitor.proofs.visit_tail.Tie as tie
 
 start-of-requires : tie.Need-start-of-requires
 start-of-requires c κs = search needs

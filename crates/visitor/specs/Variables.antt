@@ -10,7 +10,7 @@ use Rattle.rules.specs.Words.{wordAt}
 use Rattle.rules.specs.Tables.{startOf}
 use Rattle.rules.specs.Marking.{Context, State, state}
 use Rattle.rules.specs.Planes.{entriesIn, IsTable}
-use Rattle.marker.specs.declared.Marking.{Marking}
+use Rattle.visitor.specs.declared.Marking.{Marking}
 
 -- the first d words of the lent stack, the last first
 abbrev pub stacked : List ℕ → ℕ → List ℕ

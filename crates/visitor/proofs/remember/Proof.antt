@@ -3,8 +3,8 @@
 use mathlib.Core.Path.{refl}
 use mathlib.Core.Logic.{inl, inr}
 use borrow.Author.Needs.{needs}
-use Rattle.marker.proofs.remember.Statement.{statement}
-use Rattle.marker.proofs.remember.Tie as tie
+use Rattle.visitor.proofs.remember.Statement.{statement}
+use Rattle.visitor.proofs.remember.Tie as tie
 
 index-requires : tie.Need-index-requires
 index-requires c κs = search needs

@@ -13,11 +13,11 @@ use Rattle.rules.specs.Tables.{entryAt}
 use Rattle.rules.specs.Planes.{entriesIn}
 use Rattle.rules.specs.Pointers.{targetOf}
 use Rattle.laws.proofs.Tables.{start-own}
-use Rattle.marker.specs.Variables.{contextOf, stateOf}
-use Rattle.marker.proofs.Pointing.{target-inside, visit-takes, visit-stays, visit-target, visit-none}
-use Rattle.marker.proofs.Stacking.{came-to}
-use Rattle.marker.proofs.visit.Statement.{statement}
-use Rattle.marker.proofs.visit.Tie as tie
+use Rattle.visitor.specs.Variables.{contextOf, stateOf}
+use Rattle.visitor.proofs.Pointing.{target-inside, visit-takes, visit-stays, visit-target, visit-none}
+use Rattle.visitor.proofs.Stacking.{came-to}
+use Rattle.visitor.proofs.visit.Statement.{statement}
+use Rattle.visitor.proofs.visit.Tie as tie
 
 blocks-requires : tie.Need-blocks-requires
 blocks-requires c κs = search needs

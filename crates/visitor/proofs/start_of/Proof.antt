@@ -5,8 +5,8 @@ use borrow.Author.Needs.{needs}
 use borrow.Author.Tests.{leb-true}
 use Rattle.rules.specs.Planes.{entriesIn}
 use Rattle.laws.proofs.Tables.{start-between}
-use Rattle.marker.proofs.start_of.Statement.{statement}
-use Rattle.marker.proofs.start_of.Tie as tie
+use Rattle.visitor.proofs.start_of.Statement.{statement}
+use Rattle.visitor.proofs.start_of.Tie as tie
 
 is-at-or-after-requires : tie.Need-is-at-or-after-requires
 is-at-or-after-requires c κs = search needs

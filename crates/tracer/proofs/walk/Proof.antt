@@ -9,10 +9,10 @@ use Rattle.rules.specs.Planes.{entriesIn, IsTable}
 use Rattle.rules.specs.Marking.{walkWords}
 use Rattle.laws.proofs.Planes.{few-entries}
 use Rattle.laws.proofs.Widths.{in-32-bits}
-use Rattle.marker.specs.Variables.{contextOf, stateOf, Knows}
-use Rattle.marker.proofs.Turning.{walk-turn, walk-end}
-use Rattle.marker.proofs.walk.Statement.{statement}
-use Rattle.marker.proofs.walk.Tie as tie
+use Rattle.visitor.specs.Variables.{contextOf, stateOf, Knows}
+use Rattle.tracer.proofs.Turning.{walk-turn, walk-end}
+use Rattle.tracer.proofs.walk.Statement.{statement}
+use Rattle.tracer.proofs.walk.Tie as tie
 
 abbrev Inv-loop : tie.InvT-loop
 Inv-loop base t pool table₀ stack₀ first i₀ walked₀ table stack i walked =

@@ -8,10 +8,10 @@ use lib.ListN.{length}
 use Rattle.rules.specs.Planes.{entriesIn}
 use Rattle.rules.specs.Marking.{trace}
 use Rattle.laws.proofs.Marking.{toDrain}
-use Rattle.marker.specs.Variables.{contextOf, stateOf, CanTrace}
-use Rattle.marker.proofs.Turning.{can-start, Popped, popped, trace-end}
-use Rattle.marker.proofs.trace.Statement.{statement}
-use Rattle.marker.proofs.trace.Tie as tie
+use Rattle.visitor.specs.Variables.{contextOf, stateOf, CanTrace}
+use Rattle.tracer.proofs.Turning.{can-start, Popped, popped, trace-end}
+use Rattle.tracer.proofs.trace.Statement.{statement}
+use Rattle.tracer.proofs.trace.Tie as tie
 
 abbrev Inv-loop : tie.InvT-loop
 Inv-loop base t pool table₀ stack₀ overflow left₀ next₀ table stack left next =

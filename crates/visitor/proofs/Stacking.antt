@@ -16,8 +16,8 @@ use Rattle.rules.specs.Planes.{entriesIn, Holds}
 use Rattle.rules.specs.Marking.{State, marked, pushed}
 use Rattle.laws.proofs.Words.{length-withWord, wordAt-withWord, wordAt-other}
 use Rattle.laws.proofs.Marks.{start-marked}
-use Rattle.marker.specs.declared.Marking.{Marking}
-use Rattle.marker.specs.Variables.{stacked, contextOf, stateOf, Knows, Remembers, Came}
+use Rattle.visitor.specs.declared.Marking.{Marking}
+use Rattle.visitor.specs.Variables.{stacked, contextOf, stateOf, Knows, Remembers, Came}
 
 pub stacked-length : (stack : List ℕ) (d : ℕ) → length (stacked stack d) ≡ d
 stacked-length stack zero = refl

@@ -8,9 +8,9 @@ use Rattle.rules.specs.Planes.{entriesIn}
 use Rattle.laws.proofs.Planes.{few-entries}
 use Rattle.laws.proofs.Marking.{head-inside}
 use Rattle.laws.proofs.Widths.{in-slice}
-use Rattle.marker.proofs.Stacking.{came-pushes, came-loses}
-use Rattle.marker.proofs.push.Statement.{statement}
-use Rattle.marker.proofs.push.Tie as tie
+use Rattle.visitor.proofs.Stacking.{came-pushes, came-loses}
+use Rattle.visitor.proofs.push.Statement.{statement}
+use Rattle.visitor.proofs.push.Tie as tie
 
 -- the HEAD is a block of the table
 inside : (c : tie.Start) → c .args .k .0 < length (entriesIn (c .args .t) (c .args .table .now))
