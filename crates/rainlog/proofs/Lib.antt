@@ -1,3 +1,3 @@
-pub mod Asking
 pub mod Bounds
+pub mod Looking
 pub mod Replies

@@ -1,41 +1,25 @@
--- Programs, call by call: a call whose result is known is left behind; a survey and loads leave the memory, so that a program that only looks comes to what they answer.
+-- Programs that only look: a survey and loads leave the memory, so that such a program comes to what they answer.
 -- Assumes nothing.
 use mathlib.Core.Path.{_≡_, refl, sym, ap, _∙_}
-use mathlib.Core.Bool.{true, false}
+use mathlib.Core.Bool.{true}
 use mathlib.Core.List.{List, []}
 use mathlib.Core.Option.{Option, some, none}
 use Prim.Native.Nat.{ℕ}
 use borrow.Author.Tests.{eq-eqb, ne-eqb}
 use Rattle.rules.specs.Tests.{pick}
 use Rattle.rules.specs.Outcomes.{Answer}
-use Rattle.rules.specs.Calls.{survey, load}
-use Rattle.rules.specs.Runs.{Call, Collect, Survey, Load}
+use Rattle.rules.specs.Runs.{Survey, Load}
 use Rattle.rules.specs.Forms.{Form}
 use Rattle.laws.specs.Faithful.{Faithful}
 use Rattle.laws.specs.Meaning.{AllBytes}
-use Rattle.rules.specs.Memory.{Memory, Result, AcceptedIn, perform}
+use Rattle.rules.specs.Memory.{Memory, AcceptedIn, perform}
 use Rattle.keeping.specs.Keeping.{butRescans}
-use Rattle.runs.specs.Unseen.{collects}
 use Rattle.programs.specs.Programs.{Program, ask, ran, run}
 use Rattle.promises.proofs.Bytes.{on-bytes}
 use Rattle.logs.specs.Log.{Reply, declined, decline, isAccepted, follow, onLog, checked}
-use Rattle.programs.proofs.Stacks.{stack-unseen}
 use Rattle.logs.proofs.Following.{follow-by}
 use Rattle.logs.specs.Heads.{Loads, headsFrom}
-
--- a call with the result x is left behind
-pub asked : {A : Type 0} (f : Form) (c : Call) (go : Answer → Program A) (stack : List ℕ) (m : Memory) (x : Result) → collects c ≡ false → x ≡ perform f c [] m
-    → run f (ask c go) stack m ≡ run f (go (butRescans (x .answer))) stack (x .memory)
-unfolding run
-asked f c go stack m x plain e = rw (stack-unseen f c stack m plain, plain, ← e)
-
--- a collection leaves its mark stack too
-pub asked-collect : {A : Type 0} (f : Form) (base : ℕ) (roots : List ℕ) (go : Answer → Program A) (stack : List ℕ) (m : Memory) (x : Result) → x ≡ perform f (Collect base roots) stack m
-    → run f (ask (Collect base roots) go) stack m ≡ run f (go (butRescans (x .answer))) (x .stack) (x .memory)
-unfolding run
-asked-collect f base roots go stack m x e = rw (← e)
-
--- ---- programs that only look
+use Rattle.appender.proofs.Asking.{asked}
 
 module _ (f : Form) (faithful : Faithful f) (m : Memory) (bytes : AllBytes (m .table)) (base : ℕ) where
   abbrev loads : Loads

@@ -8,10 +8,10 @@ use Rattle.rules.specs.Planes.{planes}
 use Rattle.rules.specs.Runs.{Allocate}
 use Rattle.rules.specs.Memory.{memory, perform}
 use Rattle.allocator.specs.Answers.{placed}
-use Rattle.rainlog.proofs.Bounds.{entry-address}
-use Rattle.rainlog.proofs.Replies.{adds, adds-again}
-use Rattle.rainlog.proofs.add.Statement.{statement}
-use Rattle.rainlog.proofs.add.Tie as tie
+use Rattle.appender.proofs.Bounds.{entry-address}
+use Rattle.appender.proofs.Replies.{adds, adds-again}
+use Rattle.appender.proofs.add.Statement.{statement}
+use Rattle.appender.proofs.add.Tie as tie
 
 of-blocks-requires : tie.Need-of-blocks-requires
 of-blocks-requires c κs = search needs

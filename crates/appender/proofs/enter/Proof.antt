@@ -3,10 +3,10 @@ use mathlib.Core.Path.{_∙_}
 use borrow.Author.Needs.{needs}
 use mir.Syntax.{w32}
 use mir.ValLaws.{toZ-ofZ}
-use Rattle.rainlog.proofs.Bounds.{below-address}
-use Rattle.rainlog.proofs.Replies.{enters-first, enters-behind}
-use Rattle.rainlog.proofs.enter.Statement.{statement}
-use Rattle.rainlog.proofs.enter.Tie as tie
+use Rattle.appender.proofs.Bounds.{below-address}
+use Rattle.appender.proofs.Replies.{enters-first, enters-behind}
+use Rattle.appender.proofs.enter.Statement.{statement}
+use Rattle.appender.proofs.enter.Tie as tie
 
 of-block-requires : tie.Need-of-block-requires
 of-block-requires c κs = below-address _ _ (c .before .before .pre)

@@ -5,10 +5,10 @@ use lib.IntN.{natAbs}
 use borrow.Author.Needs.{needs}
 use Rattle.rules.specs.Memory.{memory}
 use Rattle.laws.proofs.Widths.{as-i32}
-use Rattle.rainlog.proofs.Bounds.{read-back, changes-fit, changes-sum, allocate-change, collect-change, entry-address}
-use Rattle.rainlog.proofs.Replies.{again-adds, again-full}
-use Rattle.rainlog.proofs.add_again.Statement.{statement}
-use Rattle.rainlog.proofs.add_again.Tie as tie
+use Rattle.appender.proofs.Bounds.{read-back, changes-fit, changes-sum, allocate-change, collect-change, entry-address}
+use Rattle.appender.proofs.Replies.{again-adds, again-full}
+use Rattle.appender.proofs.add_again.Statement.{statement}
+use Rattle.appender.proofs.add_again.Tie as tie
 
 collect-with-requires : tie.Need-collect-with-requires
 collect-with-requires c κs = search needs
