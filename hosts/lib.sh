@@ -4,7 +4,9 @@
 set -euo pipefail
 
 top=$(cd "$(dirname "${BASH_SOURCE[0]}")/.." && pwd)
-out=$top/target/hosts
+# BLOCKHEAP_OUT names another folder for what the tests build, so that two may run beside each other.
+out=${BLOCKHEAP_OUT:-$top/target/hosts}
+tools=$(dirname "$out")/tools
 CC=${CC:-cc}
 
 die() {
