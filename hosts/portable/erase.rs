@@ -492,8 +492,9 @@ impl<'a> Parser<'a> {
         self.tokens[(self.at + n).min(self.tokens.len() - 1)]
     }
 
+    /// The token before, which is there but at a file's first.
     fn before(&self) -> Token<'a> {
-        self.tokens[self.at - 1]
+        self.tokens[self.at.saturating_sub(1)]
     }
 
     fn take(&mut self) -> Token<'a> {
@@ -563,7 +564,7 @@ impl<'a> Parser<'a> {
         }
         self.accept("pub");
         match self.token().text {
-            "fn" => self.function().map(|_| ()),
+            "fn" => self.function(false).map(|_| ()),
             "struct" => self.structure(),
             "enum" => self.enumeration(),
             "const" => self.constant(),
@@ -591,7 +592,7 @@ impl<'a> Parser<'a> {
         for text in ["pub", "extern", "\"C\""] {
             self.expect(text)?;
         }
-        let entry = self.function()?;
+        let entry = self.function(true)?;
         self.entries.push(entry);
         Ok(())
     }
@@ -601,7 +602,7 @@ impl<'a> Parser<'a> {
         self.expect("{")?;
         while !self.accept("}") {
             self.accept("pub");
-            self.function()?;
+            self.function(false)?;
         }
         Ok(())
     }
@@ -702,8 +703,7 @@ impl<'a> Parser<'a> {
     }
 
     /// A function, or an entry point from its `fn` on.
-    fn function(&mut self) -> Result<Entry> {
-        let is_entry = self.before().text == "\"C\"";
+    fn function(&mut self, is_entry: bool) -> Result<Entry> {
         self.expect("fn")?;
         let name = self.name()?;
         let parameters = self.parameters(is_entry)?;
