@@ -65,13 +65,25 @@ pub fn noise(random: &mut Random, t: u64) -> Lent {
 /// A heap of this t with a well-formed table, at times one of logs.
 pub fn heap(random: &mut Random, t: u64) -> Lent {
     let mut lent = noise(random, t);
+    furnish(random, &mut lent);
+    lent
+}
+
+/// Gives a heap objects, at times logs.
+pub fn furnish(random: &mut Random, lent: &mut Lent) {
     if random.percent(20) {
-        logs::lay_out(random, &mut lent);
-        return lent;
+        return logs::lay_out(random, lent);
     }
-    lay_out(random, &mut lent);
+    lay_out(random, lent);
     let shape = random.pick(&SHAPES);
-    link(random, &mut lent, shape);
+    link(random, lent, shape);
+}
+
+/// A heap of this t, full of objects of one block that lead to each other as a tree.
+pub fn tree(random: &mut Random, t: u64) -> Lent {
+    let mut lent = Lent::empty(4096, t);
+    lent.set_entries(0..4 * t, HEAD);
+    link(random, &mut lent, Shape::Tree);
     lent
 }
 

@@ -24,6 +24,8 @@ pub mod places;
 pub mod planes;
 mod random;
 pub mod readings;
+mod record;
+pub mod recording;
 mod reply;
 mod situations;
 mod subject;

@@ -19,6 +19,17 @@ pub fn lay_out(random: &mut Random, lent: &mut Lent) {
     link(random, lent);
 }
 
+/// Makes an empty heap one log, as long as there is room for, and answers its first address.
+pub fn fill(random: &mut Random, lent: &mut Lent) -> u64 {
+    let mut heads: Vec<u64> = (0..lent.blocks()).step_by(2).collect();
+    heads.iter().for_each(|head| lent.set_object(*head..head + 2));
+    random.shuffle(&mut heads);
+    for (entry, next) in heads.iter().zip(&heads[1..]) {
+        lent.set_word(4 * *entry as usize, address(lent, *next));
+    }
+    address(lent, heads[0]).into()
+}
+
 /// Links the objects of two blocks to chains, in any order, and ends half of them as a log does. At times
 /// their other words are pointers.
 fn link(random: &mut Random, lent: &mut Lent) {
