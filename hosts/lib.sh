@@ -73,6 +73,11 @@ fail() { # WORDS...
     failed=$((failed + 1))
 }
 
+# Runs a command as one test.
+check() { # TITLE COMMAND...
+    if "${@:2}"; then pass "$1"; else fail "$1"; fi
+}
+
 # Runs a command whose last line is 'N passed, M failed', and adds that up.
 run_counted() { # NAME COMMAND...
     local name=$1 log status=0
@@ -100,6 +105,23 @@ expect() { # NAME NUMBER FILE
     else
         fail "$1 counts $2 where $3 expects $expected: some were lost"
     fi
+}
+
+# Runs a leg of tests, as many as a file expects of it. One that cannot run here sets left_out to the reason.
+run_leg() { # NAME FILE COMMAND...
+    local before=$((passed + failed)) left_out=''
+    printf '\n== %s\n' "$1"
+    "${@:3}" || fail "$1 ended with status $?"
+    if [ -n "$left_out" ]; then
+        note "left out: $1 ($left_out); it is optional"
+    else
+        expect "$1" $((passed + failed - before)) "$2"
+    fi
+}
+
+# The names of the legs that a file expects, in order.
+legs_of() { # FILE
+    awk '!/^#/ { print $1 }' "$top/$1"
 }
 
 # The last lines of a script that tests, and its status.
