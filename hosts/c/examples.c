@@ -38,9 +38,13 @@ static bool same(const char *what, long long got, long long expected)
 /* Where the buffers lie: from the first byte of pages, up to their last byte, or in memory from malloc. */
 static enum { AT_FRONT, AT_END, FROM_MALLOC, PLACES } place;
 
-/* Each buffer has pages of its own. So many bytes before and after them cannot be touched. */
+/* Each buffer has pages of its own. So many bytes before and after them cannot be touched: none (-DFENCE=0) on a board
+   that cannot guard its memory. */
 enum buffer { POOL, TABLE, ROOTS, STACK, IMAGE, BUFFERS };
-enum { PAGES = 17 * 4096, FENCE = 256 * 4096 };
+enum { PAGES = 17 * 4096 };
+#ifndef FENCE
+#define FENCE (256 * 4096)
+#endif
 static uint8_t *pages[BUFFERS];
 static uint8_t *from_malloc[BUFFERS];
 
