@@ -16,10 +16,10 @@ const SEED: u64 = 21;
 
 /// The random runs, each with its share of the calls in a hundred.
 const SHARES: [(Sizes, u64); 4] = [
-    (Sizes { least: 1, most: 2, calls_per_heap: 20 }, 50),
+    (Sizes { least: 1, most: 2, calls_per_heap: 20 }, 48),
     (Sizes { least: 1, most: 16, calls_per_heap: 50 }, 44),
     (Sizes { least: 17, most: 128, calls_per_heap: 50 }, 5),
-    (Sizes { least: MOST, most: MOST, calls_per_heap: 20 }, 1),
+    (Sizes { least: MOST, most: MOST, calls_per_heap: 25 }, 3),
 ];
 
 /// From here on to both sides lie numbers that are cut, or that wrap, where a number has 32 or 64 bits.
