@@ -266,7 +266,8 @@ static void print_stack(void)
 {
     puts("stack: bytes that each call took at most");
     for (int call = 0; call < CALLS; call++)
-        printf("  %-12s %6lu\n", known[call].name, (unsigned long)deepest[call]);
+        printf("  %-12s %6lu%s\n", known[call].name, (unsigned long)deepest[call],
+               deepest[call] == STACK_WORDS * sizeof(uintptr_t) ? " or more" : "");
 }
 
 /* ---- Comparing */

@@ -48,7 +48,7 @@ class Record {
   }
 
   byte() {
-    if (this.at === this.bytes.length) giveUp('the record ends early');
+    if (this.at >= this.bytes.length) giveUp('the record ends early');
     return this.bytes[this.at++];
   }
 
