@@ -248,6 +248,7 @@ impl Address {
 
     // The block of n blocks from this base on whose address is the word w.
     pub fn target(self, n: usize, w: u32) -> Found
+        requires { ⌜ n < 2 ^ 32 ⌝ }
         ensures { λ r. ⌜ found r ≡ targetOf (self .0) n w ⌝ }
     {
         self.block_at(n, Address::of_word(w))
@@ -255,6 +256,7 @@ impl Address {
 
     // The block of n blocks from this base on that has this address.
     pub fn block_at(self, n: usize, at: Address) -> Found
+        requires { ⌜ n < 2 ^ 32 ⌝ }
         ensures { λ r. ⌜ found r ≡ targetOf (self .0) n (at .0) ⌝ }
     {
         let base = self.0;
@@ -266,9 +268,9 @@ impl Address {
         if d % 16 != 0 {
             return Found::Nowhere;
         }
-        let k = d / 16;
-        if k < n as u64 {
-            Found::At(Block(k as usize))
+        let k = clamped(d / 16);
+        if k < n {
+            Found::At(Block(k))
         } else {
             Found::Nowhere
         }
