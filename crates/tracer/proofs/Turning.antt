@@ -12,7 +12,7 @@ use Rattle.rules.specs.Marking.{Context, State, state, visit, walkWords, walk, 
 use Rattle.laws.proofs.Planes.{same-length}
 use Rattle.laws.proofs.Marking.{words-turn, words-end, toDrain, pop-less, walk-measure, drain-pop, drain-nil, Sane, sane-pop, sane-walk}
 use Rattle.visitor.specs.declared.Marking.{Marking}
-use Rattle.visitor.specs.Variables.{stacked, contextOf, stateOf, idle, Shape, Came, CanTrace}
+use Rattle.visitor.specs.Variables.{stacked, contextOf, overflowOf, stateOf, idle, Shape, Came, CanTrace}
 use Rattle.visitor.proofs.Stacking.{stacked-length, stacked-pop}
 
 -- a stack of the same length makes the same context
@@ -59,21 +59,21 @@ module _ (base t : ℕ) (pool stack₀ table stack : List ℕ) (m : Marking) (ca
   sane : Sane c (length (entriesIn t table)) (stateOf t table′ stack′ m′)
   sane = rw walked (sane-walk k (stateOf t table stack m) (record { long = refl; below = can .below; fits = rw (stacked-length stack (m .depth), ← long) (can .deep) }))
 
-  pub trace-end : m′ .depth ≡ 0 → idle t table′ (m′ .overflow) ≡ trace c k (stateOf t table stack m)
+  pub trace-end : m′ .depth ≡ 0 → idle t table′ (overflowOf m′) ≡ trace c k (stateOf t table stack m)
   unfolding trace
-  trace-end e = sym (drain-nil c (entriesIn t table′) (m′ .overflow)) ∙ (rw e at (ap (drain c) walked))
+  trace-end e = sym (drain-nil c (entriesIn t table′) (overflowOf m′)) ∙ (rw e at (ap (drain c) walked))
 
   pub popped : (w : ℕ) → 0 < m′ .depth → w ≡ wordAt stack′ (m′ .depth - 1)
-      → Popped base t pool stack₀ table stack m k table′ stack′ (record { depth = m′ .depth - 1; overflow = m′ .overflow; first = m′ .first; last = m′ .last }) w
+      → Popped base t pool stack₀ table stack m k table′ stack′ (record { depth = m′ .depth - 1; lost = m′ .lost; first = m′ .first; last = m′ .last }) w
   unfolding trace
   popped w h e =
       let st : List ℕ = stacked stack′ (m′ .depth - 1) in
-      let full : stateOf t table′ stack′ m′ ≡ state (entriesIn t table′) (w ∷ st) (m′ .overflow) = rw (e, stacked-pop stack′ (m′ .depth) h) in
-      let g : Sane c (length (entriesIn t table)) (state (entriesIn t table′) (w ∷ st) (m′ .overflow)) = rw full at sane in
+      let full : stateOf t table′ stack′ m′ ≡ state (entriesIn t table′) (w ∷ st) (overflowOf m′) = rw (e, stacked-pop stack′ (m′ .depth) h) in
+      let g : Sane c (length (entriesIn t table)) (state (entriesIn t table′) (w ∷ st) (overflowOf m′)) = rw full at sane in
       let l : length (entriesIn t table′) ≡ length (entriesIn t table) = g .long in
       record {
         can = record { shape = shape-same t pool table table′ (can .shape) (came .is-table); deep = omega (arith, came .deep); knows = came .knows; below = rw l (sane-pop g .below) };
         inside = rw l (g .below w (List·Memᴰ·head refl));
-        less = omega (arith, walk-measure c k (stateOf t table stack m), ap toDrain (sym full ∙ walked), pop-less (entriesIn t table′) w st (m′ .overflow));
-        same = sym (drain-pop c (entriesIn t table′) w st (m′ .overflow)) ∙ ap (drain c) (sym full ∙ walked);
+        less = omega (arith, walk-measure c k (stateOf t table stack m), ap toDrain (sym full ∙ walked), pop-less (entriesIn t table′) w st (overflowOf m′));
+        same = sym (drain-pop c (entriesIn t table′) w st (overflowOf m′)) ∙ ap (drain c) (sym full ∙ walked);
       }

@@ -1,6 +1,7 @@
 // A trace of one object: its words are visited, and then those of the last pushed one, until the mark stack is empty.
 ghost use mathlib.Core.Path.{_≡_};
 ghost use Prim.Native.Nat.{_/_, _≤_, _<_};
+ghost use lib.Dec.{ltb};
 ghost use lib.ListN.{length};
 ghost use Rattle.rules.specs.Planes.{entriesIn, IsTable};
 ghost use Rattle.rules.specs.Marking.{walk as walkOf, trace as traceOf};
@@ -41,6 +42,13 @@ fn walk(
     walked
 }
 
+// The overflow as a number.
+fn lost_by(overflow: bool) -> usize
+    ensures { λ r. ⌜ ltb 0 r ≡ overflow ⌝ }
+{
+    if overflow { 1 } else { 0 }
+}
+
 // The object with head k is walked, and then the last pushed one, until the stack is empty. Returns the overflow.
 pub fn trace(
     base: Address,
@@ -58,7 +66,7 @@ pub fn trace(
 {
     let mut left = Marking {
         depth: 0,
-        overflow,
+        lost: lost_by(overflow),
         first: Block::first(),
         last: Block::first(),
     };
@@ -66,7 +74,7 @@ pub fn trace(
     loop {
         let walked = walk(base, t, pool, &mut *table, &mut *stack, left, next);
         if walked.depth == 0 {
-            return walked.overflow;
+            return 0 < walked.lost;
         }
         let d = walked.depth - 1;
         next = Block::of_word(memory::word(&*stack, d));
@@ -74,7 +82,7 @@ pub fn trace(
         let last = walked.last;
         left = Marking {
             depth: d,
-            overflow: walked.overflow,
+            lost: walked.lost,
             first,
             last,
         };

@@ -47,7 +47,7 @@ pub knows-either : (es : List ℕ) (m r : Marking) (start k : ℕ) → Knows es 
 knows-either es m r start k q e w = ⊎-elim (λ a. rw (a .0, a .1) q) (λ a. rw (a .0, a .1) e) (w .scan)
 
 pub state-remembers : (t : ℕ) (table stack : List ℕ) (m r : Marking) (start k : ℕ) → Remembers m start k r → stateOf t table stack r ≡ stateOf t table stack m
-state-remembers t table stack m r start k w = rw (w .depth, w .overflow)
+state-remembers t table stack m r start k w = rw (w .depth, w .lost)
 
 pub came-to : {t : ℕ} {x y : State} {table stack : List ℕ} {m : Marking} → Came t x table stack m → x ≡ y → Came t y table stack m
 came-to c e = record { is-table = c .is-table; same = c .same ∙ e; deep = c .deep; knows = c .knows }
@@ -56,7 +56,7 @@ came-to c e = record { is-table = c .is-table; same = c .same ∙ e; deep = c .d
 module _ (base t : ℕ) (pool table stack : List ℕ) (m : Marking) (k : ℕ) (deep : m .depth ≤ length stack / 4) (knows : Knows (entriesIn t table) m)
     (head : entryAt (entriesIn t table) k ≡ HEAD) {table′ : List ℕ} (holds : Holds t (set (entriesIn t table) k MARK) table′) where
   pub came-pushes : {stack′ : List ℕ} → k < 2 ^ 32 → m .depth < length stack / 4 → stack′ ≡ withWord stack (m .depth) k
-      → Came t (pushed (contextOf base pool stack) k (marked k (stateOf t table stack m))) table′ stack′ (record { depth = m .depth + 1; overflow = m .overflow; first = m .first; last = m .last })
+      → Came t (pushed (contextOf base pool stack) k (marked k (stateOf t table stack m))) table′ stack′ (record { depth = m .depth + 1; lost = m .lost; first = m .first; last = m .last })
   unfolding pushed
   came-pushes b r f =
       record {
@@ -67,7 +67,7 @@ module _ (base t : ℕ) (pool table stack : List ℕ) (m : Marking) (k : ℕ) (d
       }
 
   pub came-loses : length stack / 4 ≤ m .depth
-      → Came t (pushed (contextOf base pool stack) k (marked k (stateOf t table stack m))) table′ stack (record { depth = m .depth; overflow = true; first = m .first; last = m .last })
+      → Came t (pushed (contextOf base pool stack) k (marked k (stateOf t table stack m))) table′ stack (record { depth = m .depth; lost = 1; first = m .first; last = m .last })
   unfolding pushed
   came-loses r =
       record {

@@ -5,6 +5,7 @@ use mathlib.Core.Logic.{_⊎_}
 use mathlib.Core.Bool.{Bool}
 use mathlib.Core.List.{List, [], _∷_, List·Memᴰ}
 use Prim.Native.Nat.{ℕ, zero, suc, _*_, _/_, _≤_, _<_}
+use lib.Dec.{ltb}
 use lib.ListN.{length}
 use Rattle.rules.specs.Words.{wordAt}
 use Rattle.rules.specs.Tables.{startOf}
@@ -21,9 +22,13 @@ stacked stack (suc d) = wordAt stack d ∷ stacked stack d
 abbrev pub contextOf : ℕ → List ℕ → List ℕ → Context
 contextOf base pool stack = record { base = base; pool = pool; room = length stack / 4 }
 
+-- a block has been lost because the stack was full
+abbrev pub overflowOf : Marking → Bool
+overflowOf m = ltb 0 (m .lost)
+
 -- what the lent stack holds from its depth on is not part of the state
 abbrev pub stateOf : ℕ → List ℕ → List ℕ → Marking → State
-stateOf t table stack m = state (entriesIn t table) (stacked stack (m .depth)) (m .overflow)
+stateOf t table stack m = state (entriesIn t table) (stacked stack (m .depth)) (overflowOf m)
 
 -- the state between walks: the mark stack is empty
 abbrev pub idle : ℕ → List ℕ → Bool → State
@@ -41,7 +46,7 @@ Knows es m = m .first .0 ≡ startOf es (m .last .0)
 -- the scan from block k back to `start` is remembered, or that of before: which of them is a matter of time alone
 pub record Remembers (m : Marking) (start k : ℕ) (r : Marking) : Type 0 where
   pub depth : r .depth ≡ m .depth
-  pub overflow : r .overflow ≡ m .overflow
+  pub lost : r .lost ≡ m .lost
   pub scan : ((r .first .0 ≡ m .first .0) × (r .last .0 ≡ m .last .0)) ⊎ ((r .first .0 ≡ start) × (r .last .0 ≡ k))
 
 -- the variables stand for the state `to`, the depth is within the stack, and what is remembered holds

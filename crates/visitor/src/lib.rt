@@ -14,11 +14,11 @@ use numbers::Address;
 use numbers::Block;
 use numbers::Found;
 
-// How many entries of the mark stack are in use, and whether a block has been lost because it was full. And the longest back scan from
-// a TAIL so far: the object of block `last` starts at block `first`.
+// How many entries of the mark stack are in use, and whether a block has been lost because it was full: 1 if so, else 0, as a `bool` would
+// leave bytes of the struct unused and its copies slow. And the longest back scan from a TAIL so far: the object of block `last` starts at block `first`.
 pub struct Marking {
     pub depth: usize,
-    pub overflow: bool,
+    pub lost: usize,
     pub first: Block,
     pub last: Block,
 }
@@ -39,14 +39,14 @@ fn push(t: usize, table: &mut [u8], stack: &mut [u8], m: Marking, k: Block) -> M
         let deeper = d + 1;
         return Marking {
             depth: deeper,
-            overflow: m.overflow,
+            lost: m.lost,
             first,
             last,
         };
     }
     Marking {
         depth: d,
-        overflow: true,
+        lost: 1,
         first,
         last,
     }
@@ -78,7 +78,7 @@ fn remember(m: Marking, start: Block, k: Block) -> Marking
     }
     Marking {
         depth: m.depth,
-        overflow: m.overflow,
+        lost: m.lost,
         first,
         last,
     }

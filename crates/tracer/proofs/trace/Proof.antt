@@ -1,6 +1,7 @@
 -- Tracing the next object from the present state ends where tracing the first one ends. The measure is the HEADs and the depth.
 -- Assumes nothing.
-use mathlib.Core.Path.{_≡_, refl, _∙_}
+use mathlib.Core.Path.{_≡_, refl, ap, _∙_}
+use mathlib.Core.Bool.{Bool}
 use Prim.Native.Nat.{_-_, _<_}
 use native.Mathlib.Omega.{arith}
 use borrow.Author.Needs.{needs}
@@ -8,7 +9,7 @@ use lib.ListN.{length}
 use Rattle.rules.specs.Planes.{entriesIn}
 use Rattle.rules.specs.Marking.{trace}
 use Rattle.laws.proofs.Marking.{toDrain}
-use Rattle.visitor.specs.Variables.{contextOf, stateOf, CanTrace}
+use Rattle.visitor.specs.Variables.{contextOf, stateOf, idle, CanTrace}
 use Rattle.tracer.proofs.Turning.{can-start, Popped, popped, trace-end}
 use Rattle.tracer.proofs.trace.Statement.{statement}
 use Rattle.tracer.proofs.trace.Tie as tie
@@ -24,6 +25,9 @@ Inv-loop base t pool table₀ stack₀ overflow left₀ next₀ table stack left
 abbrev μ-loop : tie.MeasureT-loop
 μ-loop base t pool table₀ stack₀ overflow left₀ next₀ table stack left next = toDrain (stateOf t table stack left)
 
+lost-by-requires : tie.Need-lost-by-requires Inv-loop μ-loop
+lost-by-requires c κs = search needs
+
 first-requires : tie.Need-first-requires Inv-loop μ-loop
 first-requires c κs = search needs
 
@@ -32,8 +36,8 @@ first-requires-2 c κs = search needs
 
 loop-holds : tie.Need-loop-holds Inv-loop μ-loop
 loop-holds c =
-    let a = c .before .before .before .before .before .args in
-    (can-start (a .t) (a .pool .now) (a .table .now) (a .stack .now) _ (c .before .before .before .before .before .pre .0) refl (c .before .first .ensures) (c .first2 .ensures), c .before .before .before .before .before .pre .1, refl, refl, refl)
+    let a = c .before .before .before .before .before .before .args in
+    (can-start (a .t) (a .pool .now) (a .table .now) (a .stack .now) _ (c .before .before .before .before .before .before .pre .0) refl (c .before .first .ensures) (c .first2 .ensures), c .before .before .before .before .before .before .pre .1, refl, refl, refl)
 
 walk-requires : tie.Need-walk-requires Inv-loop μ-loop
 walk-requires c κs =
@@ -48,12 +52,13 @@ same-length-2 c = search needs
 
 returns : tie.Need-returns Inv-loop μ-loop
 returns c =
-    let a = c .before .before .before .before .before .before .before .before .before .before .before .before .before .before .before .args in
-    let l = c .before .before .before .before .before .before .before .before .before .loop in
-    let w = c .before .before .before .before .before .before .walk in (
+    let a = c .before .before .before .before .before .before .before .before .before .before .before .before .before .before .before .before .before .args in
+    let l = c .before .before .before .before .before .before .before .before .before .before .loop in
+    let w = c .before .before .before .before .before .before .before .walk in (
       w .ensures .is-table,
       trace-end (a .base .0) (a .t) (a .pool .now) (a .stack .now) (l .table) (l .stack) (l .left) (l .inv .0) (l .inv .3) (l .next .0) (w .last .1 .1 .1 .0) (w .last .1 .1 .1 .1 .0) (w .result)
-          (w .ensures) (c .if1 .taken) ∙ l .inv .4,
+          (w .ensures) (c .before .if1 .taken) ∙ l .inv .4
+          ∙ ap (λ (o : Bool). trace (contextOf (a .base .0) (a .pool .now) (a .stack .now)) (a .k .0) (idle (a .t) (a .table .now) o)) (c .before .before .before .before .before .before .before .before .before .before .before .before .before .lost-by .ensures),
     )
 
 sub-d : tie.Need-sub-d Inv-loop μ-loop
@@ -66,13 +71,13 @@ of-word-requires : tie.Need-of-word-requires Inv-loop μ-loop
 of-word-requires c κs = search needs
 
 turned : (c : tie.After-last Inv-loop μ-loop) →
-    let a = c .before .before .before .before .before .before .before .before .before .before .before .before .before .before .before .before .before .before .before .before .before .args in
+    let a = c .before .before .before .before .before .before .before .before .before .before .before .before .before .before .before .before .before .before .before .before .before .before .args in
     let l = c .before .before .before .before .before .before .before .before .before .before .before .before .before .before .before .loop in
     let w = c .before .before .before .before .before .before .before .before .before .before .before .before .walk in
     Popped (a .base .0) (a .t) (a .pool .now) (a .stack .now) (l .table) (l .stack) (l .left) (l .next .0) (w .last .1 .1 .1 .0) (w .last .1 .1 .1 .1 .0)
-    (record { depth = w .result .depth - 1; overflow = w .result .overflow; first = w .result .first; last = w .result .last }) (c .before .before .of-word .result .0)
+    (record { depth = w .result .depth - 1; lost = w .result .lost; first = w .result .first; last = w .result .last }) (c .before .before .of-word .result .0)
 turned c =
-    let a = c .before .before .before .before .before .before .before .before .before .before .before .before .before .before .before .before .before .before .before .before .before .args in
+    let a = c .before .before .before .before .before .before .before .before .before .before .before .before .before .before .before .before .before .before .before .before .before .before .args in
     let l = c .before .before .before .before .before .before .before .before .before .before .before .before .before .before .before .loop in
     let w = c .before .before .before .before .before .before .before .before .before .before .before .before .walk in
     popped (a .base .0) (a .t) (a .pool .now) (a .stack .now) (l .table) (l .stack) (l .left) (l .inv .0) (l .inv .3) (l .next .0) (w .last .1 .1 .1 .0) (w .last .1 .1 .1 .1 .0) (w .result)
@@ -93,6 +98,7 @@ trace-spec =
     (tie.spec
     Inv-loop
     μ-loop
+    lost-by-requires
     first-requires
     first-requires-2
     loop-holds

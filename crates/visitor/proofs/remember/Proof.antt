@@ -19,10 +19,10 @@ until-requires-2 : tie.Need-until-requires-2
 until-requires-2 c κs = search needs
 
 returns : tie.Need-returns
-returns c = record { depth = refl; overflow = refl; scan = inr (refl, refl) }
+returns c = record { depth = refl; lost = refl; scan = inr (refl, refl) }
 
 returns-2 : tie.Need-returns-2
-returns-2 c = record { depth = refl; overflow = refl; scan = inl (refl, refl) }
+returns-2 c = record { depth = refl; lost = refl; scan = inl (refl, refl) }
 
 pub remember-spec : {M : Type 1} → statement M
 remember-spec =
