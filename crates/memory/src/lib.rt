@@ -1,4 +1,5 @@
 // Words, counts and bits in bytes, and parts that are cleared or copied. Only this crate knows the byte order.
+// The four or eight bytes of a number are one part: where indices are checked at run time, that takes one check.
 ghost use mathlib.Core.Path.{_≡_};
 ghost use mathlib.Core.Logic.{_⊎_};
 ghost use Prim.Native.Nat.{_+_, _-_, _*_, _≤_};
@@ -27,7 +28,9 @@ pub fn word(bytes: &[u8], i: usize) -> u32
     ensures { λ r. ⌜ r ≡ wordAt (now (bytes .entry)) i ⌝ }
 {
     let at = 4 * i;
-    from_le_bytes(bytes[at], bytes[at + 1], bytes[at + 2], bytes[at + 3])
+    let end = at + 4;
+    let part = &bytes[at..end];
+    from_le_bytes(part[0], part[1], part[2], part[3])
 }
 
 // The number in the two bytes from `at` on, the first the lowest.
@@ -43,8 +46,10 @@ pub fn set_two_bytes(bytes: &mut [u8], at: usize, n: usize)
     requires { ⌜ at + 2 ≤ length (now bytes) ⌝ }
     ensures { λ _. ⌜ now (bytes .exit) ≡ sets (now (bytes .entry)) at (twoBytesOf n) ⌝ }
 {
-    bytes[at] = (n % 256) as u8;
-    bytes[at + 1] = (n / 256 % 256) as u8;
+    let end = at + 2;
+    let part = &mut bytes[at..end];
+    part[0] = (n % 256) as u8;
+    part[1] = (n / 256 % 256) as u8;
 }
 
 // The four bytes from `at` on become those of w, the lowest first.
@@ -52,8 +57,12 @@ pub fn set_four_bytes(bytes: &mut [u8], at: usize, w: u32)
     requires { ⌜ at + 4 ≤ length (now bytes) ⌝ }
     ensures { λ _. ⌜ now (bytes .exit) ≡ sets (now (bytes .entry)) at (bytesOf w) ⌝ }
 {
-    set_two_bytes(&mut *bytes, at, w as usize);
-    set_two_bytes(bytes, at + 2, (w / 65536) as usize);
+    let end = at + 4;
+    let part = &mut bytes[at..end];
+    part[0] = (w % 256) as u8;
+    part[1] = (w / 256 % 256) as u8;
+    part[2] = (w / 65536 % 256) as u8;
+    part[3] = (w / 16777216 % 256) as u8;
 }
 
 // w becomes word i.
@@ -69,8 +78,10 @@ pub fn bits(bytes: &[u8], at: usize) -> u64
     requires { ⌜ at + 8 ≤ length (now bytes) ⌝ }
     ensures { λ r. ⌜ BitsFrom (now (bytes .entry)) at 8 r ⌝ }
 {
-    let low = from_le_bytes(bytes[at], bytes[at + 1], bytes[at + 2], bytes[at + 3]);
-    let high = from_le_bytes(bytes[at + 4], bytes[at + 5], bytes[at + 6], bytes[at + 7]);
+    let end = at + 8;
+    let part = &bytes[at..end];
+    let low = from_le_bytes(part[0], part[1], part[2], part[3]);
+    let high = from_le_bytes(part[4], part[5], part[6], part[7]);
     low as u64 + 4294967296 * (high as u64)
 }
 
@@ -93,14 +104,16 @@ pub fn set_bits(bytes: &mut [u8], at: usize, w: u64)
     requires { ⌜ at + 8 ≤ length (now bytes) ⌝ }
     ensures { λ _. ⌜ WithBits (now (bytes .entry)) at w (now (bytes .exit)) ⌝ }
 {
-    bytes[at] = (w % 256) as u8;
-    bytes[at + 1] = ((w >> 8) % 256) as u8;
-    bytes[at + 2] = ((w >> 16) % 256) as u8;
-    bytes[at + 3] = ((w >> 24) % 256) as u8;
-    bytes[at + 4] = ((w >> 32) % 256) as u8;
-    bytes[at + 5] = ((w >> 40) % 256) as u8;
-    bytes[at + 6] = ((w >> 48) % 256) as u8;
-    bytes[at + 7] = (w >> 56) as u8;
+    let end = at + 8;
+    let part = &mut bytes[at..end];
+    part[0] = (w % 256) as u8;
+    part[1] = ((w >> 8) % 256) as u8;
+    part[2] = ((w >> 16) % 256) as u8;
+    part[3] = ((w >> 24) % 256) as u8;
+    part[4] = ((w >> 32) % 256) as u8;
+    part[5] = ((w >> 40) % 256) as u8;
+    part[6] = ((w >> 48) % 256) as u8;
+    part[7] = (w >> 56) as u8;
 }
 
 // Every byte of the part becomes zero.

@@ -1,23 +1,22 @@
 -- `clear_part`: the part that was lent comes back all zero, and is put in its place.
 -- Assumes nothing.
-use mathlib.Core.Path.{_≡_, refl, sym, _∙_}
-use mathlib.Core.List.{List, append-assoc}
+use mathlib.Core.Path.{_≡_}
+use mathlib.Core.List.{List}
 use Prim.Native.Nat.{ℕ, _+_, _-_, _≤_}
 use native.Mathlib.Omega.{arith}
-use lib.ListN.{length, drop, replicate, length-replicate, length-drop}
-use lib.Seq.{sets, sets-eq, length-take-le, drop-drop}
+use lib.ListN.{length, replicate, length-replicate}
+use lib.Seq.{sets}
 use borrow.Author.Needs.{needs}
 use borrow.Rule.Slice.PartMut.{midOf, putMid}
+use Rattle.memory.proofs.Parts.{part-length, part-back}
 use Rattle.memory.proofs.clear_part.Statement.{statement}
 use Rattle.memory.proofs.clear_part.Tie as tie
 
 -- the part from a on of n bytes, all zero
 cleared : (pool part : List ℕ) (a n : ℕ) → a + n ≤ length pool → part ≡ replicate (length (midOf a n pool)) 0 → putMid a n pool part ≡ sets pool a (replicate n 0)
 cleared pool part a n room zero =
-    let long : length (midOf a n pool) ≡ n = length-take-le n (drop a pool) (simp length-drop (omega arith)) in
-    let filled : part ≡ replicate n 0 = rw long at zero in
-    let count : length {A = ℕ} (replicate n 0) ≡ n = length-replicate n 0 in
-    rw (filled, drop-drop) (sym (sets-eq (replicate n 0) pool a (rw count (omega arith)) ∙ rw (count, append-assoc) refl))
+    let filled : part ≡ replicate n 0 = rw (part-length pool a n room) at zero in
+    rw filled (part-back pool a n room (replicate n 0) (length-replicate n 0))
 
 index-requires : tie.Need-index-requires
 index-requires c κs = search needs

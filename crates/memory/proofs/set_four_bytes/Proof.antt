@@ -1,47 +1,75 @@
--- `set_four_bytes`: the two lowest bytes, and behind them the two highest.
+-- `set_four_bytes` stores the rule's four bytes, lowest byte first, in one part.
 -- Assumes nothing.
-use mathlib.Core.Path.{_≡_, refl, _∙_}
-use mathlib.Core.List.{List}
-use Prim.Native.Nat.{ℕ, _+_, _/_}
-use native.Mathlib.Nat.{div-div-eq-div-mul}
-use lib.Seq.{sets}
+use Prim.Native.Nat.{_+_, _-_}
+use native.Mathlib.Omega.{arith}
+use lib.ListN.{length-set}
 use borrow.Author.Needs.{needs}
-use Rattle.rules.specs.Words.{bytesOf, twoBytesOf}
-use Rattle.laws.proofs.Lists.{sets-next}
+use Rattle.rules.specs.Words.{bytesOf}
 use Rattle.laws.proofs.Widths.{in-slice}
+use Rattle.memory.proofs.Parts.{part-filled}
 use Rattle.memory.proofs.set_four_bytes.Statement.{statement}
 use Rattle.memory.proofs.set_four_bytes.Tie as tie
 
-four-bytes : (bytes first second : List ℕ) (at w high : ℕ) → first ≡ sets bytes at (twoBytesOf w) → second ≡ sets first (at + 2) (twoBytesOf high) → high ≡ w / 65536
-    → second ≡ sets bytes at (bytesOf w)
-unfolding bytesOf twoBytesOf
-four-bytes bytes first second at w high e f h = f ∙ rw (e, h, sets-next bytes at (at + 2) (twoBytesOf w) (twoBytesOf (w / 65536)) refl, div-div-eq-div-mul w 65536 256)
+add-end : tie.Need-add-end
+add-end c = in-slice (c .args .bytes .now) (search needs) (search needs)
 
-set-two-bytes-requires : tie.Need-set-two-bytes-requires
-set-two-bytes-requires c κs = search needs
+sub-part : tie.Need-sub-part
+sub-part c = search needs
 
-add-set-two-bytes : tie.Need-add-set-two-bytes
-add-set-two-bytes c = in-slice (c .before .before .before .before .before .before .args .bytes .now) (search needs) (search needs)
+part-part-start : tie.Need-part-part-start
+part-part-start c = search needs
 
-cast-set-two-bytes : tie.Need-cast-set-two-bytes
-cast-set-two-bytes c = search needs
+part-part-end : tie.Need-part-part-end
+part-part-end c = search needs
 
-set-two-bytes-requires-2 : tie.Need-set-two-bytes-requires-2
-set-two-bytes-requires-2 c κs = search needs
+cast-part : tie.Need-cast-part
+cast-part c = search needs
+
+slice-write-part : tie.Need-slice-write-part
+slice-write-part c = search needs
+
+cast-part-2 : tie.Need-cast-part-2
+cast-part-2 c = search needs
+
+slice-write-part-2 : tie.Need-slice-write-part-2
+slice-write-part-2 c = simp length-set (search needs)
+
+cast-part-3 : tie.Need-cast-part-3
+cast-part-3 c = search needs
+
+slice-write-part-3 : tie.Need-slice-write-part-3
+slice-write-part-3 c = simp length-set (search needs)
+
+cast-part-4 : tie.Need-cast-part-4
+cast-part-4 c = search needs
+
+slice-write-part-4 : tie.Need-slice-write-part-4
+slice-write-part-4 c = simp length-set (search needs)
 
 same-length : tie.Need-same-length
 same-length c = search needs
 
 returns : tie.Need-returns
-returns c = four-bytes _ _ _ _ _ _ (c .before .before .before .before .before .before .set-two-bytes .ensures) (c .before .before .set-two-bytes2 .ensures) refl
+unfolding bytesOf
+returns c =
+    let a = c .before .before .before .args in
+    part-filled (a .bytes .now) (a .at) (a .at + 4 - a .at) (omega arith) (bytesOf (a .w)) (omega arith)
 
 pub set-four-bytes-spec : {M : Type 1} → statement M
 set-four-bytes-spec =
     tie.close
     (tie.spec
-    set-two-bytes-requires
-    add-set-two-bytes
-    cast-set-two-bytes
-    set-two-bytes-requires-2
+    add-end
+    sub-part
+    part-part-start
+    part-part-end
+    cast-part
+    slice-write-part
+    cast-part-2
+    slice-write-part-2
+    cast-part-3
+    slice-write-part-3
+    cast-part-4
+    slice-write-part-4
     same-length
     returns)
