@@ -7,7 +7,7 @@ use Prim.Native.Nat.{ℕ, _+_, _-_, _*_, _^_, _≤_, _<_, max}
 use native.Mathlib.Decide.{ℕ-discrete, decLt}
 use native.Mathlib.Omega.{arith}
 use lib.ListN.{length, take, drop, set, length-append, length-take, length-set, drop-of-length-le, List·getD-eq-default}
-use lib.Seq.{sets, length-sets, ext-getD, take-add, drop-drop, getD-take, getD-drop, getD-set-same, getD-set-other}
+use lib.Seq.{sets, length-sets, ext-getD, take-add, take-all, drop-drop, getD-take, getD-drop, getD-set-same, getD-set-other}
 use lib.Bits.{bitAnd}
 use borrow.Author.Tests.{eq-eqb, ne-eqb}
 use Rattle.rules.specs.Words.{bytesOf, wordAt}
@@ -65,39 +65,31 @@ module _ {image₀ : List ℕ} {at : ℕ} {all image : List ℕ} {to : ℕ} {res
 
 -- ---- one block
 
-module _ (pool : List ℕ) (k : ℕ) (bytes : AllBytes pool) (room : 16 * k + 16 ≤ length pool) where
-  -- the bytes of its word w
-  word-bytes : (w : ℕ) → w < 4 → bytesOf (wordAt pool (4 * k + w)) ≡ take 4 (drop (4 * w) (drop (16 * k) pool))
-  word-bytes w l =
-      let e : 4 * (4 * k + w) ≡ 16 * k + 4 * w = omega arith in
-      bytesOf-wordAt pool (4 * k + w) bytes (omega arith) ∙ rw (e, drop-drop (4 * w) (16 * k) pool)
+-- of 16 bytes
+module _ (block : List ℕ) (bytes : AllBytes block) (long : length block ≡ 16) where
+  word-bytes : (w : ℕ) → w < 4 → bytesOf (wordAt block w) ≡ take 4 (drop (4 * w) block)
+  word-bytes w l = bytesOf-wordAt block w bytes (omega arith)
 
   -- it is its four words
-  block-words : blockBytes pool k ≡ bytesOf (wordAt pool (4 * k)) ++ bytesOf (wordAt pool (4 * k + 1)) ++ bytesOf (wordAt pool (4 * k + 2)) ++ bytesOf (wordAt pool (4 * k + 3))
-  unfolding blockBytes
+  block-words : bytesOf (wordAt block 0) ++ bytesOf (wordAt block 1) ++ bytesOf (wordAt block 2) ++ bytesOf (wordAt block 3) ≡ block
   block-words =
-      let b : List ℕ = drop (16 * k) pool in
-      let e : 4 * k + 0 ≡ 4 * k = omega arith in
-      let first : bytesOf (wordAt pool (4 * k)) ≡ take 4 b = rw e at (word-bytes 0 (omega arith)) in
-      rw (first, word-bytes 1 (omega arith), word-bytes 2 (omega arith), word-bytes 3 (omega arith))
-      (take-add 12 4 b ∙ rw (take-add 8 4 b, take-add 4 4 b))
+      rw (word-bytes 0 (omega arith), word-bytes 1 (omega arith), word-bytes 2 (omega arith), word-bytes 3 (omega arith))
+      (sym (take-add 12 4 block ∙ rw (take-add 8 4 block, take-add 4 4 block)) ∙ take-all 16 block (omega arith))
 
-  -- it is copied word by word; word i of the pool is its first
-  pub four-words : (image : List ℕ) (at i : ℕ) → i ≡ 4 * k
-      → sets (sets (sets (sets image at (bytesOf (wordAt pool i))) (at + 4) (bytesOf (wordAt pool (i + 1)))) (at + 8) (bytesOf (wordAt pool (i + 2)))) (at + 12) (bytesOf (wordAt pool (i + 3)))
-      ≡ sets image at (blockBytes pool k)
-  four-words image at i e =
-      let a = bytesOf (wordAt pool (4 * k)) in
-      let b = bytesOf (wordAt pool (4 * k + 1)) in
-      let c = bytesOf (wordAt pool (4 * k + 2)) in
-      let d = bytesOf (wordAt pool (4 * k + 3)) in
+  -- it is stored word by word
+  pub four-words : (part : List ℕ)
+      → sets (sets (sets (sets part 0 (bytesOf (wordAt block 0))) 4 (bytesOf (wordAt block 1))) 8 (bytesOf (wordAt block 2))) 12 (bytesOf (wordAt block 3)) ≡ sets part 0 block
+  four-words part =
+      let a = bytesOf (wordAt block 0) in
+      let b = bytesOf (wordAt block 1) in
+      let c = bytesOf (wordAt block 2) in
+      let d = bytesOf (wordAt block 3) in
       rw (
-        e,
-        block-words,
-        sets-next image at (at + 4) a b (simp length-bytesOf refl),
-        sets-next image at (at + 8) (a ++ b) c (simp (length-append, length-bytesOf) refl),
-        sets-next image at (at + 12) (a ++ b ++ c) d (simp (length-append, length-bytesOf) refl),
+        sets-next part 0 4 a b (simp length-bytesOf refl),
+        sets-next part 0 8 (a ++ b) c (simp (length-append, length-bytesOf) refl),
+        sets-next part 0 12 (a ++ b ++ c) d (simp (length-append, length-bytesOf) refl),
       )
+      (ap (sets part 0) block-words)
 
 -- ---- the used ones of 64 blocks
 

@@ -15,19 +15,24 @@ use numbers::Bytes;
 const ALL: u64 = 18446744073709551615;
 
 // The 16 bytes of the source's block k are copied to `at` in the target. All are read before the first is written: so the compiler moves them at once.
+// They are one part of each, as in crate memory.
 fn copy_block(source: &[u8], k: Block, target: &mut [u8], at: usize)
     requires { ⌜ (k .0 < 4096) × ((16 * k .0 + 16 ≤ length (now source)) × (at + 16 ≤ length (now target))) ⌝ }
     ensures { λ _. ⌜ now (target .exit) ≡ sets (now (target .entry)) at (blockBytes (now (source .entry)) (k .0)) ⌝ }
 {
-    let i = k.first_word();
-    let a = memory::word(source, i);
-    let b = memory::word(source, i + 1);
-    let c = memory::word(source, i + 2);
-    let d = memory::word(source, i + 3);
-    memory::set_four_bytes(&mut *target, at, a);
-    memory::set_four_bytes(&mut *target, at + 4, b);
-    memory::set_four_bytes(&mut *target, at + 8, c);
-    memory::set_four_bytes(&mut *target, at + 12, d);
+    let from = k.offset().index();
+    let from_end = from + 16;
+    let to_end = at + 16;
+    let block = &source[from..from_end];
+    let a = memory::word(block, 0);
+    let b = memory::word(block, 1);
+    let c = memory::word(block, 2);
+    let d = memory::word(block, 3);
+    let to = &mut target[at..to_end];
+    memory::set_four_bytes(&mut *to, 0, a);
+    memory::set_four_bytes(&mut *to, 4, b);
+    memory::set_four_bytes(&mut *to, 8, c);
+    memory::set_four_bytes(&mut *to, 12, d);
 }
 
 // Of the 64 blocks from block 64 * i on, those that have a bit in `used` are copied, from `at` on. Returns the place behind them. The lowest bit that is left goes with each

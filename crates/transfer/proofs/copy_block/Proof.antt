@@ -1,57 +1,95 @@
--- `copy_block`: a block is its four words, and each is stored as the bytes that it was read from.
+-- `copy_block`: a block is its four words, and each is stored as the bytes that it was read from. Both are one part.
 -- Assumes nothing.
-use mathlib.Core.Path.{_∙_}
+use mathlib.Core.Path.{_≡_, ap, _∙_}
+use mathlib.Core.List.{List}
+use Prim.Native.Nat.{ℕ, _+_, _-_, _*_, _≤_}
+use native.Mathlib.Omega.{arith}
+use lib.ListN.{length, drop}
+use lib.Seq.{sets}
 use borrow.Author.Needs.{needs}
+use borrow.Rule.Slice.PartMut.{midOf, putMid}
+use Rattle.rules.specs.Words.{bytesOf, wordAt}
+use Rattle.rules.specs.Images.{blockBytes}
+use Rattle.laws.specs.Meaning.{AllBytes}
+use Rattle.laws.proofs.Lists.{bounded-take, bounded-drop}
 use Rattle.laws.proofs.Widths.{in-32-bits, in-slice}
+use Rattle.memory.proofs.Parts.{part-length, part-filled}
 use Rattle.transfer.proofs.Copying.{four-words}
 use Rattle.transfer.proofs.copy_block.Statement.{statement}
 use Rattle.transfer.proofs.copy_block.Tie as tie
 
-first-word-requires : tie.Need-first-word-requires
-first-word-requires c κs = search needs
+module _ (source target : List ℕ) (k from at : ℕ) (e : from ≡ 16 * k) (bytes : AllBytes source) (inside : 16 * k + 16 ≤ length source) (room : at + 16 ≤ length target) where
+  abbrev block : List ℕ
+  block = midOf from (from + 16 - from) source
+
+  block-is : block ≡ blockBytes source k
+  unfolding blockBytes
+  block-is =
+      let n : 16 * k + 16 - 16 * k ≡ 16 = omega arith in
+      rw (e, n)
+
+  abbrev part : List ℕ
+  part = midOf at (at + 16 - at) target
+
+  -- the part of the target comes back with the block in it
+  copied : (last : List ℕ)
+      → last ≡ sets (sets (sets (sets part 0 (bytesOf (wordAt block 0))) 4 (bytesOf (wordAt block 1))) 8 (bytesOf (wordAt block 2))) 12 (bytesOf (wordAt block 3))
+      → putMid at (at + 16 - at) target last ≡ sets target at (blockBytes source k)
+  copied last stored =
+      let long : length block ≡ from + 16 - from = part-length source from (from + 16 - from) (omega arith) in
+      let all : last ≡ sets part 0 block = stored ∙ four-words block (bounded-take (from + 16 - from) (drop from source) (bounded-drop from source bytes)) (omega (arith, long)) part in
+      rw all (part-filled target at (at + 16 - at) (omega arith) block (omega (arith, long)) ∙ ap (sets target at) block-is)
+
+offset-requires : tie.Need-offset-requires
+offset-requires c κs = search needs
+
+index-requires : tie.Need-index-requires
+index-requires c κs = search needs
+
+add-from-end : tie.Need-add-from-end
+add-from-end c = in-32-bits (search needs)
+
+add-to-end : tie.Need-add-to-end
+add-to-end c = in-slice (c .before .before .before .before .args .target .now) (search needs) (search needs)
+
+sub-block : tie.Need-sub-block
+sub-block c = search needs
+
+part-block-start : tie.Need-part-block-start
+part-block-start c = search needs
+
+part-block-end : tie.Need-part-block-end
+part-block-end c = search needs
 
 word-requires : tie.Need-word-requires
 word-requires c κs = search needs
 
-add-word : tie.Need-add-word
-add-word c = in-32-bits (search needs)
-
 word-requires-2 : tie.Need-word-requires-2
 word-requires-2 c κs = search needs
-
-add-word-2 : tie.Need-add-word-2
-add-word-2 c = in-32-bits (search needs)
 
 word-requires-3 : tie.Need-word-requires-3
 word-requires-3 c κs = search needs
 
-add-word-3 : tie.Need-add-word-3
-add-word-3 c = in-32-bits (search needs)
-
 word-requires-4 : tie.Need-word-requires-4
 word-requires-4 c κs = search needs
+
+sub-to : tie.Need-sub-to
+sub-to c = search needs
+
+part-to-start : tie.Need-part-to-start
+part-to-start c = search needs
+
+part-to-end : tie.Need-part-to-end
+part-to-end c = search needs
 
 set-four-bytes-requires : tie.Need-set-four-bytes-requires
 set-four-bytes-requires c κs = search needs
 
--- where the function starts
-abbrev start : tie.After-set-four-bytes → tie.Start
-start c = c .before .before .before .before .before .before .before .before .before
-
-add-set-four-bytes : tie.Need-add-set-four-bytes
-add-set-four-bytes c = in-slice (start (c .before .before .before) .args .target .now) (search needs) (search needs)
-
 set-four-bytes-requires-2 : tie.Need-set-four-bytes-requires-2
 set-four-bytes-requires-2 c κs = search needs
 
-add-set-four-bytes-2 : tie.Need-add-set-four-bytes-2
-add-set-four-bytes-2 c = in-slice (start (c .before .before .before .before .before .before .before) .args .target .now) (search needs) (search needs)
-
 set-four-bytes-requires-3 : tie.Need-set-four-bytes-requires-3
 set-four-bytes-requires-3 c κs = search needs
-
-add-set-four-bytes-3 : tie.Need-add-set-four-bytes-3
-add-set-four-bytes-3 c = in-slice (start (c .before .before .before .before .before .before .before .before .before .before .before) .args .target .now) (search needs) (search needs)
 
 set-four-bytes-requires-4 : tie.Need-set-four-bytes-requires-4
 set-four-bytes-requires-4 c κs = search needs
@@ -62,34 +100,39 @@ same-length c = search needs
 returns : tie.Need-returns
 returns c =
     let last = c .before .before in
-    let third = last .before .before .before .before in
+    let third = last .before .before .before in
     let second = third .before .before .before .before in
     let first = second .before .before .before .before in
-    let read = first .before .before in
-    let index = read .before .before .before .before in
-    let s = start first in
-    last .set-four-bytes4 .ensures
-    ∙ rw (third .set-four-bytes3 .ensures, second .set-four-bytes2 .ensures, first .set-four-bytes .ensures, read .word4 .ensures, read .before .word3 .ensures, read .before .before .word2 .ensures, read .before .before .before .word .ensures)
-    (four-words (s .args .source .now) (s .args .k .0) (λ i. index .before .before .shared-slice-known .given i .fits) (s .pre .1 .0) (s .args .target .now) (s .args .at) (index .first-word .result) (index .first-word .ensures))
+    let read = first .before .before .before in
+    let index = read .before .before .before .before .before in
+    let known = index .before .before .before in
+    let s = known .before in
+    copied (s .args .source .now) (s .args .target .now) (s .args .k .0) (index .index .result) (s .args .at) (index .index .ensures ∙ index .before .offset .ensures)
+    (λ i. known .shared-slice-known .given i .fits) (s .pre .1 .0) (s .pre .1 .1) _
+    (last .set-four-bytes4 .ensures
+    ∙ rw (third .set-four-bytes3 .ensures, second .set-four-bytes2 .ensures, first .set-four-bytes .ensures, read .word4 .ensures, read .before .word3 .ensures, read .before .before .word2 .ensures, read .before .before .before .word .ensures))
 
 pub copy-block-spec : {M : Type 1} → statement M
 copy-block-spec =
     tie.close
     (tie.spec
-    first-word-requires
+    offset-requires
+    index-requires
+    add-from-end
+    add-to-end
+    sub-block
+    part-block-start
+    part-block-end
     word-requires
-    add-word
     word-requires-2
-    add-word-2
     word-requires-3
-    add-word-3
     word-requires-4
+    sub-to
+    part-to-start
+    part-to-end
     set-four-bytes-requires
-    add-set-four-bytes
     set-four-bytes-requires-2
-    add-set-four-bytes-2
     set-four-bytes-requires-3
-    add-set-four-bytes-3
     set-four-bytes-requires-4
     same-length
     returns)
