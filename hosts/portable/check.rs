@@ -5,8 +5,8 @@
 //! - Line n of SRC/NAME.rs is line n of crates/NAME/src/lib.rt, or it is empty where that has ghost text: a `ghost use`, a clause
 //!   `requires { .. }` or `ensures { .. }` between the end of a function's parameters and the brace of its body, or `#[no_mangle]`.
 //!   No ghost text is left.
-//! - SRC/lib.rs is head.rs and then these parts, each once: the functions of std::num, a module for each crate, and for each
-//!   declaration of the header a function whose parameters are made from that declaration.
+//! - SRC/lib.rs is head.rs and then these parts, each once: a module for each crate, and for each declaration of the header a
+//!   function whose parameters are made from that declaration.
 
 use std::collections::BTreeSet;
 use std::path::Path;
@@ -241,11 +241,7 @@ fn check_root(head: &str, crates: &[Crate], header: &[Declaration], root: &str) 
     for declaration in header {
         expected.insert(declaration.part()?);
     }
-    let (std, others): (Vec<&str>, Vec<&str>) = rest.split("\n\n").partition(|part| part.starts_with("mod std {\n"));
-    if std.len() != 1 || !is_std_part(std[0]) {
-        return Err("lib.rs: its std::num is not what it must be".to_string());
-    }
-    for part in others {
+    for part in rest.split("\n\n") {
         if !expected.remove(part) {
             return Err(format!("lib.rs: a part that is not expected, or twice:\n{part}"));
         }
@@ -269,21 +265,4 @@ fn module_part(c: &Crate, crates: &[Crate]) -> String {
         uses.collect::<String>(),
         types.collect::<Vec<_>>().join(", ")
     )
-}
-
-/// A module whose functions are sums and differences that wrap.
-fn is_std_part(part: &str) -> bool {
-    let Some(inside) = part.strip_prefix("mod std {\n    pub mod num {\n").and_then(|p| p.strip_suffix("    }\n}")) else {
-        return false;
-    };
-    let mut rest = inside.to_string();
-    for operation in ["wrapping_add", "wrapping_sub"] {
-        for number in ["u8", "u16", "u32", "u64"] {
-            let function = format!(
-                "        pub fn {operation}_{number}(a: {number}, b: {number}) -> {number} {{\n            a.{operation}(b)\n        }}\n"
-            );
-            rest = rest.replacen(&function, "", 1);
-        }
-    }
-    rest.is_empty()
 }

@@ -75,3 +75,11 @@ fn stop(_: &core::panic::PanicInfo) -> ! {
 fn never(_: &core::panic::PanicInfo) -> ! {
     unsafe { core::hint::unreachable_unchecked() }
 }
+
+mod std {
+    pub mod num {
+        pub fn wrapping_add_u64(a: u64, b: u64) -> u64 {
+            a.wrapping_add(b)
+        }
+    }
+}
