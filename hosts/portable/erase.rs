@@ -26,12 +26,12 @@ const NUMBERS: [&str; 6] = ["u8", "u16", "u32", "u64", "usize", "i32"];
 const FUNCTIONS: [&str; 4] =
     ["u8::count_ones(", "u64::leading_zeros(", "u64::trailing_zeros(", "std::num::wrapping_add_u64("];
 /// The words of the language that may stand anywhere in a body.
-const WORDS_IN_BODIES: [&str; 11] =
-    ["continue", "else", "false", "if", "loop", "match", "mut", "return", "self", "true", "while"];
+const WORDS_IN_BODIES: [&str; 12] =
+    ["continue", "else", "false", "if", "let", "loop", "match", "mut", "return", "self", "true", "while"];
 /// The other words that are no names: they mean something in Rattle or in Rust, or are Rust's libraries.
-const NO_NAMES: [&str; 36] = [
+const NO_NAMES: [&str; 35] = [
     "Self", "alloc", "as", "async", "await", "bool", "break", "const", "core", "crate", "dyn", "ensures", "enum", "extern",
-    "fn", "for", "ghost", "impl", "in", "let", "mod", "move", "pub", "ref", "requires", "static", "std", "struct", "super",
+    "fn", "for", "ghost", "impl", "in", "mod", "move", "pub", "ref", "requires", "static", "std", "struct", "super",
     "trait", "try", "type", "union", "unsafe", "use", "where",
 ];
 /// Longer signs first.
@@ -41,6 +41,8 @@ const SIGNS: [&str; 34] = [
 ];
 /// Longer signs of Rust that begin as one of these, and what begins a comment that it does not know.
 const UNKNOWN_SIGNS: [&str; 14] = ["///", "//!", "/*", "<<=", ">>=", "..=", "...", "&&", "||", "*=", "/=", "%=", "&=", "|="];
+/// The signs and the word that a value may begin behind, and that are no part of it.
+const BEFORE_VALUES: [&str; 7] = ["(", "[", "{", ",", ";", "=", "return"];
 /// How ghost texts begin, and how they end outside of braces.
 const GHOST: [(&str, char); 4] = [("ghost use ", ';'), ("requires {", '}'), ("ensures {", '}'), ("#[no_mangle]", ']')];
 /// What might hide their end.
@@ -101,12 +103,10 @@ fn root(crates: &[Parser]) -> String {
 
 // ---- The crates
 
-/// A line of crates.txt, and the crate's one source file.
+/// A line of crates.txt, and the text of the crate's one source file.
 struct Crate {
     name: String,
     needs: Vec<String>,
-    /// As it is named in messages.
-    path: String,
     text: String,
 }
 
@@ -119,8 +119,7 @@ fn needed_crates(project: &Path) -> Result<Vec<Crate>> {
         if missing.remove(name) {
             let needs: Vec<String> = needs.split_whitespace().map(str::to_string).collect();
             missing.extend(needs.iter().cloned());
-            let path = source_path(project, name)?;
-            found.push(Crate { name: name.to_string(), needs, text: read(project, &path)?, path });
+            found.push(Crate { name: name.to_string(), needs, text: read_source(project, name)? });
         }
     }
     if let Some(name) = missing.first() {
@@ -134,8 +133,7 @@ fn read(project: &Path, path: &str) -> Result<String> {
     fs::read_to_string(project.join(path)).map_err(|e| format!("{path}: {e}"))
 }
 
-/// The path of a crate's one source file.
-fn source_path(project: &Path, name: &str) -> Result<String> {
+fn read_source(project: &Path, name: &str) -> Result<String> {
     let folder = format!("crates/{name}/src");
     for entry in fs::read_dir(project.join(&folder)).map_err(|e| format!("{folder}: {e}"))? {
         let file = entry.map_err(|e| format!("{folder}: {e}"))?.file_name();
@@ -143,7 +141,7 @@ fn source_path(project: &Path, name: &str) -> Result<String> {
             return Err(format!("{folder}/{}:1: found a second file of a crate", file.to_string_lossy()));
         }
     }
-    Ok(folder + "/lib.rt")
+    read(project, &(folder + "/lib.rt"))
 }
 
 // ---- Tokens
@@ -168,21 +166,14 @@ fn is_number(text: &str) -> bool {
     !text.is_empty() && text.chars().all(|c| c.is_ascii_digit()) || text.strip_prefix("0x").is_some_and(is_hexadecimal)
 }
 
-fn ends_value(text: &str) -> bool {
-    is_name(text) || is_number(text) || [")", "]"].contains(&text)
-}
-
-fn is_clause(text: &str) -> bool {
-    text.starts_with("requires {") || text.starts_with("ensures {")
-}
-
 fn word_length(text: &str) -> usize {
     text.find(|c: char| !c.is_ascii_alphanumeric() && c != '_').unwrap_or(text.len())
 }
 
 impl Crate {
     fn refuse<T>(&self, at: usize, why: &str) -> Result<T> {
-        Err(format!("{}:{}: found {why}", self.path, self.text[..at].matches('\n').count() + 1))
+        let line = self.text[..at].matches('\n').count() + 1;
+        Err(format!("crates/{}/src/lib.rt:{line}: found {why}", self.name))
     }
 
     fn tokens(&self) -> Result<Vec<Token<'_>>> {
@@ -279,7 +270,7 @@ struct Parser<'a> {
     tokens: Vec<Token<'a>>,
     at: usize,
     erased: Vec<Edit>,
-    /// The casts to usize, as calls.
+    /// The casts to usize as calls, and calls around what is shifted to the left or inverted.
     calls: Vec<Edit>,
     types: Vec<&'a str>,
     /// The functions for C.
@@ -304,11 +295,6 @@ impl<'a> Parser<'a> {
     /// The text of the token before.
     fn before(&self) -> &'a str {
         self.tokens[self.at - 1].text
-    }
-
-    /// The texts of the tokens from the first one to the one before.
-    fn texts(&self, first: usize) -> Vec<&'a str> {
-        self.tokens[first..self.at].iter().map(|token| token.text).collect()
     }
 
     fn refuse<T>(&self, why: &str) -> Result<T> {
@@ -354,11 +340,9 @@ impl<'a> Parser<'a> {
             self.erase();
             return Ok(());
         }
-        if self.text() == "#[no_mangle]" && self.source.name == ENTRY_CRATE {
-            return self.entry();
-        }
         let is_public = self.accept("pub");
         match self.text() {
+            "#[no_mangle]" if !is_public && self.source.name == ENTRY_CRATE => self.entry(),
             "use" if !is_public => self.form("use NAME :: NAME ;"),
             "impl" if !is_public => self.form("impl NAME {"),
             "}" if !is_public => self.form("}"),
@@ -404,7 +388,7 @@ impl<'a> Parser<'a> {
     }
 
     /// Its name and its type.
-    fn parameter(&mut self) -> Result<(&'a str, String)> {
+    fn parameter(&mut self) -> Result<(&'a str, &'a str)> {
         self.form("NAME :")?;
         let name = self.tokens[self.at - 2].text;
         let first = self.at;
@@ -414,7 +398,7 @@ impl<'a> Parser<'a> {
         } else {
             self.form("TYPE")?;
         }
-        let kind = self.texts(first).join(" ");
+        let kind = &self.source.text[self.tokens[first].from..self.tokens[self.at - 1].to];
         self.accept(",");
         Ok((name, kind))
     }
@@ -428,12 +412,12 @@ impl<'a> Parser<'a> {
         while !self.accept(")") {
             let first = self.at;
             let (name, kind) = self.parameter()?;
-            let (rust, value) = match kind.as_str() {
-                "u32" | "u64" => (kind, name.to_string()),
-                "& mut u32" => ("*mut u32".to_string(), format!("&mut *{name}")),
-                "& mut i32" => ("*mut i32".to_string(), format!("&mut *{name}")),
-                "& [ u8 ]" => (format!("*const u8, {name}_len: usize"), format!("from_raw_parts({name}, {name}_len)")),
-                "& mut [ u8 ]" => (format!("*mut u8, {name}_len: usize"), format!("from_raw_parts_mut({name}, {name}_len)")),
+            let (rust, value) = match kind {
+                "u32" | "u64" => (kind.to_string(), name.to_string()),
+                "&mut u32" => ("*mut u32".to_string(), format!("&mut *{name}")),
+                "&mut i32" => ("*mut i32".to_string(), format!("&mut *{name}")),
+                "&[u8]" => (format!("*const u8, {name}_len: usize"), format!("from_raw_parts({name}, {name}_len)")),
+                "&mut [u8]" => (format!("*mut u8, {name}_len: usize"), format!("from_raw_parts_mut({name}, {name}_len)")),
                 _ => {
                     self.at = first;
                     return self.refuse("a parameter of an entry point, of a type that it does not know");
@@ -454,7 +438,7 @@ impl<'a> Parser<'a> {
     // ---- Bodies
 
     fn clauses_and_body(&mut self) -> Result<()> {
-        while is_clause(self.text()) {
+        while self.text().starts_with("requires {") || self.text().starts_with("ensures {") {
             self.erase();
         }
         self.form("{")?;
@@ -470,11 +454,14 @@ impl<'a> Parser<'a> {
         let (before, text) = (self.before(), self.text());
         let next = self.tokens.get(self.at + 1).map_or("", |token| token.text);
         let rest = &self.source.text[self.tokens[self.at].from..];
+        let follows_value = is_name(before) || is_number(before) || [")", "]"].contains(&before);
         match text {
             "as" => return self.cast(),
-            "let" => return self.binding(),
+            ":" if ["let", "mut"].contains(&self.tokens[self.at - 2].text) => return self.form(": NUMBER"),
+            "<<" => self.shifted(),
             "!" if is_name(before) => self.refuse("a macro"),
-            "|" | ".." if !ends_value(before) => self.refuse("which it does not know without a value before it"),
+            "!" => self.inverted(),
+            "|" | ".." if !follows_value => self.refuse("which it does not know without a value before it"),
             "::" if word_length(before) == 0 || word_length(next) == 0 => {
                 self.refuse("which it knows only between two words")
             }
@@ -491,25 +478,44 @@ impl<'a> Parser<'a> {
 
     /// VALUE as NUMBER. A cast to usize is exact if the number is compared just before: if NAME < 4294967296 { NAME as usize
     fn cast(&mut self) -> Result<()> {
-        let from = self.tokens[self.at - 1].to;
-        let name = self.before();
-        let just_before = self.texts(self.at.saturating_sub(6));
+        let (from, value) = (self.tokens[self.at - 1].to, self.before());
+        let is_compared = self.source.text[..from].ends_with(&format!("if {value} < 4294967296 {{ {value}"));
         self.form("as NUMBER")?;
-        if self.before() == "usize" && just_before != ["if", name, "<", "4294967296", "{", name] {
+        if self.before() == "usize" && !is_compared {
             let to = self.tokens[self.at - 1].to;
             self.calls.push((from, to, ".small()".to_string() + &line_ends(&self.source.text[from..to])));
         }
         Ok(())
     }
 
-    /// The beginning of a let, up to the type if it has one.
-    fn binding(&mut self) -> Result<()> {
-        self.form("let")?;
-        self.accept("mut");
-        self.form("NAME")?;
-        if self.accept(":") {
-            self.form("NUMBER")?;
+    /// The left side of `<<`. If it has more than what is shifted, as in `a | b << 1`, it has the same type or does not compile.
+    fn shifted(&mut self) -> Result<()> {
+        let depth = self.tokens[self.at].depth;
+        let begins_behind = |token: &Token| token.depth == depth && BEFORE_VALUES.contains(&token.text);
+        let first = self.tokens[..self.at].iter().rposition(begins_behind).map_or(0, |i| i + 1);
+        self.hold(first, self.at)
+    }
+
+    /// What stands behind `!`: a name with its fields, functions, arguments and indices, or a value in brackets.
+    fn inverted(&mut self) -> Result<()> {
+        let depth = self.tokens[self.at].depth;
+        let goes_on = |token: &&Token| match token.depth - depth {
+            0 => is_name(token.text) || is_number(token.text) || ["self", ".", "::"].contains(&token.text),
+            1 => token.text != "{",
+            _ => true,
+        };
+        let first = self.at + 1;
+        let count = self.tokens[first..].iter().take_while(goes_on).count();
+        self.hold(first, first + count)
+    }
+
+    /// Puts a call around tokens, that the compiler takes only if the value has the same width on every host.
+    fn hold(&mut self, first: usize, end: usize) -> Result<()> {
+        if first == end {
+            return self.refuse("beside no value that it knows");
         }
+        let (from, to) = (self.tokens[first].from, self.tokens[end - 1].to);
+        self.calls.extend([(from, from, "crate::fixed(".to_string()), (to, to, ")".to_string())]);
         Ok(())
     }
 
@@ -517,11 +523,8 @@ impl<'a> Parser<'a> {
 
     /// The source without what is erased, and with the calls if they are wanted.
     fn edited(&self, with_calls: bool) -> String {
-        let mut edits: Vec<&Edit> = self.erased.iter().collect();
-        if with_calls {
-            edits.extend(&self.calls);
-            edits.sort();
-        }
+        let mut edits: Vec<&Edit> = self.erased.iter().chain(self.calls.iter().filter(|_| with_calls)).collect();
+        edits.sort();
         let mut out = String::new();
         let mut at = 0;
         for (from, to, text) in edits {

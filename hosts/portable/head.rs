@@ -2,6 +2,7 @@
 // Nothing is proved of what a compiler makes of it.
 #![no_std]
 #![allow(dead_code, improper_ctypes_definitions, unused_imports, unused_variables)]
+#![cfg_attr(casts, allow(unused_parens))]
 
 // The proved bounds keep every usize below 2^32.
 const _: () = assert!(usize::BITS >= 32);
@@ -20,32 +21,34 @@ macro_rules! copied {
     };
 }
 
-// The numbers that any usize holds. With `--cfg casts`, casts to usize are calls of `small`, so that only these are cast.
+// With `--cfg casts`, casts to usize are calls of `small`, which only the numbers have that any usize holds, and what is
+// shifted to the left or inverted goes through `fixed`, which takes only what has the same width on every host.
 #[cfg(casts)]
-trait Small {
-    fn small(self) -> usize;
-}
+mod widths {
+    pub trait Small: Into<u32> {
+        fn small(self) -> usize {
+            self.into() as usize
+        }
+    }
 
-#[cfg(casts)]
-impl Small for u8 {
-    fn small(self) -> usize {
-        self as usize
+    impl Small for u8 {}
+    impl Small for u16 {}
+    impl Small for u32 {}
+
+    pub trait Fixed {}
+
+    impl Fixed for bool {}
+    impl Fixed for u8 {}
+    impl Fixed for u16 {}
+    impl Fixed for u32 {}
+    impl Fixed for u64 {}
+
+    pub fn fixed<T: Fixed>(value: T) -> T {
+        value
     }
 }
-
 #[cfg(casts)]
-impl Small for u16 {
-    fn small(self) -> usize {
-        self as usize
-    }
-}
-
-#[cfg(casts)]
-impl Small for u32 {
-    fn small(self) -> usize {
-        self as usize
-    }
-}
+use widths::{fixed, Small};
 
 // What a failed check does: an instruction that no processor runs, or else a loop without an end.
 #[cfg(not(unchecked))]
