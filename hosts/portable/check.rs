@@ -2,11 +2,11 @@
 //!
 //! usage: check PROJECT SRC
 //!
-//! - Line n of SRC/NAME.rs is line n of crates/NAME/src/lib.rt, or it is empty where that has ghost text: a `ghost use`, a clause
-//!   `requires { .. }` or `ensures { .. }` between the end of a function's parameters and the brace of its body, or `#[no_mangle]`.
-//!   No ghost text is left.
-//! - SRC/lib.rs is head.rs and then these parts, each once: a module for each crate, and for each declaration of the header a
-//!   function whose parameters are made from that declaration.
+//! - Line n of SRC/NAME.rs is line n of crates/NAME/src/lib.rt, or it is empty where that has ghost text: a `ghost use`, a
+//!   clause `requires { .. }` or `ensures { .. }` between the end of a function's parameters and the brace of its body, or
+//!   `#[no_mangle]`. No ghost text is left.
+//! - SRC/lib.rs is head.rs and then these parts, each once: a module for each crate, and for each declaration of the header
+//!   a function whose parameters are made from that declaration.
 
 use std::collections::BTreeSet;
 use std::path::Path;
@@ -183,7 +183,7 @@ struct Declaration {
 
 /// The declarations of a header, whose comments are blocks: uint32_t NAME(TYPE NAME, ..);
 fn declarations(header: &str) -> Result<Vec<Declaration>> {
-    let code: String = header.split("/*").enumerate().map(|(i, part)| if i == 0 { part } else { part.split_once("*/").map_or("", |p| p.1) }).collect();
+    let code: String = header.split("/*").map(|part| part.split_once("*/").map_or(part, |(_, code)| code)).collect();
     let mut found = Vec::new();
     for part in code.split("\nuint32_t ").skip(1) {
         let declared = part.split(';').next().unwrap_or("");
@@ -253,14 +253,16 @@ fn check_root(head: &str, crates: &[Crate], header: &[Declaration], root: &str) 
 }
 
 fn module_part(c: &Crate, crates: &[Crate]) -> String {
-    let uses = crates.iter().filter(|other| c.needs.contains(&other.name)).map(|other| format!("    use crate::{};\n", other.name));
+    let uses =
+        crates.iter().filter(|other| c.needs.contains(&other.name)).map(|other| format!("    use crate::{};\n", other.name));
     let types = c.text.lines().filter_map(|line| {
         let line = line.strip_prefix("pub ").unwrap_or(line);
         let rest = line.strip_prefix("struct ").or(line.strip_prefix("enum "))?;
         rest.split([' ', '(']).next()
     });
     format!(
-        "mod {0} {{\n    #[cfg(casts)]\n    use crate::Small;\n    use crate::std;\n{1}    include!(\"{0}.rs\");\n    copied!({2});\n}}",
+        "mod {0} {{\n    #[cfg(casts)]\n    use crate::Small;\n    use crate::std;\n{1}    \
+         include!(\"{0}.rs\");\n    copied!({2});\n}}",
         c.name,
         uses.collect::<String>(),
         types.collect::<Vec<_>>().join(", ")

@@ -3,7 +3,7 @@
 //! usage: erase PROJECT OUT
 //!
 //! It takes the crates of crates.txt that `blockheap` needs and that have code, and writes into OUT/src a crate without the
-//! standard library: NAME.rs has, line for line, crates/NAME/src/lib.rt. Only these texts are taken out, and leave empty lines:
+//! standard library: NAME.rs has, line for line, crates/NAME/src/lib.rt. Taken out are only these, and leave empty lines:
 //! - `ghost use ..;`
 //! - `requires { .. }` and `ensures { .. }` between a function's parameters and its body
 //! - `#[no_mangle]` before an entry point
@@ -28,11 +28,12 @@ const FUNCTIONS: [&str; 4] =
 /// The words of the language that may stand anywhere in a body.
 const WORDS_IN_BODIES: [&str; 12] =
     ["continue", "else", "false", "if", "let", "loop", "match", "mut", "return", "self", "true", "while"];
-/// The other words that are no names: they mean something in Rattle or in Rust, or are Rust's libraries.
-const NO_NAMES: [&str; 35] = [
-    "Self", "alloc", "as", "async", "await", "bool", "break", "const", "core", "crate", "dyn", "ensures", "enum", "extern",
-    "fn", "for", "ghost", "impl", "in", "mod", "move", "pub", "ref", "requires", "static", "std", "struct", "super",
-    "trait", "try", "type", "union", "unsafe", "use", "where",
+/// The other words that are no names: they mean something in Rattle or in Rust, or are Rust's types and libraries.
+const NO_NAMES: [&str; 45] = [
+    "Self", "alloc", "as", "async", "await", "bool", "break", "char", "const", "core", "crate", "dyn", "ensures", "enum",
+    "extern", "f32", "f64", "fn", "for", "ghost", "i128", "i16", "i64", "i8", "impl", "in", "isize", "mod", "move", "pub",
+    "ref", "requires", "static", "std", "str", "struct", "super", "trait", "try", "type", "u128", "union", "unsafe", "use",
+    "where",
 ];
 /// Longer signs first.
 const SIGNS: [&str; 34] = [
@@ -64,28 +65,22 @@ fn main() {
 
 fn erase_project(project: &Path, out: &Path) -> Result<()> {
     let crates = needed_crates(project)?;
-    let mut parsed = Vec::new();
-    for source in &crates {
-        parsed.push(Parser::of(source)?);
-    }
+    let mut parsed = crates.iter().map(Parser::of).collect::<Result<Vec<_>>>()?;
     // A crate of proofs has only `ghost use`, and the end.
     parsed.retain(|parser| parser.tokens.len() > parser.erased.len() + 1);
     let root = root(&parsed);
     for folder in ["src", "casts"] {
         let out = out.join(folder);
+        let write = |name: &str, text: &str| fs::write(out.join(name), text).map_err(|e| format!("{name}: {e}"));
         let _ = fs::remove_dir_all(&out);
         fs::create_dir_all(&out).map_err(|e| format!("{}: {e}", out.display()))?;
-        write(&out.join("lib.rs"), &root)?;
+        write("lib.rs", &root)?;
         for parser in &parsed {
-            write(&out.join(format!("{}.rs", parser.source.name)), &parser.edited(folder == "casts"))?;
+            write(&format!("{}.rs", parser.source.name), &parser.edited(folder == "casts"))?;
         }
     }
     println!("erased: {} crates, {} entry points", parsed.len(), parsed.iter().map(|p| p.entries.len()).sum::<usize>());
     Ok(())
-}
-
-fn write(path: &Path, text: &str) -> Result<()> {
-    fs::write(path, text).map_err(|e| format!("{}: {e}", path.display()))
 }
 
 /// The text of lib.rs.
@@ -462,9 +457,7 @@ impl<'a> Parser<'a> {
             "!" if is_name(before) => self.refuse("a macro"),
             "!" => self.inverted(),
             "|" | ".." if !follows_value => self.refuse("which it does not know without a value before it"),
-            "::" if word_length(before) == 0 || word_length(next) == 0 => {
-                self.refuse("which it knows only between two words")
-            }
+            "::" if word_length(before) == 0 || word_length(next) == 0 => self.refuse("which is not between two words"),
             _ if FUNCTIONS.iter().any(|function| rest.starts_with(function)) => Ok(()),
             _ if is_number(text) && next == "." => self.refuse("a number with a point"),
             _ if text.starts_with('\'') && (before == "continue" || next == ":") => Ok(()),
@@ -488,7 +481,7 @@ impl<'a> Parser<'a> {
         Ok(())
     }
 
-    /// The left side of `<<`. If it has more than what is shifted, as in `a | b << 1`, it has the same type or does not compile.
+    /// The left side of `<<`. With more than what is shifted, as in `a | b << 1`, it has the same type or does not compile.
     fn shifted(&mut self) -> Result<()> {
         let depth = self.tokens[self.at].depth;
         let begins_behind = |token: &Token| token.depth == depth && BEFORE_VALUES.contains(&token.text);
@@ -509,7 +502,7 @@ impl<'a> Parser<'a> {
         self.hold(first, first + count)
     }
 
-    /// Puts a call around tokens, that the compiler takes only if the value has the same width on every host.
+    /// Puts a call around tokens. The compiler takes it only if their value has the same width on every host.
     fn hold(&mut self, first: usize, end: usize) -> Result<()> {
         if first == end {
             return self.refuse("beside no value that it knows");
