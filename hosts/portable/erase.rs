@@ -472,7 +472,8 @@ impl<'a> Parser<'a> {
     /// VALUE as NUMBER. A cast to usize is exact if the number is compared just before: if NAME < 4294967296 { NAME as usize
     fn cast(&mut self) -> Result<()> {
         let (from, value) = (self.tokens[self.at - 1].to, self.before());
-        let is_compared = self.source.text[..from].ends_with(&format!("if {value} < 4294967296 {{ {value}"));
+        let words: Vec<&str> = self.tokens[self.at.saturating_sub(6)..self.at].iter().map(|token| token.text).collect();
+        let is_compared = words == ["if", value, "<", "4294967296", "{", value];
         self.form("as NUMBER")?;
         if self.before() == "usize" && !is_compared {
             let to = self.tokens[self.at - 1].to;

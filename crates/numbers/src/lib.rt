@@ -27,7 +27,11 @@ const END: u64 = 4294967296;
 pub fn clamped(n: u64) -> usize
     ensures { λ r. ⌜ r ≡ clampedTo n ⌝ }
 {
-    if n < 4294967296 { n as usize } else { 4294967295 }
+    if n < 4294967296 {
+        n as usize
+    } else {
+        4294967295
+    }
 }
 
 // The block that a search found or that an address is of, or none.
