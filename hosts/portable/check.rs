@@ -261,7 +261,7 @@ fn module_part(c: &Crate, crates: &[Crate]) -> String {
         rest.split([' ', '(']).next()
     });
     format!(
-        "mod {0} {{\n    #[cfg(casts)]\n    use crate::Small;\n    use crate::std;\n{1}    \
+        "mod {0} {{\n    #[cfg(casts)]\n    use crate::{{Below, Small}};\n    use crate::std;\n{1}    \
          include!(\"{0}.rs\");\n    copied!({2});\n}}",
         c.name,
         uses.collect::<String>(),

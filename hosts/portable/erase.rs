@@ -87,7 +87,7 @@ fn erase_project(project: &Path, out: &Path) -> Result<()> {
 fn root(crates: &[Parser]) -> String {
     let mut text = HEAD.to_string();
     for Parser { source, types, .. } in crates {
-        text += &format!("\nmod {} {{\n    #[cfg(casts)]\n    use crate::Small;\n    use crate::std;\n", source.name);
+        text += &format!("\nmod {} {{\n    #[cfg(casts)]\n    use crate::{{Below, Small}};\n    use crate::std;\n", source.name);
         for other in crates.iter().filter(|other| source.needs.contains(&other.source.name)) {
             text += &format!("    use crate::{};\n", other.source.name);
         }
@@ -469,15 +469,18 @@ impl<'a> Parser<'a> {
         Ok(())
     }
 
-    /// VALUE as NUMBER. A cast to usize is exact if the number is compared just before: if NAME < 4294967296 { NAME as usize
+    /// VALUE as NUMBER. A cast to usize is exact if the number is compared with one just before: if NAME < LIMIT as u64 { NAME as usize
     fn cast(&mut self) -> Result<()> {
         let (from, value) = (self.tokens[self.at - 1].to, self.before());
-        let words: Vec<&str> = self.tokens[self.at.saturating_sub(6)..self.at].iter().map(|token| token.text).collect();
-        let is_compared = words == ["if", value, "<", "4294967296", "{", value];
+        let words: Vec<&str> = self.tokens[self.at.saturating_sub(8)..self.at].iter().map(|token| token.text).collect();
+        let call = match words[..] {
+            ["if", name, "<", limit, "as", "u64", "{", _] if name == value && is_name(limit) => format!(".below({limit})"),
+            _ => ".small()".to_string(),
+        };
         self.form("as NUMBER")?;
-        if self.before() == "usize" && !is_compared {
+        if self.before() == "usize" {
             let to = self.tokens[self.at - 1].to;
-            self.calls.push((from, to, ".small()".to_string() + &line_ends(&self.source.text[from..to])));
+            self.calls.push((from, to, call + &line_ends(&self.source.text[from..to])));
         }
         Ok(())
     }

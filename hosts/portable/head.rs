@@ -21,8 +21,9 @@ macro_rules! copied {
     };
 }
 
-// With `--cfg casts`, casts to usize are calls of `small`, which only the numbers have that any usize holds, and what is
-// shifted to the left or inverted goes through `fixed`, which takes only what has the same width on every host.
+// With `--cfg casts`, casts to usize are calls of `small`, which only the numbers have that any usize holds, or of `below`, for a
+// number that was compared with a usize just before. And what is shifted to the left or inverted goes through `fixed`, which
+// takes only what has the same width on every host.
 #[cfg(casts)]
 mod widths {
     pub trait Small: Into<u32> {
@@ -34,6 +35,14 @@ mod widths {
     impl Small for u8 {}
     impl Small for u16 {}
     impl Small for u32 {}
+
+    pub trait Below: Into<u64> {
+        fn below(self, limit: usize) -> usize {
+            limit.min(self.into() as usize)
+        }
+    }
+
+    impl Below for u64 {}
 
     pub trait Fixed {}
 
@@ -48,7 +57,7 @@ mod widths {
     }
 }
 #[cfg(casts)]
-use widths::{fixed, Small};
+use widths::{fixed, Below, Small};
 
 // What a failed check does: an instruction that no processor runs, or else a loop without an end.
 #[cfg(not(unchecked))]

@@ -1,7 +1,7 @@
 // Numbers by kind: blocks, addresses and bytes, and the change in used blocks. Only this crate's functions make a number of a kind or pass between
 // the kinds: the fields are private.
 ghost use mathlib.Core.Path.{_≡_};
-ghost use Prim.Native.Nat.{_+_, _-_, _*_, _≤_, _<_, _^_};
+ghost use Prim.Native.Nat.{_+_, _-_, _*_, _≤_, _<_, _^_, min};
 ghost use lib.Dec.{eqb, leb, ltb};
 ghost use lib.IntN.{pos, negℤ, subℕ};
 ghost use lib.ListN.{length};
@@ -23,15 +23,22 @@ pub struct Bytes(usize);
 // The first number that is no address.
 const END: u64 = 4294967296;
 
+// The number, or the limit if it is larger. Only here does a number of 64 bits become a usize.
+fn at_most(limit: usize, n: u64) -> usize
+    ensures { λ r. ⌜ r ≡ min n limit ⌝ }
+{
+    if n < limit as u64 {
+        n as usize
+    } else {
+        limit
+    }
+}
+
 // A number that a caller gave, or the largest of 32 bits if it is larger: every host's usize holds it, and no call tells the two apart.
 pub fn clamped(n: u64) -> usize
     ensures { λ r. ⌜ r ≡ clampedTo n ⌝ }
 {
-    if n < 4294967296 {
-        n as usize
-    } else {
-        4294967295
-    }
+    at_most(4294967295, n)
 }
 
 // The block that a search found or that an address is of, or none.
@@ -252,7 +259,6 @@ impl Address {
 
     // The block of n blocks from this base on whose address is the word w.
     pub fn target(self, n: usize, w: u32) -> Found
-        requires { ⌜ n < 2 ^ 32 ⌝ }
         ensures { λ r. ⌜ found r ≡ targetOf (self .0) n w ⌝ }
     {
         self.block_at(n, Address::of_word(w))
@@ -260,7 +266,6 @@ impl Address {
 
     // The block of n blocks from this base on that has this address.
     pub fn block_at(self, n: usize, at: Address) -> Found
-        requires { ⌜ n < 2 ^ 32 ⌝ }
         ensures { λ r. ⌜ found r ≡ targetOf (self .0) n (at .0) ⌝ }
     {
         let base = self.0;
@@ -272,7 +277,7 @@ impl Address {
         if d % 16 != 0 {
             return Found::Nowhere;
         }
-        let k = clamped(d / 16);
+        let k = at_most(n, d / 16);
         if k < n {
             Found::At(Block(k))
         } else {

@@ -14,7 +14,7 @@ use Rattle.rules.specs.Tables.{entryAt}
 use Rattle.rules.specs.Pointers.{targetOf}
 use Rattle.rules.specs.Planes.{entriesIn}
 use Rattle.rules.specs.Marking.{state, trace}
-use Rattle.laws.proofs.Planes.{few-entries, same-length as as-many}
+use Rattle.laws.proofs.Planes.{same-length as as-many}
 use Rattle.laws.proofs.Tables.{start-says}
 use Rattle.laws.proofs.Marking.{head-inside}
 use Rattle.visitor.specs.Variables.{contextOf, idle}
@@ -27,9 +27,7 @@ blocks-requires : tie.Need-blocks-requires
 blocks-requires c κs = search needs
 
 target-requires : tie.Need-target-requires
-target-requires c κs =
-    let start = c .before .before .before .before in
-    omega (arith, c .blocks2 .ensures (start .args .table .now), few-entries (start .args .t) (start .args .table .now) (start .pre .is-table))
+target-requires c κs = search needs
 
 enum-known-target : tie.Need-enum-known-target
 enum-known-target c = search needs

@@ -13,7 +13,6 @@ use Rattle.rules.specs.Tables.{entryAt}
 use Rattle.rules.specs.Planes.{entriesIn}
 use Rattle.rules.specs.Pointers.{targetOf}
 use Rattle.laws.proofs.Tables.{start-own}
-use Rattle.laws.proofs.Planes.{few-entries}
 use Rattle.visitor.specs.Variables.{contextOf, stateOf}
 use Rattle.visitor.proofs.Pointing.{target-inside, visit-takes, visit-stays, visit-target, visit-none}
 use Rattle.visitor.proofs.Stacking.{came-to}
@@ -24,9 +23,7 @@ blocks-requires : tie.Need-blocks-requires
 blocks-requires c κs = search needs
 
 target-requires : tie.Need-target-requires
-target-requires c κs =
-    let start = c .before .before .before in
-    omega (arith, c .blocks2 .ensures (start .args .table .now), few-entries (start .args .t) (start .args .table .now) (start .pre .0))
+target-requires c κs = search needs
 
 enum-known-target : tie.Need-enum-known-target
 enum-known-target c = search needs
