@@ -68,6 +68,7 @@ fn erase_project(project: &Path, out: &Path) -> Result<()> {
     let mut parsed = crates.iter().map(Parser::of).collect::<Result<Vec<_>>>()?;
     // A crate of proofs has only `ghost use`, and the end.
     parsed.retain(|parser| parser.tokens.len() > parser.erased.len() + 1);
+    check_methods(&parsed)?;
     let root = root(&parsed);
     for folder in ["src", "casts"] {
         let out = out.join(folder);
@@ -80,6 +81,19 @@ fn erase_project(project: &Path, out: &Path) -> Result<()> {
         }
     }
     println!("erased: {} crates, {} entry points", parsed.len(), parsed.iter().map(|p| p.entries.len()).sum::<usize>());
+    Ok(())
+}
+
+/// A method is a function of the source, or the length of a slice: those that Rust's own numbers and slices have are not known.
+fn check_methods(crates: &[Parser]) -> Result<()> {
+    let pairs = crates.iter().flat_map(|parser| parser.tokens.windows(2));
+    let known: Vec<&str> = pairs.filter(|pair| pair[0].text == "fn").map(|pair| pair[1].text).chain(["len"]).collect();
+    let is_unknown = |call: &&[Token]| call[0].text == "." && call[2].text == "(" && !known.contains(&call[1].text);
+    for parser in crates {
+        if let Some(call) = parser.tokens.windows(3).find(is_unknown) {
+            return parser.source.refuse(call[1].from, &format!("`{}`, a method that no crate has", call[1].text));
+        }
+    }
     Ok(())
 }
 
