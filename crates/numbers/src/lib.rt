@@ -27,11 +27,7 @@ const END: u64 = 4294967296;
 fn at_most(limit: usize, n: u64) -> usize
     ensures { λ r. ⌜ r ≡ min n limit ⌝ }
 {
-    if n < limit as u64 {
-        n as usize
-    } else {
-        limit
-    }
+    if n < limit as u64 { n as usize } else { limit }
 }
 
 // A number that a caller gave, or the largest of 32 bits if it is larger: every host's usize holds it, and no call tells the two apart.
