@@ -483,12 +483,15 @@ impl<'a> Parser<'a> {
         Ok(())
     }
 
-    /// VALUE as NUMBER. A cast to usize is exact if the number is compared with one just before: if NAME < LIMIT as u64 { NAME as usize
+    /// VALUE as NUMBER. A cast to usize is exact if the number is compared with one just before: if NAME < LIMIT as u64 { NAME as usize,
+    /// where only names of functions may stand before the cast.
     fn cast(&mut self) -> Result<()> {
         let (from, value) = (self.tokens[self.at - 1].to, self.before());
-        let words: Vec<&str> = self.tokens[self.at.saturating_sub(8)..self.at].iter().map(|token| token.text).collect();
+        let is_function = |token: &Token| is_name(token.text) || ["::", "("].contains(&token.text);
+        let begin = self.tokens[..self.at].iter().rposition(|token| !is_function(token)).map_or(0, |i| i + 1);
+        let words: Vec<&str> = self.tokens[begin.saturating_sub(7)..begin].iter().map(|token| token.text).collect();
         let call = match words[..] {
-            ["if", name, "<", limit, "as", "u64", "{", _] if name == value && is_name(limit) => format!(".below({limit})"),
+            ["if", name, "<", limit, "as", "u64", "{"] if name == value && is_name(limit) => format!(".below({limit})"),
             _ => ".small()".to_string(),
         };
         self.form("as NUMBER")?;

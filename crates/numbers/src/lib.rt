@@ -1,7 +1,7 @@
 // Numbers by kind: blocks, addresses and bytes, and the change in used blocks. Only this crate's functions make a number of a kind or pass between
 // the kinds: the fields are private.
 ghost use mathlib.Core.Path.{_≡_};
-ghost use Prim.Native.Nat.{_+_, _-_, _*_, _≤_, _<_, _^_, min};
+ghost use Prim.Native.Nat.{_+_, _-_, _*_, _≤_, _<_, _^_};
 ghost use lib.Dec.{eqb, leb, ltb};
 ghost use lib.IntN.{pos, negℤ, subℕ};
 ghost use lib.ListN.{length};
@@ -23,18 +23,18 @@ pub struct Bytes(usize);
 // The first number that is no address.
 const END: u64 = 4294967296;
 
-// The number, or the limit if it is larger. Only here does a number of 64 bits become a usize.
-fn at_most(limit: usize, n: u64) -> usize
-    ensures { λ r. ⌜ r ≡ min n limit ⌝ }
-{
-    if n < limit as u64 { n as usize } else { limit }
-}
+// The largest number of 32 bits.
+const LARGEST: usize = 4294967295;
 
 // A number that a caller gave, or the largest of 32 bits if it is larger: every host's usize holds it, and no call tells the two apart.
 pub fn clamped(n: u64) -> usize
     ensures { λ r. ⌜ r ≡ clampedTo n ⌝ }
 {
-    at_most(4294967295, n)
+    if n < LARGEST as u64 {
+        n as usize
+    } else {
+        LARGEST
+    }
 }
 
 // The block that a search found or that an address is of, or none.
@@ -273,9 +273,9 @@ impl Address {
         if d % 16 != 0 {
             return Found::Nowhere;
         }
-        let k = at_most(n, d / 16);
-        if k < n {
-            Found::At(Block(k))
+        let k = d / 16;
+        if k < n as u64 {
+            Found::At(Block(k as usize))
         } else {
             Found::Nowhere
         }
