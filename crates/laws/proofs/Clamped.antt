@@ -1,12 +1,12 @@
 -- Clamping changes no answer: every call gives one outcome for all numbers above 65,536, whatever else it is given.
 -- Assumes nothing.
 use mathlib.Core.Path.{_≡_, refl, sym, ap, _∙_}
-use mathlib.Core.Bool.{Bool, true, false, not}
+use mathlib.Core.Bool.{Bool, true, false}
 use mathlib.Core.List.{List, [], _∷_, _++_}
-use Prim.Native.Nat.{ℕ, zero, suc, _+_, _*_, _^_, _≤_, _<_}
+use Prim.Native.Nat.{ℕ, zero, suc, _*_, _^_, _<_}
 use native.Mathlib.Decide.{decLt}
 use native.Mathlib.Omega.{arith}
-use lib.Dec.{eqb, leb}
+use lib.Dec.{eqb}
 use lib.ListN.{length}
 use borrow.Author.Tests.{le-leb, ne-eqb, eqb-true, eqb-false}
 use Rattle.rules.specs.Tests.{pick}
@@ -18,7 +18,7 @@ use Rattle.rules.specs.Refusals.{Test, test, firstOf, goodShape, goodRoots, goo
 use Rattle.rules.specs.Calls.{init, allocate, free, isNoWay, wayOf, reallocate, collect, survey, load, store, writeImage, goodTarget, openImage}
 use Rattle.rules.specs.Files.{sectionTests, fileOf, fileTests, faultOf, baseOf, heapOfFile}
 use Rattle.rules.specs.Runs.{Call, Init, Allocate, Free, Reallocate, Collect, Survey, Load, Store, WriteImage, OpenImage, step}
-use Rattle.rules.specs.Memory.{Memory, Result, result, perform, heapIn, faultIn, stackFor}
+use Rattle.rules.specs.Memory.{Memory, result, perform, heapIn, faultIn, stackFor}
 use Rattle.laws.specs.Meaning.{Passed, Named}
 use Rattle.laws.specs.Clamped.{clamped}
 use Rattle.laws.proofs.Refusals.{numbered, first-yes, first-no, first-more, first-less, refuses, passed, named, shape-not}

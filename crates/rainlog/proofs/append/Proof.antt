@@ -10,7 +10,7 @@ use borrow.Author.Needs.{needs}
 use borrow.Author.Tests.{leb-false}
 use Rattle.rules.specs.Forms.{Form}
 use Rattle.rules.specs.Memory.{Memory}
-use Rattle.programs.specs.Programs.{Program, Ran, run}
+use Rattle.programs.specs.Programs.{Ran, run}
 use Rattle.logs.specs.Log.{Reply, decline}
 use Rattle.rainlog.specs.Answers.{tested, Tests}
 use Rattle.laws.proofs.Refusals.{not-true, not-false}
