@@ -27,7 +27,7 @@ pub fn allocate(base: Address, t: usize, pool: &mut [u8], table: &mut [u8], byte
         return objects::unplaced(r);
     }
     if !bytes.fits_in(&*pool) {
-        return objects::unplaced(9);
+        return objects::unplaced(refusals::NO_ROOM);
     }
     let count = bytes.blocks();
     match table::first_fit(t, &*table, count) {
@@ -39,7 +39,7 @@ pub fn allocate(base: Address, t: usize, pool: &mut [u8], table: &mut [u8], byte
                 change: numbers::difference(count, 0),
             }
         }
-        Found::Nowhere => objects::unplaced(9),
+        Found::Nowhere => objects::unplaced(refusals::NO_ROOM),
     }
 }
 
@@ -76,7 +76,7 @@ pub fn reallocate(
         return objects::unplaced(r);
     }
     if !bytes.fits_in(&*pool) {
-        return objects::unplaced(9);
+        return objects::unplaced(refusals::NO_ROOM);
     }
     let old = table::block_count(t, &*table, k);
     let new = bytes.blocks();

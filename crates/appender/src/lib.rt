@@ -78,7 +78,7 @@ fn add_again(
     let a = allocator::allocate(base, t, &mut *pool, &mut *table, Bytes::of_blocks(2));
     if a.refusal != 0 {
         return Logged {
-            refusal: 9,
+            refusal: refusals::NO_ROOM,
             first: 0,
             change: c.change,
         };

@@ -50,14 +50,14 @@ fn advance(base: Address, t: usize, pool: &[u8], table: &[u8], w: Walk, index: u
     requires { ⌜ AcceptedIn (perform (planes t) (Survey (base .0)) [] (memory (now pool) (now table))) × (w .count < 4096) ⌝ }
     ensures { λ r. ⌜ Steps index w (linkFrom (loadsIn (base .0) t (now (pool .entry)) (now (table .entry))) (targetOf (base .0) 4096 (w .at .0))) r ⌝ }
 {
-    let there = base.block_at(4096, w.at);
+    let there = base.block_at(refusals::MAX_BLOCKS, w.at);
     let Found::At(k) = there else {
         return broken();
     };
     if heap::load_checked(base, t, pool, table, k, 7).refusal != 0 {
         return broken();
     }
-    if heap::load_checked(base, t, pool, table, k, 8).refusal != 8 {
+    if heap::load_checked(base, t, pool, table, k, 8).refusal != refusals::NO_SUCH_WORD {
         return broken();
     }
     let next = heap::load_checked(base, t, pool, table, k, 0).value;
@@ -90,7 +90,7 @@ pub fn follow(
         last: Block::first(),
         wanted: Block::first(),
     };
-    while w.count < 4096 {
+    while w.count < refusals::MAX_BLOCKS {
         if w.at.is_zero() {
             return w;
         }

@@ -20,7 +20,7 @@ pub fn good_shape(base: Address, t: usize, pool: &[u8], table: &[u8]) -> bool
     if t < 1 {
         return false;
     }
-    if 1024 < t {
+    if refusals::MAX_T < t {
         return false;
     }
     if !entries::fits(t, table) {
@@ -49,10 +49,10 @@ pub fn heap(base: Address, t: usize, pool: &[u8], table: &[u8]) -> u32
     ensures { λ r. ⌜ r ≡ refusalBy t (now (pool .entry)) (now (table .entry)) (λ (h : Heap). heapTests (base .0) h) ⌝ }
 {
     if !good_shape(base, t, pool, table) {
-        return 1;
+        return refusals::BAD_SHAPE;
     }
     if !is_sound(t, table) {
-        return 2;
+        return refusals::BAD_TABLE;
     }
     0
 }
@@ -66,7 +66,7 @@ pub fn request(base: Address, t: usize, pool: &[u8], table: &[u8], bytes: Bytes)
         return r;
     }
     if bytes.is_zero() {
-        return 5;
+        return refusals::ZERO_BYTES;
     }
     0
 }
@@ -99,10 +99,10 @@ fn named(t: usize, table: &[u8], k: Block) -> u32
     ensures { λ r. ⌜ r ≡ firstOf (nameTests (heapAt t [] (now (table .entry))) (k .0)) ⌝ }
 {
     if !k.is_below(entries::blocks(t)) {
-        return 6;
+        return refusals::NO_SUCH_BLOCK;
     }
     if !entries::is_head(t, table, k) {
-        return 7;
+        return refusals::NOT_A_HEAD;
     }
     0
 }
@@ -117,7 +117,7 @@ pub fn object_word(t: usize, table: &[u8], k: Block, i: usize) -> u32
         return r;
     }
     if 4 * table::block_count(t, table, k) <= i {
-        return 8;
+        return refusals::NO_SUCH_WORD;
     }
     0
 }
@@ -138,14 +138,14 @@ pub fn root_list(base: Address, t: usize, pool: &[u8], table: &[u8], bytes: usiz
     ensures { λ r. ⌜ ((roots : List ℕ) → length roots ≡ bytes → r ≡ refusalBy t (now (pool .entry)) (now (table .entry)) (λ (h : Heap). rootTests (base .0) h roots)) ⌝ }
 {
     if bytes % 4 != 0 {
-        return 1;
+        return refusals::BAD_SHAPE;
     }
     let r = heap(base, t, pool, table);
     if r != 0 {
         return r;
     }
-    if 4096 < bytes / 4 {
-        return 3;
+    if refusals::MAX_ROOTS < bytes / 4 {
+        return refusals::TOO_MANY_ROOTS;
     }
     0
 }
@@ -163,14 +163,14 @@ pub fn collection(
         → r ≡ refusalBy t (now (pool .entry)) (now (table .entry)) (λ (h : Heap). collectionTests (base .0) h roots (now (stack .entry)))) ⌝ }
 {
     if stack.len() % 4 != 0 {
-        return 1;
+        return refusals::BAD_SHAPE;
     }
     let r = root_list(base, t, pool, table, bytes);
     if r != 0 {
         return r;
     }
-    if 64 < stack.len() / 4 {
-        return 4;
+    if refusals::MAX_STACK_ENTRIES < stack.len() / 4 {
+        return refusals::STACK_TOO_LONG;
     }
     0
 }

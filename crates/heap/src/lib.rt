@@ -28,7 +28,7 @@ pub fn init(base: Address, t: usize, pool: &[u8], table: &mut [u8]) -> u32
     ensures { λ r. ⌜ status r (now (pool .entry)) (now (table .exit)) ≡ perform (planes t) (Init (base .0)) [] (memory (now (pool .entry)) (now (table .entry))) ⌝ }
 {
     if !checks::good_shape(base, t, pool, &*table) {
-        return 1;
+        return refusals::BAD_SHAPE;
     }
     entries::clear(table);
     0

@@ -70,7 +70,7 @@ pub fn write(
     let used = whole::count(t, table).used;
     let length = 12 + t + 16 * used + roots.len();
     if image.len() < length {
-        return unwritten(10);
+        return unwritten(refusals::OUTPUT_TOO_SHORT);
     }
     write_sections(base, t, pool, table, roots, image, used);
     Written {

@@ -116,6 +116,6 @@ pub fn relocate(
                 change: numbers::difference(new, old),
             }
         }
-        Found::Nowhere => unplaced(9),
+        Found::Nowhere => unplaced(refusals::NO_ROOM),
     }
 }

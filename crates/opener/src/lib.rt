@@ -25,21 +25,21 @@ fn check(image: &[u8], file: File, t: usize, pool: &[u8], table: &[u8], roots: &
     ensures { λ r. ⌜ r ≡ firstOf (lentTests t (now (image .entry)) (now (pool .entry)) (now (table .entry)) (length (now (roots .entry)))) ⌝ }
 {
     if file.t != t {
-        return 1;
+        return refusals::BAD_SHAPE;
     }
     if roots.len() % 4 != 0 {
-        return 1;
+        return refusals::BAD_SHAPE;
     }
     if !checks::good_shape(Address::of_number(file.base as u64), t, pool, table) {
-        return 1;
+        return refusals::BAD_SHAPE;
     }
     let end = 8 + t;
     let packed = &image[8..end];
     if !packing::well_formed(packed) {
-        return 2;
+        return refusals::BAD_TABLE;
     }
     if roots.len() < 4 * file.roots {
-        return 17;
+        return refusals::ROOTS_TOO_SHORT;
     }
     0
 }

@@ -40,7 +40,7 @@ impl Kind {
             size: 4,
             fewest: 1,
             most: 1,
-            wrong: 15,
+            wrong: refusals::BAD_COUNT,
         }
     }
 
@@ -51,8 +51,8 @@ impl Kind {
         Kind {
             size: 1,
             fewest: 1,
-            most: 1024,
-            wrong: 15,
+            most: refusals::MAX_T,
+            wrong: refusals::BAD_COUNT,
         }
     }
 
@@ -64,7 +64,7 @@ impl Kind {
             size: 16,
             fewest: count,
             most: count,
-            wrong: 15,
+            wrong: refusals::BAD_COUNT,
         }
     }
 
@@ -75,8 +75,8 @@ impl Kind {
         Kind {
             size: 4,
             fewest: 0,
-            most: 4096,
-            wrong: 3,
+            most: refusals::MAX_ROOTS,
+            wrong: refusals::TOO_MANY_ROOTS,
         }
     }
 
@@ -109,7 +109,7 @@ fn section_at(image: &[u8], at: usize, kind: Kind) -> Section
 {
     let left = image.len() - at;
     if left < 2 {
-        return no_section(14);
+        return no_section(refusals::IMAGE_TRUNCATED);
     }
     let count = memory::two_bytes(image, at);
     if !kind.allows(count) {
@@ -117,7 +117,7 @@ fn section_at(image: &[u8], at: usize, kind: Kind) -> Section
     }
     let size = kind.size * count;
     if left - 2 < size {
-        return no_section(14);
+        return no_section(refusals::IMAGE_TRUNCATED);
     }
     Section {
         fault: 0,
@@ -162,7 +162,7 @@ pub fn parse(image: &[u8]) -> File
         return no_file(roots.fault);
     }
     if roots.end < image.len() {
-        return no_file(16);
+        return no_file(refusals::TRAILING_BYTES);
     }
     File {
         fault: 0,

@@ -23,20 +23,20 @@ fn check(base: Address, t: usize, pool: &[u8], table: &[u8], roots: &[u8], stack
     ensures { λ r. ⌜ Tests (planes t) (base .0) (now (roots .entry)) (now (stack .entry)) (memory (now (pool .entry)) (now (table .entry))) r ⌝ }
 {
     if roots.len() % 4 != 0 {
-        return 1;
+        return refusals::BAD_SHAPE;
     }
     if stack.len() % 4 != 0 {
-        return 1;
+        return refusals::BAD_SHAPE;
     }
     let r = heap::check(base, t, pool, table);
     if r != 0 {
         return r;
     }
-    if 4096 <= roots.len() / 4 {
-        return 3;
+    if refusals::MAX_ROOTS <= roots.len() / 4 {
+        return refusals::TOO_MANY_ROOTS;
     }
-    if 64 < stack.len() / 4 {
-        return 4;
+    if refusals::MAX_STACK_ENTRIES < stack.len() / 4 {
+        return refusals::STACK_TOO_LONG;
     }
     0
 }
@@ -62,7 +62,7 @@ pub fn append(
     }
     let w = chain::follow(base, t, &*pool, &*table, first, 0);
     if !w.whole {
-        return unlogged(18);
+        return unlogged(refusals::NO_LOG);
     }
     appender::add(
         base,
@@ -106,10 +106,10 @@ pub fn read(
     }
     let w = chain::follow(base, t, pool, table, first, index);
     if !w.whole {
-        return unread(18);
+        return unread(refusals::NO_LOG);
     }
     if w.count as u64 <= index {
-        return unread(19);
+        return unread(refusals::NO_ENTRY);
     }
     let time = heap::load_checked(base, t, pool, table, w.wanted, 1).value;
     let tips = heap::load_checked(base, t, pool, table, w.wanted, 2).value;
@@ -141,10 +141,10 @@ pub fn drop(base: Address, t: usize, pool: &[u8], table: &mut [u8], first: Addre
     }
     let w = chain::follow(base, t, pool, &*table, first, 0);
     if !w.whole {
-        return unlogged(18);
+        return unlogged(refusals::NO_LOG);
     }
     if w.count == 0 {
-        return unlogged(19);
+        return unlogged(refusals::NO_ENTRY);
     }
     let next = heap::load_checked(base, t, pool, &*table, w.wanted, 0).value;
     let freed = allocator::free(base, t, pool, table, w.wanted);
