@@ -1,6 +1,7 @@
 -- All guarantees, each by its theorem.
 -- Assumes nothing.
 use Rattle.rules.specs.Examples.{examples-hold, examples-number, words-hold}
+use Rattle.rules.specs.Limits.{limits-hold, limits-number, lengths-hold}
 use Rattle.rules.specs.Orders.{orders-hold, orders-number}
 use Rattle.rules.specs.PlaneExamples.{plane-examples-hold, plane-examples-number, plane-refusals}
 use Rattle.rules.specs.ImageExamples.{image-examples-hold, image-examples-number}
@@ -39,6 +40,9 @@ guarantees = record {
   examples-number = examples-number;
   orders-number = orders-number;
   words-hold = words-hold;
+  limits-hold = limits-hold;
+  limits-number = limits-number;
+  lengths-hold = lengths-hold;
   plane-examples-hold = plane-examples-hold;
   plane-examples-number = plane-examples-number;
   plane-refusals = plane-refusals;

@@ -6,6 +6,7 @@ use mathlib.Core.List.{[], _∷_, map}
 use lib.ListN.{length}
 use Rattle.rules.specs.Words.{wordAt, bytesOf}
 use Rattle.rules.specs.Examples.{Example, examples}
+use Rattle.rules.specs.Limits.{limits, Lengths}
 use Rattle.rules.specs.Orders.{orders}
 use Rattle.rules.specs.PlaneExamples.{PlaneExample, planeExamples, PlaneRefusals}
 use Rattle.rules.specs.ImageExamples.{ImageExample, imageExamples}
@@ -34,13 +35,16 @@ use Rattle.requests.specs.Sums.{RequestsSum}
 use Rattle.guarantees.specs.EntryPoints.{EntryPoints}
 
 pub record Guarantees : Type 2 where
-  -- The worked examples 1 to 12, a chain through the middle of an object, a rescan, large objects and a load come out, the order of the marking shows in its rescans, and words have their lowest byte first; the worked examples come
-  -- out in the bytes of two planes too, where a spare bit is refused by 2, and another t or another length by 1.
+  -- The worked examples 1 to 12, a chain through the middle of an object, a rescan, large objects and a load come out, the order of the marking shows in its rescans, words have their lowest byte first, and the limits, with
+  -- the worked examples 13 to 15, are held from both sides; 1 to 12 come out in the bytes of two planes too, where a spare bit is refused by 2, and another t or another length by 1.
   pub examples-hold : map (λ (x : Example). x .is) examples ≡ map (λ (x : Example). x .ought) examples
   pub orders-hold : map (λ (x : Example). x .is) orders ≡ map (λ (x : Example). x .ought) orders
   pub examples-number : length examples ≡ 44
   pub orders-number : length orders ≡ 4
   pub words-hold : (wordAt (0 ∷ 16 ∷ 0 ∷ 0 ∷ []) 0 ≡ 4096) × (bytesOf 4096 ≡ 0 ∷ 16 ∷ 0 ∷ 0 ∷ [])
+  pub limits-hold : map (λ (x : Example). x .is) limits ≡ map (λ (x : Example). x .ought) limits
+  pub limits-number : length limits ≡ 11
+  pub lengths-hold : Lengths
   pub plane-examples-hold : map (λ (x : PlaneExample). x .is) planeExamples ≡ map (λ (x : PlaneExample). x .ought) planeExamples
   pub plane-examples-number : length planeExamples ≡ 29
   pub plane-refusals : PlaneRefusals

@@ -16,6 +16,7 @@ pub mod Forms
 pub mod Planes
 pub mod Memory
 pub mod Examples
+pub mod Limits
 pub mod Orders
 pub mod PlaneExamples
 pub mod ImageExamples

@@ -1,0 +1,77 @@
+-- The limits, from both sides: the worked examples 13 to 15, surveys, a request that is too large, and by which number lists that are too long are refused.
+-- In heaps of 8 blocks, computed as Examples has it.
+-- Assumes nothing.
+use mathlib.Core.Path.{_≡_, refl}
+use mathlib.Core.List.{List, [], _∷_, map}
+use mathlib.Core.Option.{some, none}
+use Prim.Native.Nat.{ℕ, _*_}
+use lib.IntN.{ℤ}
+use lib.ListN.{length}
+use Rattle.rules.specs.Tests.{count, leading}
+use Rattle.rules.specs.Words.{number, wordAt}
+use Rattle.rules.specs.Entries.{entryOf, entriesOf, tableOf}
+use Rattle.rules.specs.Tables.{mayFollow, wellAfter, wellFormed, blockCount, freeFrom, aligned, fits, firstFrom, firstFit, used, objects, longest}
+use Rattle.rules.specs.Pointers.{addressOf, goodBase, targetOf}
+use Rattle.rules.specs.Outcomes.{Heap, onlyRefusal, surveyed, loaded, unlessRefused}
+use Rattle.rules.specs.Refusals.{firstOf, goodShape, wholeWords, heapTests, collectionTests}
+use Rattle.rules.specs.Calls.{blocksFor, allocate, reallocate, survey, load}
+use Rattle.rules.specs.Examples.{Example, example, zeros, stale, small}
+
+unfoldable pub limits : List Example
+limits =
+    -- 13: eight blocks end with the address space at base 4,294,967,168; the lowest base is 16; every base is a multiple of 16
+    example (survey 4294967168 (small 1 0)) (surveyed 1 1 7) (1 ∷ 0 ∷ []) stale
+    ∷ example (survey 4294967184 (small 1 0)) (onlyRefusal 1) (1 ∷ 0 ∷ []) stale
+    ∷ example (survey 16 (small 1 0)) (surveyed 1 1 7) (1 ∷ 0 ∷ []) stale
+    ∷ example (survey 0 (small 1 0)) (onlyRefusal 1) (1 ∷ 0 ∷ []) stale
+    ∷ example (survey 4104 (small 1 0)) (onlyRefusal 1) (1 ∷ 0 ∷ []) stale
+    -- 14: the last word of an object of four blocks, and the word directly behind it
+    ∷ example (load 4096 (small 165 169) 4 15) (loaded 0x0707_0707) (165 ∷ 169 ∷ []) stale
+    ∷ example (load 4096 (small 165 169) 4 16) (onlyRefusal 8) (165 ∷ 169 ∷ []) stale
+    -- 15: no bytes for a block that is none
+    ∷ example (reallocate 4096 (small 165 169) 8 0) (onlyRefusal 5) (165 ∷ 169 ∷ []) stale
+    -- the longest run is neither the first nor the last; one that ends with the table, behind an object of two blocks
+    ∷ example (survey 4096 (small 4 4)) (surveyed 2 2 3) (4 ∷ 4 ∷ []) stale
+    ∷ example (survey 4096 (small 37 0)) (surveyed 3 2 5) (37 ∷ 0 ∷ []) stale
+    -- 2^32 + 1 bytes, of which the lowest 32 bits are 1
+    ∷ example (allocate 4096 (small 0 0) 0x1_0000_0001) (onlyRefusal 9) (0 ∷ 0 ∷ []) stale
+    ∷ []
+
+-- there are so many
+pub limits-number : length limits ≡ 11
+unfolding limits
+limits-number = refl
+
+-- every example is as it should be
+pub limits-hold : map (λ (x : Example). x .is) limits ≡ map (λ (x : Example). x .ought) limits
+unfolding limits count leading number wordAt entryOf entriesOf tableOf mayFollow wellAfter wellFormed blockCount freeFrom aligned fits firstFrom firstFit used objects longest addressOf goodBase unlessRefused firstOf goodShape blocksFor allocate reallocate survey load
+limits-hold = refl
+
+-- ---- by which number a call is refused. To compute all of a call with lists of such lengths would take long
+
+-- a collection with so many bytes of roots and of mark stack
+abbrev pub collectionOf : ℕ → ℕ → ℕ
+collectionOf roots stack = firstOf (collectionTests 4096 (small 1 0) (zeros roots) (zeros stack))
+
+-- a call on a heap of so many FREE blocks
+abbrev pub heapOfBlocks : ℕ → ℕ
+heapOfBlocks n = firstOf (heapTests 4096 (record { pool = zeros (16 * n); entries = zeros n }))
+
+-- 4,096 roots and a mark stack of 64 entries are accepted; one root more is 3, one entry more 4, and half a word in either list 1. 4,096 blocks are accepted; 4,100, and none, are 1.
+-- The address of the last block has that as its target, the address behind it none.
+abbrev pub Lengths : Type 0
+Lengths =
+    (collectionOf 16384 256 ≡ 0)
+    × (collectionOf 16388 256 ≡ 3)
+    × (collectionOf 16384 260 ≡ 4)
+    × (collectionOf 6 0 ≡ 1)
+    × (collectionOf 0 6 ≡ 1)
+    × (heapOfBlocks 4096 ≡ 0)
+    × (heapOfBlocks 4100 ≡ 1)
+    × (heapOfBlocks 0 ≡ 1)
+    × (targetOf 4096 8 4208 ≡ some 7)
+    × (targetOf 4096 8 4224 ≡ none)
+
+pub lengths-hold : Lengths
+unfolding entryOf entriesOf mayFollow wellAfter wellFormed addressOf goodBase targetOf firstOf goodShape wholeWords
+lengths-hold = (refl, refl, refl, refl, refl, refl, refl, refl, refl, refl)
