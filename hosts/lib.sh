@@ -22,30 +22,54 @@ need() { # TOOL WHAT_FOR
     on_machine "$1" || die "'$1' is not on this machine; it is needed to $2"
 }
 
-# Proves and builds the project's own library. Of what rt says, only the proved crates are shown while all goes well.
+# The project's own archive, and beside it the mark that says what it was made of.
+own_library=$top/target/staticlib/libblockheap.a
+library_mark=$top/target/staticlib/libblockheap.mark
+
+# A checksum of all that the archive is made of: the toolchain, and the crates with their proofs. It takes in every crate, also
+# the few that the library does not need, so that none can be forgotten.
+library_source() {
+    (cd "$top" && rt version && find -L crates.txt crates -type f ! -path '*/must-fail/*' -exec sha256sum {} + | LC_ALL=C sort) |
+        sha256sum
+}
+
+# Whether the project's own archive is the one that was proved and built of these crates, by this toolchain.
+library_is_up_to_date() {
+    local source
+    [ -f "$own_library" ] && [ -f "$library_mark" ] && source=$(library_source) &&
+        [ "$(<"$library_mark")" = "$source $(sha256sum <"$own_library")" ]
+}
+
+# Proves and builds the project's own library. Of what rt says, only the crates that it proves are shown while all goes well.
 build_library() {
-    local log=$out/library.log
+    local log=$out/library.log source
     mkdir -p "$out"
-    echo "proving and building the library (crates that have not changed take seconds)" >&2
-    if ! (cd "$top" && rt staticlib blockheap) 2>&1 | tee "$log" | sed -un '/^rt: [^ ]* proved/p' >&2; then
+    echo "proving and building the library (crates that have not changed take no time)" >&2
+    rm -f "$library_mark"
+    source=$(library_source) || die "'rt version' does not say which toolchain this is"
+    if ! (cd "$top" && rt staticlib blockheap) 2>&1 | tee "$log" | sed -un '/^rt: [^ ]* proved ([0-9]/p' >&2; then
         cat "$log" >&2
         die "the library could not be built"
     fi
+    [ "$source" = "$(library_source)" ] || die "the crates were changed while the library was built"
+    echo "$source $(sha256sum <"$own_library")" >"$library_mark"
 }
 
-# Sets BLOCKHEAP_LIB to the full path of the library: the archive that it names, or the project's own, built anew.
+# Sets BLOCKHEAP_LIB to the full path of the library: another archive that it names, or the project's own, which is built if it
+# is not up to date.
 find_library() {
-    local own=$top/target/staticlib/libblockheap.a
-    if [ -n "${BLOCKHEAP_LIB:-}" ]; then
+    if [ -n "${BLOCKHEAP_LIB:-}" ] && [ ! "$BLOCKHEAP_LIB" -ef "$own_library" ]; then
         [ -f "$BLOCKHEAP_LIB" ] || die "BLOCKHEAP_LIB names $BLOCKHEAP_LIB, and there is no such file"
         note "BLOCKHEAP_LIB is set: this is another archive than the project's, $BLOCKHEAP_LIB"
-    elif on_machine rt; then
-        build_library
-    else
-        [ -f "$own" ] || need rt "prove and build the library"
+    elif ! on_machine rt; then
+        [ -f "$own_library" ] || need rt "prove and build the library"
         note "there is no rt on this machine: the library is the one built last, and may be older than the crates"
+        BLOCKHEAP_LIB=$own_library
+    else
+        library_is_up_to_date || build_library
+        BLOCKHEAP_LIB=$own_library
     fi
-    BLOCKHEAP_LIB=$(realpath "${BLOCKHEAP_LIB:-$own}")
+    BLOCKHEAP_LIB=$(realpath "$BLOCKHEAP_LIB")
     export BLOCKHEAP_LIB
 }
 
