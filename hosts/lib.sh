@@ -4,9 +4,10 @@
 set -euo pipefail
 
 top=$(cd "$(dirname "${BASH_SOURCE[0]}")/.." && pwd)
-# BLOCKHEAP_OUT names another folder for what the tests build, so that two may run beside each other.
-out=${BLOCKHEAP_OUT:-$top/target/hosts}
-tools=$(dirname "$out")/tools
+# What the tests build. BLOCKHEAP_TARGET names another folder for it than target/, so that two may run beside each other.
+made=${BLOCKHEAP_TARGET:-$top/target}
+# shellcheck disable=SC2034
+out=$made/hosts tools=$made/tools portable=$made/portable
 CC=${CC:-cc}
 
 die() {
@@ -77,6 +78,35 @@ compile() { # WORDS FOR THE COMPILER...
     "$CC" -std=c11 -Wall -Wextra -Werror -O2 -I "$top/include" "$@"
 }
 
+# ---- Running beside each other
+
+# Runs a function in a group of processes of its own, with one folder, $TMPDIR, for all temporary files. When it ends or is
+# interrupted, what it left running is ended too, and the folder is removed.
+contained() { # FUNCTION WORDS...
+    group='' TMPDIR=$(mktemp -d)
+    export TMPDIR
+    chmod 711 "$TMPDIR" # as root rt runs programs as nobody, who must reach them
+    trap end_group EXIT
+    trap 'exit 130' INT
+    trap 'exit 143' TERM HUP
+    set -m
+    "$@" </dev/null &
+    group=$!
+    set +m
+    wait "$group"
+}
+
+# Whoever is asked to end, and is still there after some seconds, is ended.
+end_group() {
+    local try
+    for try in TERM {1..50} KILL; do
+        [[ $try == [0-9]* ]] || kill "-$try" -- "-$group" 2>/dev/null || break
+        kill -0 -- "-$group" 2>/dev/null || break
+        sleep 0.1
+    done
+    rm -rf "$TMPDIR"
+}
+
 # ---- Counting tests
 
 passed=0 failed=0 notes=()
@@ -102,12 +132,15 @@ check() { # TITLE COMMAND...
     if "${@:2}"; then pass "$1"; else fail "$1"; fi
 }
 
-# Runs a command whose last line is 'N passed, M failed', and adds that up.
+# Runs a command whose last line is 'N passed, M failed', and adds that up. What it left out is noted here too.
 run_counted() { # NAME COMMAND...
-    local name=$1 log status=0
+    local name=$1 log status=0 line
     shift
     log=$(mktemp)
     "$@" 2>&1 | tee "$log" || status=$?
+    while read -r line; do
+        [[ " ${notes[*]} " == *" $line "* ]] || notes+=("$line")
+    done < <(grep '^left out: ' "$log")
     if [[ $(tail -n 1 "$log") =~ ^([0-9]+)\ passed,\ ([0-9]+)\ failed$ ]]; then
         passed=$((passed + BASH_REMATCH[1]))
         failed=$((failed + BASH_REMATCH[2]))
@@ -116,6 +149,31 @@ run_counted() { # NAME COMMAND...
         fail "$name ended with status $status and without a count"
     fi
     rm "$log"
+}
+
+# Starts a command that counts beside what follows, but no more than two at a time. Its output is kept until show_beside.
+declare -A beside=()
+start_beside() { # NAME COMMAND...
+    local log
+    log=$(mktemp)
+    [ "$(jobs -pr | wc -l)" -lt 2 ] || wait -n || true
+    "${@:2}" </dev/null >"$log" 2>&1 &
+    beside[$1]="$! $log"
+}
+
+# Waits for such a command, shows what it wrote, and adds its count up.
+show_beside() { # NAME
+    local job log status=0
+    read -r job log <<<"${beside[$1]}"
+    wait "$job" || status=$?
+    run_counted "$1" ended "$status" cat "$log"
+    rm "$log"
+}
+
+# Runs a command, and ends with the status that another had.
+ended() { # STATUS COMMAND...
+    "${@:2}"
+    return "$1"
 }
 
 # Holds a number of tests to the one that a file expects: a line has a name and a number.
@@ -148,8 +206,13 @@ legs_of() { # FILE
     awk '!/^#/ { print $1 }' "$top/$1"
 }
 
+count() {
+    echo "$passed passed, $failed failed"
+}
+
 # The last lines of a script that tests, and its status.
 finish() {
-    printf '%s\n' '' "${notes[@]}" "$passed passed, $failed failed"
+    printf '%s\n' '' "${notes[@]}"
+    count
     [ "$failed" -eq 0 ] && [ "$passed" -gt 0 ]
 }

@@ -3,7 +3,7 @@
 
 # Compiles erase or check, once for each compiler and each state of its text. Sets `program` to the path.
 host_program() { # RUSTC NAME
-    local here=$top/hosts/portable programs=$top/target/portable/programs folder
+    local here=$top/hosts/portable programs=$portable/programs folder
     program=$programs/$2-$(cat <("$1" -vV) "$here/$2.rs" "$here/head.rs" | sha256sum | cut -c 1-12)
     [ ! -x "$program" ] || return 0
     mkdir -p "$programs"
