@@ -81,10 +81,14 @@ compile() { # WORDS FOR THE COMPILER...
 # ---- Running beside each other
 
 # Runs a function in a group of processes of its own, with one folder, $TMPDIR, for all temporary files. When it ends or is
-# interrupted, what it left running is ended too, and the folder is removed.
+# interrupted, what it left running is ended too, and the folder is removed. Inside of such a group there is no other.
 contained() { # FUNCTION WORDS...
+    if [ -n "${BLOCKHEAP_CONTAINED:-}" ]; then
+        "$@"
+        return
+    fi
     group='' TMPDIR=$(mktemp -d)
-    export TMPDIR
+    export TMPDIR BLOCKHEAP_CONTAINED=yes
     chmod 711 "$TMPDIR" # as root rt runs programs as nobody, who must reach them
     trap end_group EXIT
     trap 'exit 130' INT
