@@ -2,33 +2,28 @@
 -- leaves and what it writes into a buffer. And calls in a row.
 -- Assumes nothing.
 use mathlib.Core.Path.{_≡_, refl}
-use mathlib.Core.Bool.{false}
 use mathlib.Core.List.{List, [], _∷_, _++_, map}
 use Prim.Native.Nat.{ℕ, _-_, _*_, _/_}
 use lib.IntN.{pos}
-use lib.ListN.{length, take, replicate, set}
+use lib.ListN.{length, take, drop, replicate, set}
 use Rattle.rules.specs.Tests.{count, leading, tabulate}
-use Rattle.rules.specs.Bits.{bitOf, bitAt}
 use Rattle.rules.specs.Words.{number, bytesOf, twoBytesOf, firstTwo, wordAt, wordsOf}
 use Rattle.rules.specs.Entries.{entryOf, entriesOf, tableOf}
 use Rattle.rules.specs.Pointers.{addressOf, goodBase}
 use Rattle.rules.specs.Tables.{mayFollow, wellAfter, wellFormed, used}
 use Rattle.rules.specs.Images.{section, sections}
-use Rattle.rules.specs.Planes.{planeBytes, entryIn, entriesIn, spare, spareFree, planes}
-use Rattle.rules.specs.Outcomes.{Answer, unlessRefused, onlyRefusal, placedAt, collectedTo, surveyed, loaded, writtenTo, openedAt}
-use Rattle.rules.specs.Refusals.{firstOf, goodShape, wholeWords}
+use Rattle.rules.specs.Outcomes.{Answer, onlyRefusal, placedAt, collectedTo, surveyed, loaded, writtenTo, openedAt}
+use Rattle.rules.specs.Refusals.{firstOf, wholeWords}
 use Rattle.rules.specs.Files.{sectionIn, sectionTests, fileOf, fileTests, faultOf}
-use Rattle.rules.specs.Calls.{blocksFor, init, goodTarget, openImage}
-use Rattle.rules.specs.Runs.{Call, Init, Allocate, Free, Reallocate, Collect, Survey, Load, Store, WriteImage, OpenImage, Turn, step}
-use Rattle.rules.specs.Memory.{Memory, memory, AcceptedIn, orRefused, perform}
+use Rattle.rules.specs.Calls.{blocksFor}
+use Rattle.rules.specs.Runs.{Call, Init, Allocate, Free, Reallocate, Collect, Survey, Load, Store, WriteImage, OpenImage, Turn}
 use Rattle.rules.specs.Examples.{minus}
 use Rattle.rules.specs.ImageExamples.{oneImage}
 use Rattle.rules.specs.FileExamples.{fileAt, file, marked}
 use Rattle.plain.specs.Objects.{Object, object, Plain, total, find, placeFrom, lowestGap, longestGap, nextStart, insert, remove, replace}
 use Rattle.plain.specs.Tracing.{isIn, ledTo, push, followTo, follow, followAll, emptyFor, empty, subtree, fromRootTo, fromRoots, goThrough, again, againFor, trace, among}
 use Rattle.plain.specs.Images.{entriesFrom, bytesOfAll, contents, imageOfList, objectsFrom}
-use Rattle.plain.specs.Replies.{Reply, places, allocatedAt, onObject, named, movedInto, resized, collectedBy, loadedFrom, storedIn, imageIn, openedIn, reply, replies, fillings}
-use Rattle.plain.specs.Refines.{from}
+use Rattle.plain.specs.Replies.{Reply, places, allocatedAt, onObject, named, movedInto, resized, collectedBy, loadedFrom, storedIn, imageIn, openedIn, reply, from, replies, fillings, left}
 
 -- a call's reply, and what it should be
 pub record Example : Type 0 where
@@ -244,6 +239,31 @@ filling =
     ∷ Store runBase 8 0 (addressOf runBase 0) ∷ Store runBase 8 15 (addressOf runBase 5) ∷ Store runBase 5 7 (addressOf runBase 4)
     ∷ Store runBase 7 0 (addressOf runBase 8) ∷ Store runBase 7 4 (addressOf runBase 8) ∷ Init 8 ∷ Load 4096 8 15 ∷ [])
 
+-- objects of the drawing, as the filling leaves them: c holds zeros
+abbrev pub runC : Object
+runC = zeros 4 1
+
+-- the last word of d is the address of c
+abbrev pub runD : Object
+runD = object 5 2 (set (replicate 8 0) 7 (addressOf runBase 4))
+
+-- the first word of e is the address of a, the last that of d
+abbrev pub runE : Object
+runE = object 8 4 (set (set (replicate 16 0) 0 (addressOf runBase 0)) 15 (addressOf runBase 5))
+
+-- the first word of f is the address of e
+abbrev pub runF : Object
+runF = object 7 1 (set (replicate 4 0) 0 (addressOf runBase 8))
+
+-- all six, a and b with zeros
+abbrev pub filled : List Object
+filled = zeros 0 1 ∷ zeros 1 3 ∷ runC ∷ runD ∷ runF ∷ runE ∷ []
+
+-- the filling leaves these
+pub filling-left : left filling (blocks 12 []) .objects ≡ filled
+unfolding filling addressOf goodBase blocksFor total find placeFrom lowestGap insert replace places allocatedAt onObject named loadedFrom storedIn reply left
+filling-left = refl
+
 abbrev pub runRoots : List ℕ
 runRoots = addressOf runBase 1 ∷ addressOf runBase 8 ∷ []
 
@@ -255,15 +275,6 @@ ending =
 
 abbrev pub run : List Turn
 run = from (Init runBase) (filling ++ ending)
-
--- before the init: a pool full of ones, and two planes that are not even well-formed
-abbrev pub garbage : Memory
-garbage = memory (replicate 192 255) (7 ∷ 15 ∷ 170 ∷ 8 ∷ [])
-
--- the init is accepted all the same
-pub run-accepted : AcceptedIn (perform (planes 3) (Init runBase) [] garbage) × (wellFormed (entriesIn 3 (garbage .table)) ≡ false)
-unfolding perform orRefused step init unlessRefused firstOf goodShape goodBase addressOf tabulate bitOf bitAt planeBytes entryIn entriesIn mayFollow wellAfter wellFormed
-run-accepted = (refl, refl)
 
 -- a list with an object in it
 abbrev pub twelve : Plain
@@ -360,12 +371,7 @@ pub init-run : (replies initRun four ≡ onlyRefusal 0 ∷ placedAt 0 (pos 4) �
 unfolding reopened openAnswers openFillings tabulate number bytesOf wordAt wordsOf addressOf goodBase wholeWords blocksFor total find placeFrom lowestGap longestGap nextStart insert remove places allocatedAt onObject named tableOf count used twoBytesOf section sections entriesFrom bytesOfAll contents imageOfList imageIn leading firstTwo entryOf entriesOf mayFollow wellAfter wellFormed firstOf sectionIn sectionTests fileOf fileTests faultOf objectsFrom openedIn reply replies fillings
 init-run = (refl, refl)
 
--- before the first call: a pool full of ones, and planes full of ones, in which every block is MARK and every spare bit is set
-abbrev pub spent : Memory
-spent = memory (replicate 64 255) (replicate 2 255)
-
--- the opening is accepted all the same, and so is the init
-pub spent-accepted : AcceptedIn (perform (planes 1) (OpenImage strewn 8) [] spent) × AcceptedIn (perform (planes 1) (Init 4096) [] spent)
-    × (wellFormed (entriesIn 1 (spent .table)) ≡ false) × (spareFree 1 (spent .table) ≡ false)
-unfolding perform orRefused step init openImage unlessRefused firstOf goodShape goodBase addressOf count tabulate bitOf bitAt planeBytes entryIn entriesIn spare spareFree mayFollow wellAfter wellFormed used number firstTwo wordAt entryOf entriesOf sectionIn sectionTests fileOf fileTests faultOf goodTarget
-spent-accepted = (refl, refl, refl, refl)
+-- the run leaves one object of the file
+pub open-left : left openRun (blocks 4 []) .objects ≡ drop 1 scraps
+unfolding reopened tabulate number bytesOf wordAt wordsOf addressOf goodBase wholeWords find remove places onObject named tableOf count used twoBytesOf section sections entriesFrom bytesOfAll contents imageOfList imageIn leading firstTwo entryOf entriesOf mayFollow wellAfter wellFormed firstOf sectionIn sectionTests fileOf fileTests faultOf objectsFrom openedIn reply left
+open-left = refl

@@ -3,5 +3,4 @@ pub mod Tracing
 pub mod Reaching
 pub mod Images
 pub mod Replies
-pub mod Refines
 pub mod Examples

@@ -143,6 +143,10 @@ reply (WriteImage base roots room) stack p =
     (imageIn p room (imageOfList base p roots)))
 reply (OpenImage image room) stack p = refuseIf (not (eqb (faultOf image) 0)) (faultOf image) p (openedIn (fileOf image) room p)
 
+-- a call, and then the calls
+abbrev pub from : Call → List Turn → List Turn
+from c ts = record { call = c; stack = [] } ∷ ts
+
 -- the answers to calls in a row: each finds the list as the one before left it
 unfoldable pub replies : List Turn → Plain → List Answer
 replies [] p = []

@@ -1,1 +1,1 @@
-// The heap as a plain list of objects is a theorem about the rules: see specs/ and proofs/. There is no code here.
+// The plain list of objects is definitions, with worked examples: see specs/. There is no code here.

@@ -24,11 +24,11 @@ use Rattle.laws.proofs.Tables.{count-is}
 use Rattle.laws.proofs.Pointers.{leads-says, leads-one}
 use Rattle.laws.proofs.Marking.{head-inside, objects-mark, toDrain, pop-measure, drain-nil, drain-pop, pass-skips, toRescan, pass-measure, rescan-done, rescan-more}
 use Rattle.laws.proofs.Marks.{Marks, marks-none, marks-more, marks-count, marks-leads}
 use Rattle.plain.specs.Objects.{Object, end, find}
 use Rattle.plain.specs.Tracing.{View, Progress, progress, isIn, addresses, ledTo, mark, push, followTo, follow, followAll, emptyFor, empty, subtree, fromRootTo, fromRoots, goThrough, again, Traced, againFor}
 use Rattle.plain.specs.Tracing as list
-use Rattle.plain.proofs.Laid.{Holds, Lies, Laid, done, next, lies-extent, laid-unmarked, Found, missing, there, finds}
-use Rattle.plain.proofs.Gaps.{laid-objects}
+use Rattle.simulation.proofs.Laid.{Holds, Lies, Laid, done, next, lies-extent, laid-unmarked, Found, missing, there, finds}
+use Rattle.simulation.proofs.Gaps.{laid-objects}
 
 -- ---- where a word leads
 

@@ -22,14 +22,14 @@ use Rattle.rules.specs.Runs.{Collect}
 use Rattle.laws.proofs.Marking.{sweep-length}
 use Rattle.laws.proofs.Marks.{Marks}
 use Rattle.keeping.proofs.Swept.{Swept, kept, tail, freed, swept, swept-mark, tail-kept, tail-freed}
 use Rattle.plain.specs.Objects.{Object, Plain, end}
 use Rattle.plain.specs.Tracing.{isIn, Traced, among}
 use Rattle.plain.specs.Replies.{collectedBy, reply}
-use Rattle.plain.proofs.Laid.{Clear, Lies, Laid, done, next}
-use Rattle.plain.proofs.Gaps.{laid-used, laid-objects}
-use Rattle.plain.proofs.Edits.{laid-lower}
-use Rattle.plain.proofs.Traces.{Ends, trace-follows}
-use Rattle.plain.proofs.Agrees.{Represents, represents-other, Agrees, agree-shape, agree-test, agree-well}
+use Rattle.simulation.proofs.Laid.{Clear, Lies, Laid, done, next}
+use Rattle.simulation.proofs.Gaps.{laid-used, laid-objects}
+use Rattle.simulation.proofs.Edits.{laid-lower}
+use Rattle.simulation.proofs.Traces.{Ends, trace-follows}
+use Rattle.simulation.proofs.Agrees.{Represents, represents-other, Agrees, agree-shape, agree-test, agree-well}
 
 swept-long : (es : List ℕ) → length (sweep es) ≡ length es
 unfolding sweep

@@ -22,8 +22,8 @@ use Rattle.laws.proofs.Calls.{sub-add}
 use Rattle.laws.proofs.Refusals.{true-not-false, both-false, accepts}
 use Rattle.laws.proofs.Opening.{open-passes}
 use Rattle.laws.proofs.Memory.{Ended, accepted, refused, step-ended, Follows, follows-sound, kept-by, passes-in, follows-accepted}
-use Rattle.plain.specs.Refines.{usedAtStart, counted, changes, UsedIsSum}
-use Rattle.plain.proofs.Inits.{init-accepted, Anew, inits, opened, anew}
+use Rattle.refinement.specs.Refines.{usedAtStart, counted, changes, UsedIsSum}
+use Rattle.simulation.proofs.Inits.{init-accepted, Anew, inits, opened, anew}
 
 -- ---- one call
 

@@ -21,16 +21,15 @@ use Rattle.rules.specs.Runs.{Turn, after}
 use Rattle.keeping.specs.Keeping.{marking}
 use Rattle.keeping.proofs.Sound.{sound}
 use Rattle.keeping.proofs.Complete.{complete}
 use Rattle.plain.specs.Objects.{Object, Plain, end, find}
 use Rattle.plain.specs.Tracing.{View, isIn, addresses, ledTo, trace, among}
 use Rattle.plain.specs.Reaching.{Reachable, root, edge, Keeps}
 use Rattle.plain.specs.Replies.{left}
-use Rattle.plain.specs.Refines.{ListKeepsReachable}
-use Rattle.plain.proofs.Laid.{Laid, done, next, laid-unmarked}
-use Rattle.plain.proofs.Traces.{Known, Led, nowhere, object, leads-agree, Ends, trace-follows}
-use Rattle.plain.proofs.Agrees.{Represents}
-use Rattle.plain.proofs.Acts.{empty-laid}
-use Rattle.plain.proofs.Refinement.{step-agrees}
+use Rattle.simulation.proofs.Laid.{Laid, done, next, laid-unmarked}
+use Rattle.simulation.proofs.Traces.{Known, Led, nowhere, object, leads-agree, Ends, trace-follows}
+use Rattle.simulation.proofs.Agrees.{Represents}
+use Rattle.simulation.proofs.Acts.{empty-laid}
+use Rattle.simulation.proofs.Calls.{step-agrees}
 
 -- ---- members
 
@@ -227,9 +226,3 @@ blank-represents n l u =
       pool = length-replicate (16 * n) 0 ∙ omega arith;
       laid = empty-laid (replicate (16 * n) 0) n;
     }
-
-pub list-keeps-reachable : ListKeepsReachable
-unfolding ListKeepsReachable
-list-keeps-reachable n ts base room roots l u =
-    let r = left-represents ts (blank-represents n l u) in
-    keeps-reachable base (after ts (blank n)) (left ts (record { size = n; objects = [] }) .objects) (r .laid) roots room

@@ -13,8 +13,8 @@ use Rattle.rules.specs.Words.{wordAt}
 use Rattle.rules.specs.Entries.{FREE}
 use Rattle.rules.specs.Tables.{entryAt}
 use Rattle.laws.specs.Meaning.{Run}
 use Rattle.plain.specs.Objects.{Object, end, find, insert, remove, replace}
-use Rattle.plain.proofs.Laid.{Clear, Lies, lies-used, Laid, done, next, laid-room, find-below}
+use Rattle.simulation.proofs.Laid.{Clear, Lies, lies-used, Laid, done, next, laid-room, find-below}
 
 -- ---- where a list begins
 

@@ -20,13 +20,13 @@ use Rattle.rules.specs.Calls.{blocksFor, taken, placing, allocate, freed, free}
 use Rattle.rules.specs.Runs.{Allocate, Free}
 use Rattle.laws.proofs.Tables.{count-is, first-fits}
 use Rattle.laws.proofs.Changes.{placed-length, released-length, placed-head, placed-tail, placed-out, released-in, released-out}
 use Rattle.plain.specs.Objects.{Object, object, Plain, end, find, lowestGap, insert, remove}
 use Rattle.plain.specs.Replies.{places, allocatedAt, reply}
-use Rattle.plain.proofs.Laid.{Clear, Lies, Laid}
-use Rattle.plain.proofs.Gaps.{laid-lowest}
-use Rattle.plain.proofs.Words.{words-out, words-in, zero-at, word-zero}
-use Rattle.plain.proofs.Edits.{Edit, laid-insert, laid-remove}
-use Rattle.plain.proofs.Agrees.{Represents, represents-other, Agrees, agree-refused, agree-test, agree-heap, agree-named, agree-placing}
+use Rattle.simulation.proofs.Laid.{Clear, Lies, Laid}
+use Rattle.simulation.proofs.Gaps.{laid-lowest}
+use Rattle.simulation.proofs.Words.{words-out, words-in, zero-at, word-zero}
+use Rattle.simulation.proofs.Edits.{Edit, laid-insert, laid-remove}
+use Rattle.simulation.proofs.Agrees.{Represents, represents-other, Agrees, agree-refused, agree-test, agree-heap, agree-named, agree-placing}
 
 -- ---- free
 

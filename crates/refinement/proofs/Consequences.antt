@@ -25,16 +25,16 @@ use Rattle.rules.specs.Memory.{Memory, heapIn, AcceptedIn, perform, turnIn, aft
 use Rattle.laws.proofs.Below.{allBytes, bytes-below}
 use Rattle.laws.proofs.Refusals.{true-not-false}
 use Rattle.laws.proofs.Memory.{passes-in}
 use Rattle.plain.specs.Objects.{Object, Plain, end, Rising, done, next}
 use Rattle.plain.specs.Tracing.{isIn, ledTo, trace, among}
 use Rattle.plain.specs.Reaching.{Reachable, root, edge, Keeps}
-use Rattle.plain.specs.Replies.{Reply, refuseIf, collectedBy, reply, left}
-use Rattle.plain.specs.Refines.{from, AnswersAsList, ImagesAsList, ListKeepsReachable, counted, changes, UsedIsSum}
-use Rattle.plain.proofs.Laid as lie
-use Rattle.plain.proofs.Inits.{anew, anew-few}
-use Rattle.plain.proofs.Sums.{used-is-sum}
-use Rattle.plain.proofs.Refinement.{answers-as-list, images-as-list}
-use Rattle.plain.proofs.Reached.{led-member, left-represents, blank-represents, list-keeps-reachable}
+use Rattle.plain.specs.Replies.{Reply, refuseIf, collectedBy, reply, from, left}
+use Rattle.refinement.specs.Refines.{AnswersAsList, ImagesAsList, ListKeepsReachable, counted, changes, UsedIsSum}
+use Rattle.simulation.proofs.Laid as lie
+use Rattle.simulation.proofs.Inits.{anew, anew-few}
+use Rattle.refinement.proofs.Sums.{used-is-sum}
+use Rattle.refinement.proofs.Refinement.{answers-as-list, images-as-list, list-keeps-reachable}
+use Rattle.simulation.proofs.Reached.{led-member, left-represents, blank-represents}
 
 -- ---- any form
 

@@ -22,12 +22,12 @@ use Rattle.rules.specs.Runs.{WriteImage}
 use Rattle.laws.proofs.Lists.{drop-part}
 use Rattle.laws.proofs.Words.{length-bytesOf, bytesOf-wordAt}
 use Rattle.laws.proofs.Images.{used-append, used-gap, used-run, length-used, length-sections}
 use Rattle.plain.specs.Objects.{Object, Plain, end, total}
 use Rattle.plain.specs.Images.{entriesFrom, bytesOfAll, contents, imageOfList}
 use Rattle.plain.specs.Replies.{imageIn, reply}
-use Rattle.plain.proofs.Laid.{Clear, Lies, Laid, done, next}
-use Rattle.plain.proofs.Gaps.{laid-used}
-use Rattle.plain.proofs.Agrees.{Represents, Agrees, agree-shape, agree-test, agree-well}
+use Rattle.simulation.proofs.Laid.{Clear, Lies, Laid, done, next}
+use Rattle.simulation.proofs.Gaps.{laid-used}
+use Rattle.simulation.proofs.Agrees.{Represents, Agrees, agree-shape, agree-test, agree-well}
 
 -- ---- the bytes of words
 

@@ -22,10 +22,11 @@ use Rattle.rules.specs.Runs.{Init, OpenImage, step}
 use Rattle.rules.specs.Memory.{Memory, memory, AcceptedIn, orRefused, perform, afterIn, answersIn, filledIn}
 use Rattle.laws.proofs.Memory.{packed-faithful}
 use Rattle.laws.proofs.Planes.{same-length, planes-faithful}
-use Rattle.plain.specs.Refines.{counted}
-use Rattle.plain.specs.Examples.{runBase, filling, ending, run, garbage, run-accepted, runAnswers, imaging, imageRun, imageFillings, strewn, reopened, openRun, openAnswers, openFillings, spent, spent-accepted}
-use Rattle.plain.proofs.Consequences.{forms-alike, images-alike, summed, used-answered}
-use Rattle.plain.proofs.Samples.{garbage-answers, ones-bytes, no-files, garbage-images, spent-bytes, open-files, opened-run}
+use Rattle.refinement.specs.Memories.{garbage, run-accepted, spent, spent-accepted}
+use Rattle.refinement.specs.Refines.{counted}
+use Rattle.plain.specs.Examples.{runBase, filling, ending, run, runAnswers, imaging, imageRun, imageFillings, strewn, reopened, openRun, openAnswers, openFillings}
+use Rattle.refinement.proofs.Consequences.{forms-alike, images-alike, summed, used-answered}
+use Rattle.refinement.proofs.Samples.{garbage-answers, ones-bytes, no-files, garbage-images, spent-bytes, open-files, opened-run}
 
 -- ---- spare bits
 

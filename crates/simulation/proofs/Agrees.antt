@@ -18,10 +18,10 @@ use Rattle.rules.specs.Outcomes.{Heap, Outcome, onlyRefusal, changeFrom, leaves
 use Rattle.rules.specs.Refusals.{Test, firstOf, goodShape, badShape, illFormed, heapTests, outside, noHead}
 use Rattle.rules.specs.Calls.{placing}
 use Rattle.laws.proofs.Refusals.{numbered, first-yes, first-no, first-more, first-less, refuses}
 use Rattle.plain.specs.Objects.{Object, Plain, find}
 use Rattle.plain.specs.Replies.{Reply, refuse, refuseIf, places, onObject, named, misplaced}
-use Rattle.plain.proofs.Laid.{Lies, Laid, laid-well, Found, missing, there, finds}
-use Rattle.plain.proofs.Gaps.{laid-used}
+use Rattle.simulation.proofs.Laid.{Lies, Laid, laid-well, Found, missing, there, finds}
+use Rattle.simulation.proofs.Gaps.{laid-used}
 
 pub record Represents (p : Plain) (h : Heap) : Type 0 where
   pub size : p .size ≡ length (h .entries)

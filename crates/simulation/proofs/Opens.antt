@@ -33,14 +33,14 @@ use Rattle.laws.proofs.Images.{length-block, used-split, used-run}
 use Rattle.laws.proofs.Files.{length-pool, used-pool}
 use Rattle.laws.proofs.Faults.{length-body, Faultless, faultless, no-fault, length-blocks}
 use Rattle.laws.proofs.Opening.{Opens, open-passes}
 use Rattle.plain.specs.Objects.{Object, object, Plain}
 use Rattle.plain.specs.Images.{objectsFrom}
 use Rattle.plain.specs.Replies.{suited, opens, openedIn, reply}
-use Rattle.plain.proofs.Inits.{shape-base}
-use Rattle.plain.proofs.Laid.{Holds, Lies, Laid, done, next}
-use Rattle.plain.proofs.Words.{word-part}
-use Rattle.plain.proofs.Edits.{laid-lower}
-use Rattle.plain.proofs.Agrees.{Represents, Agrees, agree-shape, agree-test, agree-tests}
+use Rattle.simulation.proofs.Inits.{shape-base}
+use Rattle.simulation.proofs.Laid.{Holds, Lies, Laid, done, next}
+use Rattle.simulation.proofs.Words.{word-part}
+use Rattle.simulation.proofs.Edits.{laid-lower}
+use Rattle.simulation.proofs.Agrees.{Represents, Agrees, agree-shape, agree-test, agree-tests}
 
 -- ---- the objects of a table, and of the bytes of its used blocks
 

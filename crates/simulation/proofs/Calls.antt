@@ -1,5 +1,5 @@
--- The heap is a plain list: an accepted init makes the heap represent the empty list, an accepted opening the file's, and each call after it agrees with the list's rule.
--- The calls on lent memory are those on the heap in it.
+-- Each call of the heap does what the plain list does, and so do calls in a row: heap and list then answer alike and write the same, and the one still represents the other.
+-- An accepted init makes the heap represent the empty list, an accepted opening the file's.
 -- Assumes nothing.
 use mathlib.Core.Path.{_≡_, refl, sym, ap, _∙_}
 use mathlib.Core.Bool.{true}
@@ -12,21 +12,18 @@ use Rattle.laws.specs.Meaning.{AllBytes}
 use Rattle.rules.specs.Refusals.{goodShape}
 use Rattle.rules.specs.Calls.{init}
 use Rattle.rules.specs.Runs.{Call, Init, Allocate, Free, Reallocate, Collect, Survey, Load, Store, WriteImage, OpenImage, Turn, EveryFile, next, step, answers, fillings as filledOn}
-use Rattle.rules.specs.Memory.{heapIn, perform, answersIn, filledIn}
 use Rattle.laws.proofs.Refusals.{shape-true}
 use Rattle.laws.proofs.Sizes.{step-keeps}
-use Rattle.laws.proofs.Memory.{passes-in, follows-accepted, answers-in, filled-in}
 use Rattle.plain.specs.Objects.{Plain}
 use Rattle.plain.specs.Replies.{reply, replies, fillings}
-use Rattle.plain.specs.Refines.{AnswersAsList, ImagesAsList}
-use Rattle.plain.proofs.Inits.{shape-base, init-accepted, Anew, inits, opened, anew}
-use Rattle.plain.proofs.Agrees.{Represents, Agrees}
-use Rattle.plain.proofs.Acts.{empty-laid, init-agrees, survey-agrees, load-agrees, store-agrees}
-use Rattle.plain.proofs.Places.{free-agrees, allocate-agrees}
-use Rattle.plain.proofs.Resizes.{reallocate-agrees}
-use Rattle.plain.proofs.Sweeps.{collect-agrees}
-use Rattle.plain.proofs.Images.{image-agrees}
-use Rattle.plain.proofs.Opens.{open-agrees, first-open}
+use Rattle.simulation.proofs.Inits.{shape-base, init-accepted, Anew, inits, opened}
+use Rattle.simulation.proofs.Agrees.{Represents, Agrees}
+use Rattle.simulation.proofs.Acts.{empty-laid, init-agrees, survey-agrees, load-agrees, store-agrees}
+use Rattle.simulation.proofs.Places.{free-agrees, allocate-agrees}
+use Rattle.simulation.proofs.Resizes.{reallocate-agrees}
+use Rattle.simulation.proofs.Sweeps.{collect-agrees}
+use Rattle.simulation.proofs.Images.{image-agrees}
+use Rattle.simulation.proofs.Opens.{open-agrees, first-open}
 
 -- each call
 pub step-agrees : (c : Call) (stack : List ℕ) {p : Plain} {h : Heap} → Represents p h → Agrees (reply c stack p) (step c stack h)
@@ -43,7 +40,7 @@ step-agrees (WriteImage base roots room) stack r = image-agrees r base roots roo
 step-agrees (OpenImage image room) stack r = open-agrees image room r stack
 
 -- one and those after it
-both-same : {A : Type 0} {a b : A} {xs ys : List A} → a ≡ b → xs ≡ ys → a ∷ xs ≡ b ∷ ys
+pub both-same : {A : Type 0} {a b : A} {xs ys : List A} → a ≡ b → xs ≡ ys → a ∷ xs ≡ b ∷ ys
 both-same e f = cc
 
 -- calls in a row
@@ -55,7 +52,7 @@ all-agree (t ∷ ts) r =
     both-same (a .answer) (all-agree ts (a .heap))
 
 -- and what they write into buffers, from a pool of bytes on, and with files of bytes
-all-filled : (ts : List Turn) {p : Plain} {h : Heap} → Represents p h → AllBytes (h .pool) → EveryFile AllBytes ts → filledOn ts h ≡ fillings ts p
+pub all-filled : (ts : List Turn) {p : Plain} {h : Heap} → Represents p h → AllBytes (h .pool) → EveryFile AllBytes ts → filledOn ts h ≡ fillings ts p
 unfolding filledOn fillings
 all-filled [] r bytes files = refl
 all-filled (t ∷ ts) {h = h} r bytes (next file files) =
@@ -77,22 +74,7 @@ first-init base h p good same =
     })
 
 -- an accepted call that starts anew, whatever was there before
-first-agrees : {c : Call} {h : Heap} (p : Plain) → Anew h c → p .size ≡ length (h .entries) → Agrees (reply c [] p) (step c [] h)
+pub first-agrees : {c : Call} {h : Heap} (p : Plain) → Anew h c → p .size ≡ length (h .entries) → Agrees (reply c [] p) (step c [] h)
 unfolding step
 first-agrees {h = h} p (inits base good) same = first-init base h p good same
 first-agrees {h = h} p (opened image room o) same = first-open image room h p o same
-
-pub answers-as-list : AnswersAsList
-unfolding AnswersAsList answersIn replies
-answers-as-list f faithful c m p ts starts z same =
-    let x = follows-accepted f faithful c [] m z in
-    let a = first-agrees p (anew c [] (heapIn f m) starts (passes-in f c [] m z .own)) same in
-    both-same (x .answer ∙ a .answer) (answers-in f faithful ts (perform f c [] m .memory) (x .sound z) ∙ ap (answers ts) (x .heap) ∙ all-agree ts (a .heap))
-
-pub images-as-list : ImagesAsList
-unfolding ImagesAsList filledIn fillings
-images-as-list f faithful c m p ts bytes (next file files) starts z same =
-    let x = follows-accepted f faithful c [] m z in
-    let a = first-agrees p (anew c [] (heapIn f m) starts (passes-in f c [] m z .own)) same in
-    let still = step-keeps c [] (heapIn f m) .all-bytes file bytes in
-    both-same (x .filled ∙ a .filled still) (filled-in f faithful ts (perform f c [] m .memory) (x .sound z) ∙ ap (filledOn ts) (x .heap) ∙ all-filled ts (a .heap) still files)

@@ -24,14 +24,14 @@ use Rattle.rules.specs.Runs.{Reallocate}
 use Rattle.laws.proofs.Refusals.{both-right}
 use Rattle.laws.proofs.Tables.{count-is, first-fits}
 use Rattle.laws.proofs.Changes.{placed-length, released-length, extended-length, released-in, released-out, extended-in, extended-out}
 use Rattle.plain.specs.Objects.{Object, object, Plain, end, padded, find, placeFrom, lowestGap, nextStart, insert, remove, replace}
 use Rattle.plain.specs.Replies.{Reply, places, movedInto, resized, reply}
-use Rattle.plain.proofs.Laid.{Clear, Lies, Laid}
-use Rattle.plain.proofs.Gaps.{place-own, Gap, gap-free, next-gap}
-use Rattle.plain.proofs.Words.{words-out, words-in, word-zero, word-front, word-behind, word-part, padded-front, padded-rest, padded-length}
-use Rattle.plain.proofs.Edits.{Edit, laid-lower, laid-raise, laid-kept, laid-replace}
-use Rattle.plain.proofs.Agrees.{Represents, represents-other, Agrees, agree-refused, agree-test, agree-heap, agree-named, agree-placing}
-use Rattle.plain.proofs.Places.{release-laid, put-laid, low}
+use Rattle.simulation.proofs.Laid.{Clear, Lies, Laid}
+use Rattle.simulation.proofs.Gaps.{place-own, Gap, gap-free, next-gap}
+use Rattle.simulation.proofs.Words.{words-out, words-in, word-zero, word-front, word-behind, word-part, padded-front, padded-rest, padded-length}
+use Rattle.simulation.proofs.Edits.{Edit, laid-lower, laid-raise, laid-kept, laid-replace}
+use Rattle.simulation.proofs.Agrees.{Represents, represents-other, Agrees, agree-refused, agree-test, agree-heap, agree-named, agree-placing}
+use Rattle.simulation.proofs.Places.{release-laid, put-laid, low}
 
 -- an object put elsewhere does not hide another
 find-insert : (x : Object) (k : ℕ) → x .start ≢ k → (os : List Object) → find k (insert x os) ≡ find k os

@@ -19,13 +19,13 @@ use Rattle.rules.specs.Calls.{init, survey, load, store}
 use Rattle.rules.specs.Runs.{Init, Survey, Load, Store}
 use Rattle.laws.proofs.Words.{length-withWord, wordAt-other}
 use Rattle.laws.proofs.Tables.{count-is}
 use Rattle.plain.specs.Objects.{Object, object, Plain}
 use Rattle.plain.specs.Replies.{misplaced, loadedFrom, storedIn, reply}
-use Rattle.plain.proofs.Laid.{Lies, Laid, done}
-use Rattle.plain.proofs.Gaps.{laid-used, laid-objects, laid-longest}
-use Rattle.plain.proofs.Words.{word-stored}
-use Rattle.plain.proofs.Edits.{Edit, laid-kept, laid-replace}
-use Rattle.plain.proofs.Agrees.{Represents, represents-other, Agrees, agree-test, agree-heap, agree-named, agree-shape}
+use Rattle.simulation.proofs.Laid.{Lies, Laid, done}
+use Rattle.simulation.proofs.Gaps.{laid-used, laid-objects, laid-longest}
+use Rattle.simulation.proofs.Words.{word-stored}
+use Rattle.simulation.proofs.Edits.{Edit, laid-kept, laid-replace}
+use Rattle.simulation.proofs.Agrees.{Represents, represents-other, Agrees, agree-test, agree-heap, agree-named, agree-shape}
 
 -- ---- init
 

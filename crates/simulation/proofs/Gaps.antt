@@ -20,8 +20,8 @@ use Rattle.laws.specs.Meaning.{Run, Aligned, Fits, Lowest}
 use Rattle.laws.proofs.Lists.{count-cons, leading-is}
 use Rattle.laws.proofs.Tables.{run-le, run-longest, aligned-of, aligned-says, first-is}
 use Rattle.laws.proofs.Refusals.{true-not-false}
 use Rattle.plain.specs.Objects.{Object, end, total, find, placeFrom, lowestGap, longestGap, nextStart}
-use Rattle.plain.proofs.Laid.{Clear, Lies, lies-used, Laid, done, next, find-below}
+use Rattle.simulation.proofs.Laid.{Clear, Lies, lies-used, Laid, done, next, find-below}
 
 -- ---- the first place for b blocks
 

@@ -7,33 +7,29 @@ use mathlib.Core.List.{List, [], _∷_, _++_, List·Memᴰ, List·Memᴰ·head, 
 use native.Mathlib.Omega.{arith}
 use lib.Dec.{eqb}
 use lib.IntN.{pos}
-use lib.ListN.{drop, replicate, set}
-use Rattle.rules.specs.Tests.{count, leading, tabulate}
-use Rattle.rules.specs.Words.{number, bytesOf, twoBytesOf, firstTwo, wordAt, wordsOf}
-use Rattle.rules.specs.Entries.{entryOf, entriesOf, tableOf}
-use Rattle.rules.specs.Tables.{mayFollow, wellAfter, wellFormed, used}
-use Rattle.rules.specs.Images.{section, sections}
-use Rattle.rules.specs.Pointers.{addressOf, goodBase}
+use lib.ListN.{drop}
+use Rattle.rules.specs.Tests.{count, tabulate}
+use Rattle.rules.specs.Words.{firstTwo}
+use Rattle.rules.specs.Entries.{entryOf, entriesOf}
+use Rattle.rules.specs.Tables.{used}
+use Rattle.rules.specs.Pointers.{addressOf}
 use Rattle.rules.specs.Planes.{entriesIn, planes}
 use Rattle.laws.specs.Meaning.{AllBytes}
-use Rattle.rules.specs.Calls.{blocksFor}
 use Rattle.rules.specs.Outcomes.{onlyRefusal, placedAt}
-use Rattle.rules.specs.Refusals.{firstOf, wholeWords}
-use Rattle.rules.specs.Files.{sectionIn, sectionTests, fileOf, fileTests, faultOf}
+use Rattle.rules.specs.Files.{sectionIn, fileOf}
 use Rattle.rules.specs.Runs.{Init, Allocate, OpenImage, Turn, EveryFile}
 use Rattle.rules.specs.Memory.{afterIn, answersIn, filledIn}
 use Rattle.laws.proofs.Lists.{bounded-replicate}
 use Rattle.laws.proofs.Planes.{length-entriesIn, planes-faithful}
-use Rattle.plain.specs.Objects.{Object, object, total, find, placeFrom, lowestGap, insert, remove, replace}
+use Rattle.plain.specs.Objects.{Object}
 use Rattle.plain.specs.Tracing.{isIn, ledTo, followTo, follow, followAll, emptyFor, empty, subtree, fromRootTo, fromRoots, againFor, trace, among}
 use Rattle.plain.specs.Reaching.{Reachable, root, edge, Keeps}
-use Rattle.plain.specs.Images.{entriesFrom, bytesOfAll, contents, imageOfList, objectsFrom}
-use Rattle.plain.specs.Replies.{places, allocatedAt, onObject, named, loadedFrom, storedIn, imageIn, openedIn, reply, left}
-use Rattle.plain.specs.Refines.{AnswersAsList, ImagesAsList, ListKeepsReachable, counted}
-use Rattle.plain.specs.Examples.{blocks, zeros, runBase, bare, filling, ending, runRoots, run, garbage, run-accepted, twelve, runAnswers, run-answers, imaging, imageRun, imageAnswers, imageFillings, image-run, strewn, scraps, reopened, openRun, initRun, openAnswers, openFillings, four, open-run, init-run, spent, spent-accepted}
-use Rattle.plain.proofs.Refinement.{answers-as-list, images-as-list}
-use Rattle.plain.proofs.Reached.{of-at, list-keeps-reachable}
-use Rattle.plain.proofs.Consequences.{summed, used-answered, files-of, allOf, leadsInto, Closed, reachable-in}
+use Rattle.refinement.specs.Memories.{garbage, run-accepted, spent, spent-accepted}
+use Rattle.refinement.specs.Refines.{AnswersAsList, ImagesAsList, ListKeepsReachable, counted}
+use Rattle.plain.specs.Examples.{bare, runBase, filling, runC as c, runD as d, runE as e, runF as f, filled, filling-left, runRoots, ending, run, twelve, runAnswers, run-answers, imaging, imageRun, imageAnswers, imageFillings, image-run, strewn, scraps, reopened, openRun, initRun, openAnswers, openFillings, four, open-run, init-run, open-left}
+use Rattle.refinement.proofs.Refinement.{answers-as-list, images-as-list, list-keeps-reachable}
+use Rattle.simulation.proofs.Reached.{of-at}
+use Rattle.refinement.proofs.Consequences.{summed, used-answered, files-of, allOf, leadsInto, Closed, reachable-in}
 
 -- ---- what the heap answers
 
@@ -114,31 +110,6 @@ begun-used =
 
 -- ---- what a collection keeps
 
--- objects of the drawing, as the filling leaves them: c holds zeros
-abbrev c : Object
-c = zeros 4 1
-
--- the last word of d is the address of c
-abbrev d : Object
-d = object 5 2 (set (replicate 8 0) 7 (addressOf runBase 4))
-
--- the first word of e is the address of a, the last that of d
-abbrev e : Object
-e = object 8 4 (set (set (replicate 16 0) 0 (addressOf runBase 0)) 15 (addressOf runBase 5))
-
--- the first word of f is the address of e
-abbrev f : Object
-f = object 7 1 (set (replicate 4 0) 0 (addressOf runBase 8))
-
--- all six, a and b with zeros
-abbrev filled : List Object
-filled = zeros 0 1 ∷ zeros 1 3 ∷ c ∷ d ∷ f ∷ e ∷ []
-
--- the filling leaves these
-filling-left : left filling (record { size = 12; objects = [] }) .objects ≡ filled
-unfolding filling addressOf goodBase blocksFor total find placeFrom lowestGap insert replace places allocatedAt onObject named loadedFrom storedIn reply left
-filling-left = refl
-
 -- what the collection of the run keeps, with one mark stack entry
 abbrev kept : List Object
 kept = among (trace (record { base = runBase; objects = filled; room = 1 }) runRoots .reached) filled
@@ -168,11 +139,6 @@ all-but-f = record { roots-in = tt; words-in = tt }
 -- so f is not kept
 pub f-lost : List·Memᴰ f kept → ⊥
 f-lost m = reachable-in runBase filled runRoots _ all-but-f (run-keeps .only f m)
-
--- of a list that came from an opening: the run leaves one object of the file
-open-left : left openRun (blocks 4 []) .objects ≡ drop 1 scraps
-unfolding reopened tabulate number bytesOf wordAt wordsOf addressOf goodBase wholeWords find remove places onObject named tableOf count used twoBytesOf section sections entriesFrom bytesOfAll contents imageOfList imageIn leading firstTwo entryOf entriesOf mayFollow wellAfter wellFormed firstOf sectionIn sectionTests fileOf fileTests faultOf objectsFrom openedIn reply left
-open-left = refl
 
 -- its address keeps it, and the root of the file does not
 pub open-keeps : Keeps 4096 (drop 1 scraps) (addressOf 4096 3 ∷ []) (drop 1 scraps) × Keeps 4096 (drop 1 scraps) (0xdead_beef ∷ []) []

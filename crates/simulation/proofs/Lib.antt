@@ -1,5 +1,4 @@
 pub mod Inits
-pub mod Sums
 pub mod Laid
 pub mod Gaps
 pub mod Edits
@@ -12,8 +11,5 @@ pub mod Traces
 pub mod Sweeps
 pub mod Images
 pub mod Opens
-pub mod Refinement
+pub mod Calls
 pub mod Reached
-pub mod Consequences
-pub mod Samples
-pub mod Planes

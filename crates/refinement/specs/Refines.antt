@@ -19,14 +19,10 @@ use Rattle.rules.specs.Outcomes.{Answer}
 use Rattle.rules.specs.Files.{entriesFor, fileOf}
 use Rattle.rules.specs.Runs.{Call, fileIn, startsAnew, Turn, EveryFile}
 use Rattle.rules.specs.Memory.{Memory, AcceptedIn, perform, turnIn, afterIn, answersIn, filledIn}
 use Rattle.plain.specs.Objects.{Object, Plain}
 use Rattle.plain.specs.Tracing.{trace, among}
 use Rattle.plain.specs.Reaching.{Keeps}
-use Rattle.plain.specs.Replies.{replies, fillings, left}
-
--- a call, and then the calls
-abbrev pub from : Call → List Turn → List Turn
-from c ts = record { call = c; stack = [] } ∷ ts
+use Rattle.plain.specs.Replies.{from, replies, fillings, left}
 
 -- The heap is a plain list: an init or an opening that is accepted, and then any calls with any bases, are answered alike on lent memory and on the list.
 -- What memory and list held before it does not matter.
