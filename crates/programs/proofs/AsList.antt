@@ -15,8 +15,8 @@ use Rattle.keeping.specs.Keeping.{butRescans}
 use Rattle.runs.specs.Noninterference.{turn}
 use Rattle.plain.specs.Objects.{Plain}
 use Rattle.plain.specs.Replies.{Reply, reply, replies}
-use Rattle.plain.specs.Refines.{AnswersAsList}
-use Rattle.plain.proofs.Refinement.{answers-as-list}
+use Rattle.refinement.specs.Refines.{AnswersAsList}
+use Rattle.refinement.proofs.Refinement.{answers-as-list}
 use Rattle.programs.specs.Programs.{Program, give, ask, Ran, stackAfter, run, Lent, repliesIn}
 use Rattle.programs.specs.AsList.{RanList, runList, repliesOf, ProgramsAsList}
 use Rattle.programs.proofs.Laws.{cons-same, heads-same, tails-same}

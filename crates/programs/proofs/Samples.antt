@@ -25,7 +25,8 @@ use Rattle.runs.proofs.Hypotheses.{stacks-long, stacks-good, also-accepted}
 use Rattle.runs.proofs.Samples as calls
 use Rattle.plain.specs.Objects.{total, find, placeFrom, lowestGap, insert, replace}
 use Rattle.plain.specs.Replies.{places, allocatedAt, onObject, named, loadedFrom, storedIn, reply}
-use Rattle.plain.specs.Examples.{runBase, garbage, twelve, run-accepted}
+use Rattle.plain.specs.Examples.{runBase, twelve}
+use Rattle.refinement.specs.Memories.{garbage, run-accepted}
 use Rattle.programs.specs.Programs.{Program, give, ask, run, Lent, lent, repliesIn}
 use Rattle.programs.specs.Unseen.{Alike, done, next}
 use Rattle.programs.specs.AsList.{runList, repliesOf}
