@@ -6,8 +6,8 @@ use Rattle.rules.specs.Outcomes.{Answer}
 use Rattle.rules.specs.Memory.{answersIn}
 use Rattle.keeping.specs.Keeping.{butRescans}
 use Rattle.plain.specs.Replies.{replies}
-use Rattle.plain.specs.Refines.{AnswersAsList}
-use Rattle.plain.proofs.Refinement.{answers-as-list}
+use Rattle.refinement.specs.Refines.{AnswersAsList}
+use Rattle.refinement.proofs.Refinement.{answers-as-list}
 use Rattle.programs.specs.Programs.{run, repliesIn, mapped}
 use Rattle.programs.specs.AsList.{runList, repliesOf}
 use Rattle.programs.proofs.Laws.{cons-same, heads-same}

@@ -22,7 +22,8 @@ use Rattle.keeping.specs.Keeping.{Agree}
 use Rattle.runs.specs.Noninterference.{SameStacks, turn, Alike as CalledAlike, SameAnswers}
 use Rattle.plain.specs.Objects.{Plain}
 use Rattle.plain.specs.Replies.{reply, replies, fillings}
-use Rattle.plain.specs.Refines.{counted, changes, from as calls}
+use Rattle.plain.specs.Replies.{from as calls}
+use Rattle.refinement.specs.Refines.{counted, changes}
 use Rattle.programs.specs.Programs.{Ran, run, repliesIn, leftIn, mapped}
 use Rattle.programs.specs.AsList.{RanList, runList, repliesOf}
 use Rattle.programs.proofs.Laws.{heads-same, tails-same, mapped-list}

@@ -19,8 +19,8 @@ use Rattle.keeping.specs.Keeping.{butRescans}
 use Rattle.runs.specs.Noninterference.{turn}
 use Rattle.plain.specs.Objects.{Plain}
 use Rattle.plain.specs.Replies.{Reply, reply, replies, fillings}
-use Rattle.plain.specs.Refines.{AnswersAsList, ImagesAsList}
-use Rattle.plain.proofs.Refinement.{answers-as-list, images-as-list}
+use Rattle.refinement.specs.Refines.{AnswersAsList, ImagesAsList}
+use Rattle.refinement.proofs.Refinement.{answers-as-list, images-as-list}
 use Rattle.programs.specs.Programs.{Program, ask, stackAfter, run, leftIn, mapped}
 use Rattle.programs.specs.AsList.{runList}
 use Rattle.programs.proofs.Laws.{heads-same, tails-same, mapped-run, mapped-list}

@@ -28,8 +28,9 @@ use Rattle.runs.proofs.Samples as calls
 use Rattle.plain.specs.Objects.{total, find, placeFrom, lowestGap, longestGap, insert, remove, replace}
 use Rattle.plain.specs.Tracing.{isIn, ledTo, push, followTo, follow as followed, followAll, emptyFor, empty, subtree, fromRootTo, fromRoots, goThrough, again, againFor, trace as traced, among}
 use Rattle.plain.specs.Replies.{places, allocatedAt, onObject, named, collectedBy, loadedFrom, storedIn, reply}
-use Rattle.plain.specs.Refines.{counted}
-use Rattle.plain.specs.Examples.{runBase, garbage, twelve, run-accepted}
+use Rattle.refinement.specs.Refines.{counted}
+use Rattle.plain.specs.Examples.{runBase, twelve}
+use Rattle.refinement.specs.Memories.{garbage, run-accepted}
 use Rattle.programs.specs.Programs.{run, repliesIn, mapped}
 use Rattle.programs.specs.AsList.{runList, repliesOf}
 use Rattle.logs.specs.Log.{logged, readout, linkIn, linkTo, linkAt, follow, onLog, checked, lastOf, atIndex, join, enter, appendTo, append, readFrom, read, dropFrom, drop}

@@ -17,8 +17,8 @@ use Rattle.keeping.specs.Keeping.{butRescans}
 use Rattle.promises.proofs.Promised.{promises}
 use Rattle.promises.proofs.Bytes.{on-bytes}
 use Rattle.runs.specs.Noninterference.{turn}
-use Rattle.plain.specs.Refines.{counted, changes, UsedIsSum}
-use Rattle.plain.proofs.Sums.{used-is-sum}
+use Rattle.refinement.specs.Refines.{counted, changes, UsedIsSum}
+use Rattle.refinement.proofs.Sums.{used-is-sum}
 use Rattle.programs.specs.Programs.{Program, Ran, stackAfter, run, repliesIn, leftIn, mapped}
 use Rattle.logs.specs.Log.{Reply}
 use Rattle.requests.specs.Requests.{Request, HeapCall, Append, Read, Drop, Response, programOf, Made, responsesIn, memoryAfter}

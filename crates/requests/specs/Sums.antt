@@ -9,7 +9,7 @@ use Rattle.rules.specs.Forms.{Form}
 use Rattle.laws.specs.Faithful.{Faithful}
 use Rattle.rules.specs.Runs.{Call, startsAnew}
 use Rattle.rules.specs.Memory.{Memory, AcceptedIn, perform}
-use Rattle.plain.specs.Refines.{counted}
+use Rattle.refinement.specs.Refines.{counted}
 use Rattle.requests.specs.Requests.{Response, answered, replied, Made, responsesIn, memoryAfter, from}
 
 -- the sum d of the changes, one response further: of the heap's calls as without a log, and every reply of the log adds its change
