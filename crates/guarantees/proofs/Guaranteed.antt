@@ -17,9 +17,8 @@ use Rattle.promises.proofs.Alignment.{new-objects-aligned, aligned-from-start}
 use Rattle.promises.proofs.OtherT.{other-t-is-refused}
 use Rattle.algebra.proofs.Algebra.{frees-commute, roots-are-a-set, roots-join, collect-idempotent}
 use Rattle.runs.proofs.Noninterference.{noninterference}
-use Rattle.plain.proofs.Refinement.{answers-as-list, images-as-list}
-use Rattle.plain.proofs.Reached.{list-keeps-reachable}
-use Rattle.plain.proofs.Sums.{used-is-sum}
+use Rattle.refinement.proofs.Refinement.{answers-as-list, images-as-list, list-keeps-reachable}
+use Rattle.refinement.proofs.Sums.{used-is-sum}
 use Rattle.programs.proofs.Unseen.{programs-unseen}
 use Rattle.programs.proofs.AsList.{programs-as-list}
 use Rattle.logs.proofs.Examples.{accepted-hold, refused-hold, examples-number as log-number}

@@ -21,7 +21,7 @@ use Rattle.promises.specs.Alignment.{NewObjectsAligned, AlignedFromStart}
 use Rattle.promises.specs.OtherT.{OtherTIsRefused}
 use Rattle.algebra.specs.Algebra.{FreesCommute, RootsAreASet, RootsJoin, CollectIdempotent}
 use Rattle.runs.specs.Noninterference.{Noninterference}
-use Rattle.plain.specs.Refines.{AnswersAsList, ImagesAsList, ListKeepsReachable, UsedIsSum}
+use Rattle.refinement.specs.Refines.{AnswersAsList, ImagesAsList, ListKeepsReachable, UsedIsSum}
 use Rattle.programs.specs.Unseen.{ProgramsUnseen}
 use Rattle.programs.specs.AsList.{ProgramsAsList}
 use Rattle.logs.specs.Examples.{accepted, refused, found, expected}
