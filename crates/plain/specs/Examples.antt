@@ -76,6 +76,15 @@ pointingInto = object 6 1 (set (replicate 4 0) 0 4128)
 abbrev pub chained : ℕ → List Object
 chained w = reaching w ∷ zeros 4 2 ∷ pointingInto ∷ []
 
+-- Five objects of one block, at blocks 0 to 4. An arrow is two words that hold addresses, the first word and the second:
+--
+--     0 → 1, 2      1 → 3, 4
+--
+-- With one mark stack entry 0 pushes 2, its last word being read first, and 1 is lost; the first rescan finds 1, which pushes 4, and 3 is lost; the second finds nothing
+-- more. Words that are read from the first to the last give one rescan.
+abbrev pub branching : List Object
+branching = object 0 1 (4112 ∷ 4128 ∷ 0 ∷ 0 ∷ []) ∷ object 1 1 (4144 ∷ 4160 ∷ 0 ∷ 0 ∷ []) ∷ zeros 2 1 ∷ zeros 3 1 ∷ zeros 4 1 ∷ []
+
 -- an object of an old heap: four blocks from block 1 on, where they would not be placed now
 abbrev pub old : List Object
 old = zeros 0 1 ∷ zeros 1 4 ∷ []
@@ -161,6 +170,8 @@ examples =
     ∷ example (reply (Collect 4096 (bytesOf 4192)) [] (eight (chained 4176))) (collectedTo 3 2 (pos 0)) (chained 4176)
     ∷ example (reply (Collect 4096 (bytesOf 4192)) (replicate 256 7) (eight (chained 4184))) (collectedTo 2 0 (minus 2)) (reaching 4184 ∷ pointingInto ∷ [])
     ∷ example (reply (Collect 4096 (bytesOf 4208)) (replicate 256 7) (eight (chained 4176))) (collectedTo 0 0 (minus 7)) []
+    -- words are read from the last to the first: one mark stack entry, and two rescans
+    ∷ example (reply (Collect 4096 (bytesOf 4096)) (replicate 4 7) (eight branching)) (collectedTo 5 2 (pos 0)) branching
     -- four blocks pass by block 1, three get it, and growing to four they move
     ∷ exampleIn 12 (reply (Allocate 4096 64) [] (blocks 12 (zeros 0 1 ∷ []))) (placedAt 4 (pos 4)) (zeros 0 1 ∷ zeros 4 4 ∷ [])
     ∷ exampleIn 12 (reply (Allocate 4096 48) [] (blocks 12 (zeros 0 1 ∷ zeros 4 4 ∷ []))) (placedAt 1 (pos 3)) (zeros 0 1 ∷ zeros 1 3 ∷ zeros 4 4 ∷ [])
@@ -207,7 +218,7 @@ examples =
     ∷ []
 
 -- there are so many
-pub examples-number : length examples ≡ 53
+pub examples-number : length examples ≡ 54
 unfolding examples
 examples-number = refl
 
