@@ -1,8 +1,3 @@
 pub mod Log
 pub mod Heads
-pub mod Chains
-pub mod Pairs
-pub mod Lasting
-pub mod Promises
-pub mod Cycle
 pub mod Examples

@@ -1,1 +1,1 @@
-// What follows from the definitions of the calls is proved here, once: see specs/ and proofs/. There is no code here.
+// The calls of the rain log are definitions, with worked examples: see specs/ and proofs/. There is no code here.

@@ -15,10 +15,10 @@ use Rattle.promises.specs.Conditions.{First}
 use Rattle.promises.proofs.Determined.{first-one}
 use Rattle.promises.proofs.OtherT.{other-t-is-refused}
 use Rattle.programs.specs.Programs.{Ran, ran, run}
 use Rattle.logs.specs.Log.{Reply, declined, append, read, drop}
-use Rattle.logs.specs.Promises.{surveyIn, ofAppend, ofRead, ofDrop, Declined}
-use Rattle.logs.proofs.Promised.{log-promises}
-use Rattle.logs.proofs.Uses.{ran-of}
+use Rattle.loglaws.specs.Promises.{surveyIn, ofAppend, ofRead, ofDrop, Declined}
+use Rattle.loglaws.proofs.Promised.{log-promises}
+use Rattle.loglaws.proofs.Uses.{ran-of}
 
 module _ (t t′ base first : ℕ) (stack : List ℕ) (m : Memory) (bytes : AllBytes (m .table)) (long : length (m .pool) ≡ 64 * t) (other : t′ ≢ t) where
   -- the survey's number

@@ -9,8 +9,8 @@ use Rattle.laws.specs.Faithful.{Faithful}
 use Rattle.rules.specs.Runs.{Call, Init, Allocate, Free, Reallocate, Collect, Survey, Load, Store, WriteImage, OpenImage, Turn}
 use Rattle.rules.specs.Memory.{Memory, heapIn, AcceptedIn, perform, afterIn}
 use Rattle.programs.specs.Programs.{run}
 use Rattle.logs.specs.Log.{read}
-use Rattle.logs.specs.Chains.{Entry, Chain, heads}
+use Rattle.loglaws.specs.Chains.{Entry, Chain, heads}
 
 -- Block k is no head of the log
 abbrev pub Apart : List Entry → ℕ → Type 0

@@ -3,11 +3,11 @@
 use mathlib.Core.Path.{sym, _∙_}
 use mathlib.Core.List.{[]}
 use Rattle.rules.specs.Memory.{afterIn}
-use Rattle.logs.specs.Promises.{LogPromises}
-use Rattle.logs.specs.Lasting.{LogLasts, LogReadsAsBefore}
-use Rattle.logs.proofs.Lasting.{log-lasts, passes-after}
-use Rattle.logs.proofs.Reading.{read-as, read-refusal, read-declined, was-read, drop-refusal, drop-declined, dropped}
-use Rattle.logs.proofs.Appending.{append-refusal, append-declined, append-no-room, appended, appended-after}
+use Rattle.loglaws.specs.Promises.{LogPromises}
+use Rattle.loglaws.specs.Lasting.{LogLasts, LogReadsAsBefore}
+use Rattle.loglaws.proofs.Lasting.{log-lasts, passes-after}
+use Rattle.loglaws.proofs.Reading.{read-as, read-refusal, read-declined, was-read, drop-refusal, drop-declined, dropped}
+use Rattle.loglaws.proofs.Appending.{append-refusal, append-declined, append-no-room, appended, appended-after}
 
 pub log-promises : LogPromises
 log-promises = record {

@@ -19,8 +19,8 @@ use Rattle.rules.specs.Memory.{Memory, Result, heapIn, Sound, perform}
 use Rattle.promises.specs.Conditions.{Condition, when, First, NoFit}
 use Rattle.promises.specs.Promises.{byteAt, Among, Within}
 use Rattle.programs.specs.Programs.{Ran, run}
 use Rattle.logs.specs.Log.{Reply, logged, readout, declined, append, read, drop}
-use Rattle.logs.specs.Chains.{Entry, Chain, Log}
+use Rattle.loglaws.specs.Chains.{Entry, Chain, Log}
 
 -- ---- refusals, those of each call in their order. The first that holds gives the number
 

@@ -12,14 +12,14 @@ use Rattle.laws.specs.Faithful.{Faithful}
 use Rattle.rules.specs.Runs.{Collect}
 use Rattle.rules.specs.Memory.{Memory, heapIn, afterIn}
 use Rattle.programs.specs.Programs.{Ran, run}
 use Rattle.logs.specs.Log.{Reply, append, drop}
-use Rattle.logs.specs.Chains.{Entry, Chain, heads}
-use Rattle.logs.specs.Lasting.{Spares, done, next, LogLasts}
-use Rattle.logs.specs.Promises.{collectionIn, LastOf}
-use Rattle.logs.proofs.Chaining.{chain-same, chain-object}
-use Rattle.logs.proofs.Lasting.{log-lasts}
-use Rattle.logs.proofs.Promised.{log-promises}
-use Rattle.logs.proofs.Uses.{fit-or-not, longer-apart, dropped-others}
+use Rattle.loglaws.specs.Chains.{Entry, Chain, heads}
+use Rattle.loglaws.specs.Lasting.{Spares, done, next, LogLasts}
+use Rattle.loglaws.specs.Promises.{collectionIn, LastOf}
+use Rattle.loglaws.proofs.Chaining.{chain-same, chain-object}
+use Rattle.loglaws.proofs.Lasting.{log-lasts}
+use Rattle.loglaws.proofs.Promised.{log-promises}
+use Rattle.loglaws.proofs.Uses.{fit-or-not, longer-apart, dropped-others}
 
 module _ (f : Form) (faithful : Faithful f) (base first : ℕ) (stack : List ℕ) (m : Memory) (bytes : AllBytes (m .table)) (other : ℕ) (es : List Entry) (chain : Chain base (heapIn f m) other es) where
   -- an append to the log with the entries ds, of which the last is no entry of the other

@@ -23,11 +23,11 @@ use Rattle.promises.specs.Conditions.{First, ofWord}
 use Rattle.promises.specs.Promises.{Object, blocksOf}
 use Rattle.promises.proofs.Promised.{promises}
 use Rattle.promises.proofs.Observed.{target-one, load-inside, load-beyond}
 use Rattle.logs.specs.Log.{Link, linkIn, prepended}
-use Rattle.logs.specs.Chains.{Entry, entryIn, Chain, ends, leads, heads}
-use Rattle.logs.proofs.Chaining.{address-some}
+use Rattle.loglaws.specs.Chains.{Entry, entryIn, Chain, ends, leads, heads}
+use Rattle.loglaws.proofs.Chaining.{address-some}
 use Rattle.logs.specs.Heads.{linkFrom, headsFrom}
-use Rattle.logs.proofs.Following.{looks}
+use Rattle.loglaws.proofs.Following.{looks}
 
 -- ---- a link
 

@@ -8,9 +8,9 @@ use Rattle.rules.specs.Forms.{Form}
 use Rattle.laws.specs.Faithful.{Faithful}
 use Rattle.rules.specs.Runs.{Free, Reallocate, Store}
 use Rattle.rules.specs.Memory.{Memory, heapIn, afterIn}
-use Rattle.logs.specs.Chains.{Entry, Chain, heads}
-use Rattle.logs.specs.Lasting.{Spares, done, next, LogLasts}
-use Rattle.logs.proofs.Lasting.{log-lasts}
+use Rattle.loglaws.specs.Chains.{Entry, Chain, heads}
+use Rattle.loglaws.specs.Lasting.{Spares, done, next, LogLasts}
+use Rattle.loglaws.proofs.Lasting.{log-lasts}
 
 -- a head is that of an entry
 headed : (es : List Entry) (k : ℕ) → List·Memᴰ k (heads es) → (e : Entry) × List·Memᴰ e es × (k ≡ e .head)

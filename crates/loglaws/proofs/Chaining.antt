@@ -15,9 +15,9 @@ use Rattle.rules.specs.Reach.{Reachable, root, edge}
 use Rattle.laws.proofs.Tables.{entry-inside}
 use Rattle.promises.specs.Promises.{Object, blocksOf, Same}
 use Rattle.promises.proofs.Observed.{same-words, lead-one}
 use Rattle.logs.specs.Log.{lastOf}
-use Rattle.logs.specs.Chains.{Entry, entryIn, Chain, ends, leads, heads, Distinct, fresh}
-use Rattle.logs.specs.Lasting.{Apart}
+use Rattle.loglaws.specs.Chains.{Entry, entryIn, Chain, ends, leads, heads, Distinct, fresh}
+use Rattle.loglaws.specs.Lasting.{Apart}
 
 -- ---- addresses
 

@@ -14,8 +14,8 @@ use Rattle.rules.specs.Planes.{planes}
 use Rattle.rules.specs.Runs.{Init}
 use Rattle.rules.specs.Memory.{Memory, AcceptedIn, perform}
 use Rattle.programs.specs.Programs.{Ran, run, Lent, lent, ranIn}
 use Rattle.logs.specs.Log.{Reply, append, read, drop}
-use Rattle.logs.specs.Pairs.{Pair, readPairs}
+use Rattle.loglaws.specs.Pairs.{Pair, readPairs}
 
 -- what a logger does
 pub data Deed : Type 0 where

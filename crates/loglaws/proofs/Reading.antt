@@ -25,15 +25,15 @@ use Rattle.promises.proofs.Observed.{free-number, load-inside}
 use Rattle.programs.specs.Programs.{Ran, run}
 use Rattle.programs.proofs.Laws.{heads-same, tails-same}
 use Rattle.programs.proofs.OnHeaps.{RanOn, runOn, RunsAs}
 use Rattle.logs.specs.Log.{Reply, logged, readout, declined, readFrom, read, dropFrom, drop}
-use Rattle.logs.specs.Chains.{Entry, Chain}
-use Rattle.logs.specs.Pairs.{pairs, readPairs}
-use Rattle.logs.specs.Promises.{surveyIn, ofRead, ofDrop, Declined, Dropped}
-use Rattle.logs.proofs.Chaining.{Front, chain-front, chain-one, chain-apart, distinct-front}
-use Rattle.logs.proofs.Distinct.{no-repetition}
-use Rattle.logs.proofs.Following.{looks}
-use Rattle.logs.proofs.Calling.{resting, read-none, read-some, drop-none, drop-some}
-use Rattle.logs.proofs.Ending.{written-same, written-of, Ends, stops, acts, ended}
+use Rattle.loglaws.specs.Chains.{Entry, Chain}
+use Rattle.loglaws.specs.Pairs.{pairs, readPairs}
+use Rattle.loglaws.specs.Promises.{surveyIn, ofRead, ofDrop, Declined, Dropped}
+use Rattle.loglaws.proofs.Chaining.{Front, chain-front, chain-one, chain-apart, distinct-front}
+use Rattle.loglaws.proofs.Distinct.{no-repetition}
+use Rattle.loglaws.proofs.Following.{looks}
+use Rattle.loglaws.proofs.Calling.{resting, read-none, read-some, drop-none, drop-some}
+use Rattle.loglaws.proofs.Ending.{written-same, written-of, Ends, stops, acts, ended}
 
 -- ---- entries of a chain
 

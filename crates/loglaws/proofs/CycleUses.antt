@@ -15,10 +15,10 @@ use Rattle.rules.specs.Runs.{Init}
 use Rattle.rules.specs.Memory.{Memory, AcceptedIn, perform}
 use Rattle.keeping.specs.Keeping.{GoodStack}
 use Rattle.programs.specs.Programs.{run}
 use Rattle.logs.specs.Log.{read}
-use Rattle.logs.specs.Pairs.{Pair, readPairs}
-use Rattle.logs.specs.Cycle.{Deed, Append, Drop, repliesTo, firstAfter, memoryAfter, Told, told, refusedOn, doneOn, toldOn, pairsOn, toldBy, pairsAfter, AllInWords, LogIsList}
-use Rattle.logs.proofs.Cycle.{log-is-list}
+use Rattle.loglaws.specs.Pairs.{Pair, readPairs}
+use Rattle.loglaws.specs.Cycle.{Deed, Append, Drop, repliesTo, firstAfter, memoryAfter, Told, told, refusedOn, doneOn, toldOn, pairsOn, toldBy, pairsAfter, AllInWords, LogIsList}
+use Rattle.loglaws.proofs.Cycle.{log-is-list}
 
 -- the caller's roots and the mark stack are as they should be
 pub record Lists (roots stack : List ℕ) : Type 0 where

@@ -15,8 +15,8 @@ use Rattle.laws.specs.Meaning.{Shape}
 use Rattle.rules.specs.Outcomes.{Heap}
 use Rattle.laws.proofs.Lists.{one, count-set}
 use Rattle.laws.proofs.Tables.{entry-inside, objects-le}
-use Rattle.logs.specs.Chains.{Entry, entryIn, Chain, ends, leads, heads, Distinct, empty, fresh}
-use Rattle.logs.proofs.Chaining.{chain-one, chain-object, distinct-front}
+use Rattle.loglaws.specs.Chains.{Entry, entryIn, Chain, ends, leads, heads, Distinct, empty, fresh}
+use Rattle.loglaws.proofs.Chaining.{chain-one, chain-object, distinct-front}
 
 -- ---- no repetition
 

@@ -23,9 +23,9 @@ use Rattle.promises.proofs.Bytes.{on-bytes}
 use Rattle.programs.specs.Programs.{Program, Ran, ran, run}
 use Rattle.programs.proofs.Stacks.{stack-unseen}
 use Rattle.programs.proofs.OnHeaps.{RunsAs, runOn, run-on-heap, run-written}
 use Rattle.logs.specs.Log.{Reply, declined, decline, checked}
-use Rattle.logs.specs.Promises.{surveyIn}
-use Rattle.logs.proofs.Lasting.{survey-sound}
+use Rattle.loglaws.specs.Promises.{surveyIn}
+use Rattle.loglaws.proofs.Lasting.{survey-sound}
 
 -- on a heap a survey is refused by 1 or by 2, or not
 survey-number : (base : ℕ) (h : Heap) (n : ℕ) → survey base h .answer .refusal ≡ suc n → (suc n ≡ 1) ⊎ (suc n ≡ 2)

@@ -37,18 +37,18 @@ use Rattle.promises.proofs.Promised.{promises}
 use Rattle.promises.proofs.Bytes.{on-bytes, first-past}
 use Rattle.promises.proofs.Determined.{first-one, start-one}
 use Rattle.programs.specs.Programs.{Ran, ran, run}
 use Rattle.logs.specs.Log.{Reply, logged, declined, append, read, drop}
-use Rattle.logs.specs.Chains.{Entry, Chain, ends, leads, Log, heads}
-use Rattle.logs.specs.Pairs.{Pair, pairs, readPairs}
-use Rattle.logs.specs.Lasting.{AllSpare, done, next, Spares, LogReadsAsBefore}
-use Rattle.logs.specs.Promises.{surveyIn, collectionIn, ofAppend, NoEntry, ofRead, ofDrop, Declined, LastOf, Longer, Appended, Dropped}
+use Rattle.loglaws.specs.Chains.{Entry, Chain, ends, leads, Log, heads}
+use Rattle.loglaws.specs.Pairs.{Pair, pairs, readPairs}
+use Rattle.loglaws.specs.Lasting.{AllSpare, done, next, Spares, LogReadsAsBefore}
+use Rattle.loglaws.specs.Promises.{surveyIn, collectionIn, ofAppend, NoEntry, ofRead, ofDrop, Declined, LastOf, Longer, Appended, Dropped}
 use Rattle.logs.specs.Examples.{ranFrom, reads, linked, sevens}
-use Rattle.logs.proofs.Chaining.{Front, address-one, address-some, chain-front, chain-none, chain-one, chain-same, chain-object}
-use Rattle.logs.proofs.Lasting.{survey-sound, sound-survey, passes-after}
-use Rattle.logs.proofs.Calling.{kept-accepted}
-use Rattle.logs.proofs.Ending.{Indexed, past, inside, indexed}
-use Rattle.logs.proofs.Reading.{chain-at, split-same, pairs-at, pairs-past, read-as}
-use Rattle.logs.proofs.Promised.{log-promises, log-reads-as-before}
+use Rattle.loglaws.proofs.Chaining.{Front, address-one, address-some, chain-front, chain-none, chain-one, chain-same, chain-object}
+use Rattle.loglaws.proofs.Lasting.{survey-sound, sound-survey, passes-after}
+use Rattle.loglaws.proofs.Calling.{kept-accepted}
+use Rattle.loglaws.proofs.Ending.{Indexed, past, inside, indexed}
+use Rattle.loglaws.proofs.Reading.{chain-at, split-same, pairs-at, pairs-past, read-as}
+use Rattle.loglaws.proofs.Promised.{log-promises, log-reads-as-before}
 
 -- ---- one outcome
 

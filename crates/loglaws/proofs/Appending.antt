@@ -27,13 +27,13 @@ use Rattle.promises.specs.Conditions.{First, NoFit}
 use Rattle.promises.proofs.Promised.{promises}
 use Rattle.programs.specs.Programs.{Program, Ran, ran, run}
 use Rattle.programs.proofs.OnHeaps.{RanOn, runOn, RunsAs}
 use Rattle.logs.specs.Log.{Reply, logged, declined, declineIf, onLog, enter, appendTo, append}
-use Rattle.logs.specs.Chains.{Entry, Chain, heads}
-use Rattle.logs.specs.Promises.{surveyIn, collectionIn, ofAppend, Declined, Longer, Appended}
-use Rattle.logs.proofs.Chaining.{chain-one}
-use Rattle.logs.proofs.Calling.{resting, Followed, lost, found, followed, Entered, enter-refusal, entered, Asked, at-once, after-all, not-even, asked, kept-accepted, log-kept}
-use Rattle.logs.proofs.Checking.{Checks, torn, halted, passes, checks}
-use Rattle.logs.proofs.Ending.{written-same, written-of, declined-run, declined-ran}
+use Rattle.loglaws.specs.Chains.{Entry, Chain, heads}
+use Rattle.loglaws.specs.Promises.{surveyIn, collectionIn, ofAppend, Declined, Longer, Appended}
+use Rattle.loglaws.proofs.Chaining.{chain-one}
+use Rattle.loglaws.proofs.Calling.{resting, Followed, lost, found, followed, Entered, enter-refusal, entered, Asked, at-once, after-all, not-even, asked, kept-accepted, log-kept}
+use Rattle.loglaws.proofs.Checking.{Checks, torn, halted, passes, checks}
+use Rattle.loglaws.proofs.Ending.{written-same, written-of, declined-run, declined-ran}
 
 -- ---- the tests of the lists
 

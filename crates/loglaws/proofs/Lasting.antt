@@ -25,9 +25,9 @@ use Rattle.promises.proofs.Promised.{promises}
 use Rattle.promises.proofs.Bytes.{on-bytes, first-at, first-past}
 use Rattle.promises.proofs.Observed.{survey-number}
 use Rattle.promises.proofs.Whole.{sized}
-use Rattle.logs.specs.Chains.{Entry, Chain}
-use Rattle.logs.specs.Lasting.{Spares, AllSpare, done, next, LogLasts}
-use Rattle.logs.proofs.Chaining.{chain-object, chain-same, chain-apart, chain-reachable}
+use Rattle.loglaws.specs.Chains.{Entry, Chain}
+use Rattle.loglaws.specs.Lasting.{Spares, AllSpare, done, next, LogLasts}
+use Rattle.loglaws.proofs.Chaining.{chain-object, chain-same, chain-apart, chain-reachable}
 
 -- ---- the chain
 

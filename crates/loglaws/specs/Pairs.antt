@@ -2,8 +2,8 @@
 -- Assumes nothing.
 use mathlib.Core.List.{List, [], _∷_, map}
 use Prim.Native.Nat.{ℕ, zero, suc}
 use Rattle.logs.specs.Log.{Reply, readout, declined}
-use Rattle.logs.specs.Chains.{Entry}
+use Rattle.loglaws.specs.Chains.{Entry}
 
 pub record Pair : Type 0 where
   pub time : ℕ

@@ -8,9 +8,9 @@ use Rattle.rules.specs.Forms.{Form}
 use Rattle.laws.specs.Faithful.{Faithful}
 use Rattle.rules.specs.Runs.{Call, Allocate, Free, Reallocate, Collect, Survey, Load, Store, WriteImage, Turn}
 use Rattle.rules.specs.Memory.{Memory, heapIn, afterIn}
-use Rattle.logs.specs.Chains.{Entry, Chain}
-use Rattle.logs.specs.Lasting.{Apart, Spares, done, next, LogLasts}
-use Rattle.logs.proofs.Lasting.{log-lasts}
+use Rattle.loglaws.specs.Chains.{Entry, Chain}
+use Rattle.loglaws.specs.Lasting.{Apart, Spares, done, next, LogLasts}
+use Rattle.loglaws.proofs.Lasting.{log-lasts}
 
 abbrev turn : Call → List ℕ → Turn
 turn c stack = record { call = c; stack = stack }

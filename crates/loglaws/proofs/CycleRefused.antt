@@ -13,10 +13,10 @@ use Rattle.rules.specs.Planes.{planes}
 use Rattle.rules.specs.Runs.{Init}
 use Rattle.rules.specs.Memory.{Memory, AcceptedIn, perform}
 use Rattle.programs.specs.Programs.{run}
 use Rattle.logs.specs.Log.{read}
-use Rattle.logs.specs.Pairs.{Pair, readPairs}
-use Rattle.logs.specs.Cycle.{Deed, Append, Drop, repliesTo, firstAfter, memoryAfter, Told, told, refusedOn, toldBy, pairsAfter, roomIn, InWords, AllInWords, next, LogIsList}
-use Rattle.logs.proofs.Cycle.{log-is-list}
+use Rattle.loglaws.specs.Pairs.{Pair, readPairs}
+use Rattle.loglaws.specs.Cycle.{Deed, Append, Drop, repliesTo, firstAfter, memoryAfter, Told, told, refusedOn, toldBy, pairsAfter, roomIn, InWords, AllInWords, next, LogIsList}
+use Rattle.loglaws.proofs.Cycle.{log-is-list}
 
 -- what a refused deed tells
 abbrev pub unmoved : ℕ → Told

@@ -19,12 +19,12 @@ use Rattle.promises.specs.Conditions.{First, ofWord}
 use Rattle.promises.specs.Promises.{Object, blocksOf, byteAt, Among, Within, Same, Allocated, Stored}
 use Rattle.promises.proofs.Promised.{promises}
 use Rattle.promises.proofs.Observed.{store-number, load-inside, same-words, new-zero}
 use Rattle.logs.specs.Log.{lastOf}
-use Rattle.logs.specs.Chains.{Entry, Chain, heads}
-use Rattle.logs.specs.Promises.{LastOf, Longer}
-use Rattle.logs.proofs.Chaining.{Relinked, chain-same, chain-object, chain-blocks, chain-single, chain-append, last-behind, last-among}
-use Rattle.logs.proofs.Distinct.{no-repetition}
-use Rattle.logs.proofs.Following.{looks}
+use Rattle.loglaws.specs.Chains.{Entry, Chain, heads}
+use Rattle.loglaws.specs.Promises.{LastOf, Longer}
+use Rattle.loglaws.proofs.Chaining.{Relinked, chain-same, chain-object, chain-blocks, chain-single, chain-append, last-behind, last-among}
+use Rattle.loglaws.proofs.Distinct.{no-repetition}
+use Rattle.loglaws.proofs.Following.{looks}
 
 -- ---- words, by what loads answer
 

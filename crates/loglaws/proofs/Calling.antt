@@ -26,15 +26,15 @@ use Rattle.promises.specs.Conditions.{First, ofAllocate, NoFit}
 use Rattle.promises.proofs.Promised.{promises}
 use Rattle.programs.specs.Programs.{Program, give, ask}
 use Rattle.programs.proofs.OnHeaps.{RanOn, runOn}
 use Rattle.logs.specs.Log.{Reply, logged, readout, declined, decline, onLog, join, enter, appendTo, readFrom, dropFrom, lastOf}
-use Rattle.logs.specs.Chains.{Entry, Chain, Log, heads}
-use Rattle.logs.specs.Promises.{Longer}
-use Rattle.logs.proofs.Chaining.{chain-word, chain-reachable, chain-same}
-use Rattle.logs.proofs.Distinct.{chain-4096}
+use Rattle.loglaws.specs.Chains.{Entry, Chain, Log, heads}
+use Rattle.loglaws.specs.Promises.{Longer}
+use Rattle.loglaws.proofs.Chaining.{chain-word, chain-reachable, chain-same}
+use Rattle.loglaws.proofs.Distinct.{chain-4096}
 use Rattle.logs.specs.Heads.{headsFrom}
-use Rattle.logs.proofs.Following.{looks, load-on, follow-on}
-use Rattle.logs.proofs.Finding.{found-says, chain-found}
-use Rattle.logs.proofs.Entering.{New, new-object, joined-none, joined-last, linked-good}
+use Rattle.loglaws.proofs.Following.{looks, load-on, follow-on}
+use Rattle.loglaws.proofs.Finding.{found-says, chain-found}
+use Rattle.loglaws.proofs.Entering.{New, new-object, joined-none, joined-last, linked-good}
 
 -- what is left of a heap
 abbrev pub resting : Reply → Heap → List ℕ → RanOn Reply

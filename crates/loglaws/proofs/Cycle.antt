@@ -41,18 +41,18 @@ use Rattle.promises.proofs.Promised.{promises}
 use Rattle.promises.proofs.Bytes.{on-bytes, first-past}
 use Rattle.programs.specs.Programs.{Ran, run}
 use Rattle.programs.proofs.OnHeaps.{run-on-heap, run-written}
 use Rattle.logs.specs.Log.{Reply, append, read, drop}
-use Rattle.logs.specs.Chains.{Entry, Chain, ends, heads}
-use Rattle.logs.specs.Pairs.{Pair, pairs, readPairs}
-use Rattle.logs.specs.Promises.{surveyIn, collectionIn, ofAppend, NoEntry, ofRead, ofDrop, Longer, Dropped}
-use Rattle.logs.specs.Cycle.{Deed, Append, Drop, programOf, ranTo, firstBy, repliesTo, firstAfter, memoryAfter, told, refusedOn, doneOn, changeOf, toldOn, pairsOn, toldBy, pairsAfter, InWords, AllInWords, done, next, roomIn, LogIsList}
-use Rattle.logs.proofs.Chaining.{chain-one, chain-front, chain-object, chain-blocks, chain-reachable}
-use Rattle.logs.proofs.Lasting.{sound-survey}
-use Rattle.logs.proofs.Calling.{first-among}
-use Rattle.logs.proofs.Appending.{whole-words, torn-words}
-use Rattle.logs.proofs.Reading.{read-as}
-use Rattle.logs.proofs.Promised.{log-promises}
-use Rattle.logs.proofs.Paired.{Paired, some-free, head-even, gap-fits, start-even, full-none, free-paired, changed-paired, second-tail}
+use Rattle.loglaws.specs.Chains.{Entry, Chain, ends, heads}
+use Rattle.loglaws.specs.Pairs.{Pair, pairs, readPairs}
+use Rattle.loglaws.specs.Promises.{surveyIn, collectionIn, ofAppend, NoEntry, ofRead, ofDrop, Longer, Dropped}
+use Rattle.loglaws.specs.Cycle.{Deed, Append, Drop, programOf, ranTo, firstBy, repliesTo, firstAfter, memoryAfter, told, refusedOn, doneOn, changeOf, toldOn, pairsOn, toldBy, pairsAfter, InWords, AllInWords, done, next, roomIn, LogIsList}
+use Rattle.loglaws.proofs.Chaining.{chain-one, chain-front, chain-object, chain-blocks, chain-reachable}
+use Rattle.loglaws.proofs.Lasting.{sound-survey}
+use Rattle.loglaws.proofs.Calling.{first-among}
+use Rattle.loglaws.proofs.Appending.{whole-words, torn-words}
+use Rattle.loglaws.proofs.Reading.{read-as}
+use Rattle.loglaws.proofs.Promised.{log-promises}
+use Rattle.loglaws.proofs.Paired.{Paired, some-free, head-even, gap-fits, start-even, full-none, free-paired, changed-paired, second-tail}
 
 -- ---- a collection of what is all reachable
 

@@ -18,12 +18,12 @@ use Rattle.laws.proofs.Refusals.{true-not-false}
 use Rattle.promises.specs.Conditions.{First}
 use Rattle.programs.specs.Programs.{Program, Ran, ran, run}
 use Rattle.programs.proofs.OnHeaps.{RanOn, runOn, RunsAs}
 use Rattle.logs.specs.Log.{Reply, declined, atIndex, onLog, checked}
-use Rattle.logs.specs.Chains.{Entry, Chain, Log, heads}
-use Rattle.logs.specs.Promises.{surveyIn, NoEntry, ofRead, Declined}
-use Rattle.logs.proofs.Chaining.{chain-one}
-use Rattle.logs.proofs.Calling.{resting, Followed, lost, found, followed}
-use Rattle.logs.proofs.Checking.{Checks, torn, halted, passes, checks}
+use Rattle.loglaws.specs.Chains.{Entry, Chain, Log, heads}
+use Rattle.loglaws.specs.Promises.{surveyIn, NoEntry, ofRead, Declined}
+use Rattle.loglaws.proofs.Chaining.{chain-one}
+use Rattle.loglaws.proofs.Calling.{resting, Followed, lost, found, followed}
+use Rattle.loglaws.proofs.Checking.{Checks, torn, halted, passes, checks}
 
 -- the same heap in tables that are what their entries are written as is the same memory
 pub written-same : (f : Form) (m m′ : Memory) → Written f m → Written f m′ → heapIn f m ≡ heapIn f m′ → m ≡ m′

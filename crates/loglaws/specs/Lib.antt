@@ -1,0 +1,5 @@
+pub mod Chains
+pub mod Pairs
+pub mod Lasting
+pub mod Promises
+pub mod Cycle
