@@ -9,10 +9,10 @@ use Rattle.rules.specs.Planes.{planes, heapAt}
 use Rattle.rules.specs.Memory.{memory, Sound, AcceptedIn, perform}
 use Rattle.laws.proofs.Planes.{planes-faithful}
 use Rattle.promises.proofs.Bytes.{on-bytes}
-use Rattle.logs.proofs.Chaining.{chain-word}
-use Rattle.logs.proofs.Lasting.{survey-sound}
-use Rattle.logs.proofs.Following.{looks}
-use Rattle.logs.proofs.Finding.{found-says}
+use Rattle.loglaws.proofs.Chaining.{chain-word}
+use Rattle.loglaws.proofs.Lasting.{survey-sound}
+use Rattle.loglaws.proofs.Following.{looks}
+use Rattle.loglaws.proofs.Finding.{found-says}
 use Rattle.logs.specs.Heads.{Loads, headsFrom}
 use Rattle.chain.specs.Walks.{loadsIn}
 

@@ -17,7 +17,7 @@ use Rattle.keeping.specs.Keeping.{butRescans}
 use Rattle.programs.specs.Programs.{Program, ask, ran, run}
 use Rattle.promises.proofs.Bytes.{on-bytes}
 use Rattle.logs.specs.Log.{Reply, declined, decline, isAccepted, follow, onLog, checked}
-use Rattle.logs.proofs.Following.{follow-by}
+use Rattle.loglaws.proofs.Following.{follow-by}
 use Rattle.logs.specs.Heads.{Loads, headsFrom}
 use Rattle.appender.proofs.Asking.{asked}
 
