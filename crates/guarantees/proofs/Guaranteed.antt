@@ -22,9 +22,9 @@ use Rattle.refinement.proofs.Sums.{used-is-sum}
 use Rattle.programs.proofs.Unseen.{programs-unseen}
 use Rattle.programs.proofs.AsList.{programs-as-list}
 use Rattle.logs.proofs.Examples.{accepted-hold, refused-hold, examples-number as log-number}
-use Rattle.logs.proofs.Promised.{log-promises, log-reads-as-before}
-use Rattle.logs.proofs.Lasting.{log-lasts}
-use Rattle.logs.proofs.Cycle.{log-is-list}
+use Rattle.loglaws.proofs.Promised.{log-promises, log-reads-as-before}
+use Rattle.loglaws.proofs.Lasting.{log-lasts}
+use Rattle.loglaws.proofs.Cycle.{log-is-list}
 use Rattle.requests.proofs.Unseen.{requests-unseen}
 use Rattle.requests.proofs.AsList.{requests-as-list}
 use Rattle.requests.proofs.Images.{calls-after-requests}

@@ -25,9 +25,9 @@ use Rattle.refinement.specs.Refines.{AnswersAsList, ImagesAsList, ListKeepsReac
 use Rattle.programs.specs.Unseen.{ProgramsUnseen}
 use Rattle.programs.specs.AsList.{ProgramsAsList}
 use Rattle.logs.specs.Examples.{accepted, refused, found, expected}
-use Rattle.logs.specs.Promises.{LogPromises}
-use Rattle.logs.specs.Lasting.{LogLasts, LogReadsAsBefore}
-use Rattle.logs.specs.Cycle.{LogIsList}
+use Rattle.loglaws.specs.Promises.{LogPromises}
+use Rattle.loglaws.specs.Lasting.{LogLasts, LogReadsAsBefore}
+use Rattle.loglaws.specs.Cycle.{LogIsList}
 use Rattle.requests.specs.Unseen.{RequestsUnseen}
 use Rattle.requests.specs.AsList.{RequestsAsList}
 use Rattle.requests.specs.Images.{CallsAfterRequests}
