@@ -1,14 +1,15 @@
 -- Logs in heaps of 4 and 8 blocks at base 4,096, call by call: the reply of each, and every byte that it leaves of the pool, the table and the mark stack. That each is so is computed (proofs/Examples).
 -- Assumes nothing.
 use mathlib.Core.List.{List, [], _∷_, _++_, map}
+use mathlib.Core.Option.{Option}
 use Prim.Native.Nat.{ℕ}
 use lib.IntN.{pos, negℤ}
 use lib.ListN.{replicate}
 use Rattle.rules.specs.Words.{bytesOf}
 use Rattle.rules.specs.Planes.{planes}
 use Rattle.rules.specs.Memory.{Memory, memory}
-use Rattle.programs.specs.Programs.{Program, Ran, ran, run}
-use Rattle.logs.specs.Log.{Reply, logged, readout, declined, append, read, drop}
+use Rattle.programs.specs.Programs.{Program, give, Ran, ran, run}
+use Rattle.logs.specs.Log.{Reply, logged, readout, declined, follow, append, read, drop}
 
 -- what is left of a call, and what it should be
 pub record LogExample : Type 0 where
@@ -82,6 +83,14 @@ reads t m first index = record { t = t; program = read 4096 first index; stack =
 
 abbrev pub drops : ℕ → Memory → ℕ → Made
 drops t m first = record { t = t; program = drop 4096 first; stack = sevens 8; memory = m }
+
+-- ---- the walk
+
+-- the heads of the chain from block 0 on, if it ends after at most n entries. A call follows 4,096; here are few, as in these heaps:
+--
+--     double   0 → 2        linked 4128 4096   0 → 2 → 0 → ..
+abbrev pub walked : ℕ → Memory → Option (List ℕ)
+walked n m = run (planes 1) (follow 4096 n 4096 (λ ks. give ks)) [] m .reply
 
 -- ---- the calls
 
