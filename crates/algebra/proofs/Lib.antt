@@ -5,3 +5,4 @@ pub mod Algebra
 pub mod Times
 pub mod Samples
 pub mod Limits
+pub mod Restated

@@ -28,3 +28,4 @@ pub mod Clamped
 pub mod Memory
 pub mod Planes
 pub mod Agreement
+pub mod Restated

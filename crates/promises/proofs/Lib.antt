@@ -22,3 +22,4 @@ pub mod Alignment
 pub mod Large
 pub mod Samples
 pub mod Elsewhere
+pub mod Restated
