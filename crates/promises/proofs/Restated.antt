@@ -1,4 +1,4 @@
--- Statements of Bytes, Determined and Promises, and one of keeping, used at variables: each law says one anew, from hypotheses that are written out. A statement that said less, or asked more, would not give it.
+-- Statements of Bytes, Determined, Promises and Files, and one of keeping, used at variables: each law says one anew, from hypotheses that are written out. A statement that said less, or asked more, would not give it.
 -- Those that are not here are used at variables in Observed, Elsewhere and Large, or in a crate above.
 -- Assumes nothing.
 use mathlib.Core.Path.{_≡_}
@@ -8,17 +8,17 @@ use mathlib.Core.List.{List, [], _++_}
 use Prim.Native.Nat.{ℕ, _+_, _*_, _-_, _/_, _%_, _≤_, _<_}
 use lib.ListN.{length, getD, drop, replicate}
 use Rattle.rules.specs.Bits.{bitOf}
-use Rattle.rules.specs.Entries.{HEAD, entriesOf, tableOf}
+use Rattle.rules.specs.Entries.{FREE, HEAD, entriesOf, tableOf}
 use Rattle.rules.specs.Tables.{entryAt, wellFormed, used}
-use Rattle.rules.specs.Outcomes.{Heap, Outcome}
+use Rattle.rules.specs.Outcomes.{Heap, Outcome, openedAt}
 use Rattle.rules.specs.Images.{imageOf}
 use Rattle.rules.specs.Files.{fileOf, rootsOf}
-use Rattle.rules.specs.Calls.{allocate, reallocate, collect}
+use Rattle.rules.specs.Calls.{allocate, reallocate, collect, openImage}
 use Rattle.rules.specs.Runs.{Call, Init, Store, WriteImage, OpenImage, Turn, step}
 use Rattle.rules.specs.Forms.{Form, packed}
 use Rattle.laws.specs.Faithful.{Faithful}
 use Rattle.rules.specs.Planes.{planeBytes, entriesIn, spareFree, planesOf, planes}
-use Rattle.rules.specs.Memory.{Memory, memory, heapIn, Sound, Result, perform, afterIn, answersIn, filledIn}
+use Rattle.rules.specs.Memory.{Memory, memory, heapIn, Sound, Result, faultIn, perform, afterIn, answersIn, filledIn}
 use Rattle.laws.specs.Meaning.{AllBytes, Shape}
 use Rattle.keeping.specs.Keeping.{butRescans, Collected}
 use Rattle.keeping.proofs.Collections.{any-stack}
@@ -27,6 +27,7 @@ use Rattle.promises.specs.Promises.{byteAt, Refused, Initialised, Alloca
 use Rattle.promises.specs.Determined.{SameHeap, partsOf}
 use Rattle.promises.proofs.Promised.{promises}
 use Rattle.promises.proofs.Bytes.{on-bytes, as-packed}
+use Rattle.promises.proofs.RoundTrips.{write-then-open}
 use Rattle.promises.proofs.Determined.{determined}
 use Rattle.promises.proofs.Whole.{whole}
 
@@ -110,6 +111,12 @@ module _ (base : ℕ) (h : Heap) where
   pub stack-stays : (roots stack : List ℕ) → ¬ (collect base h roots stack .answer .refusal ≡ 0) → collect base h roots stack .stack ≡ stack
   stack-stays = promises .refused-stack base h
 
+-- an opening leaves as many blocks as there were, and a heap that the calls take
+pub opened-fit : (h : Heap) (image : List ℕ) (room : ℕ) → openImage h image room .answer .refusal ≡ 0
+    → let r : Outcome = openImage h image room in
+    (length (r .heap .entries) ≡ length (h .entries)) × Shape (r .answer .base) (r .heap) × (wellFormed (r .heap .entries) ≡ true)
+opened-fit h image room accepted = let x = promises .opened h image room accepted in (x .blocks, x .good .shape, x .good .well)
+
 -- the mark stack has no influence
 pub stacks-alike : (f : Form) (base : ℕ) (m : Memory) (roots stack stack′ : List ℕ)
     → let o : Outcome = collect base (heapIn f m) roots stack in
@@ -118,6 +125,13 @@ pub stacks-alike : (f : Form) (base : ℕ) (m : Memory) (roots stack stack′ : 
 stacks-alike = any-stack
 
 -- ---- in bytes
+
+-- a call on memory that is as its form asks is the call on the heap in it
+pub on-its-heap : (f : Form) → Faithful f → (c : Call) (stack : List ℕ) (m : Memory) → Sound f m
+    → let r : Result = perform f c stack m in
+    let o : Outcome = step c stack (heapIn f m) in
+    (r .answer ≡ o .answer) × (heapIn f (r .memory) ≡ o .heap) × (r .filled ≡ o .filled) × Sound f (r .memory)
+on-its-heap f faithful c stack m sound = let x = on-bytes .as-on-heap f faithful c stack m sound in (x .answer, x .heap, x .filled, x .sound)
 
 module _ (f : Form) (faithful : Faithful f) (m : Memory) (bytes : AllBytes (m .table)) where
   pub store-leaves-table : (base k i w : ℕ) → perform f (Store base k i w) [] m .memory .table ≡ m .table
@@ -170,6 +184,17 @@ module _ (t : ℕ) (table : List ℕ) where
       → perform (planes t) (Init base) [] (memory pool table) .memory ≡ memory pool (replicate (length table) 0)
   init-leaves-zeros base pool = on-bytes .init-zero base t pool table
 
+pub spare-after : (t : ℕ) (c : Call) (stack : List ℕ) (m : Memory) → perform (planes t) c stack m .answer .refusal ≡ 0 → spareFree t (perform (planes t) c stack m .memory .table) ≡ true
+spare-after = on-bytes .clean-after
+
+pub opens-alike : (t : ℕ) (image : List ℕ) (room : ℕ) (m m′ : Memory) → length (m .pool) ≡ length (m′ .pool) → length (m .table) ≡ length (m′ .table)
+    → perform (planes t) (OpenImage image room) [] m .answer .refusal ≡ 0 → perform (planes t) (OpenImage image room) [] m′ ≡ perform (planes t) (OpenImage image room) [] m
+opens-alike = on-bytes .open-anywhere
+
+pub only-one-t : (t t′ : ℕ) (c c′ : Call) (stack stack′ : List ℕ) (m : Memory) → faultIn c ≡ 0 → faultIn c′ ≡ 0 → perform (planes t) c stack m .answer .refusal ≢ 1
+    → perform (planes t′) c′ stack′ m .answer .refusal ≢ 1 → t ≡ t′
+only-one-t = on-bytes .one-t
+
 -- each of the two forms reads what it has written
 module _ (table es : List ℕ) (small : (k : ℕ) → entryAt es k < 4) where
   pub planes-read-back : (t : ℕ) → planes t .fits table ≡ true → length es ≡ length (planes t .read table) → planes t .read (planes t .write es) ≡ es
@@ -197,3 +222,18 @@ module _ (t : ℕ) (m : Memory) (ts : List Turn) where
 pub planes-perform : (t : ℕ) (c : Call) (stack : List ℕ) (m : Memory) → length (m .table) ≡ t
     → perform (planes t) c stack (memory (m .pool) (planesOf t (entriesOf (m .table)))) .answer ≡ perform packed c stack m .answer
 planes-perform t c stack m long i = as-packed .call-in-planes t c stack m long i .answer
+
+-- ---- an image that is opened elsewhere
+
+pub brought-whole : (t base room : ℕ) (roots list : List ℕ) (m m′ : Memory) → AllBytes (m .table)
+    → length (m′ .pool) ≡ length (m .pool) → length (m′ .table) ≡ length (m .table) → length list % 4 ≡ 0 → length roots ≤ length list
+    → let w : Result = perform (planes t) (WriteImage base roots room) [] m in
+    let r : Result = perform (planes t) (OpenImage (w .filled) (length list)) [] m′ in
+    w .answer .refusal ≡ 0
+    → (r .answer ≡ openedAt base (length roots / 4)) × (r .memory .table ≡ m .table) × (length (r .memory .pool) ≡ length (m .pool))
+    × ((k : ℕ) → entryAt (entriesIn t (m .table)) k ≢ FREE → (j : ℕ) → j < 16 → getD (r .memory .pool) (16 * k + j) 0 ≡ getD (m .pool) (16 * k + j) 0)
+    × ((k : ℕ) → entryAt (entriesIn t (m .table)) k ≡ FREE → (j : ℕ) → j < 16 → getD (r .memory .pool) (16 * k + j) 0 ≡ 0)
+    × (r .filled ++ drop (length (r .filled)) list ≡ roots ++ drop (length roots) list)
+brought-whole t base room roots list m m′ bytes pools tables words enough accepted =
+    let x = write-then-open t base room roots list m m′ bytes pools tables words enough accepted in
+    (x .answer, x .table, x .size, x .used-bytes, x .free-bytes, x .root-list)
