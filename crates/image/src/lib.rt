@@ -11,6 +11,7 @@ ghost use Rattle.rules.specs.Runs.{WriteImage};
 ghost use Rattle.rules.specs.Memory.{memory, withBuffer, perform};
 ghost use Rattle.image.specs.Answers.{written, unwrittenBy};
 use numbers::Address;
+use numbers::Bytes;
 
 // The refusal number, and how long the image is.
 pub struct Written {
@@ -39,7 +40,7 @@ fn write_sections(
     let blocks = 8 + t;
     memory::set_two_bytes(&mut *image, blocks, used);
     transfer::gather(t, pool, table, &mut *image, blocks + 2);
-    let list = blocks + 2 + 16 * used;
+    let list = blocks + 2 + Bytes::of_blocks(used).index();
     memory::set_two_bytes(&mut *image, list, roots.len() / 4);
     memory::set_part(&mut *image, list + 2, roots);
 }
@@ -68,7 +69,7 @@ pub fn write(
         return unwritten(r);
     }
     let used = whole::count(t, table).used;
-    let length = 12 + t + 16 * used + roots.len();
+    let length = 12 + t + Bytes::of_blocks(used).index() + roots.len();
     if image.len() < length {
         return unwritten(refusals::OUTPUT_TOO_SHORT);
     }

@@ -1,5 +1,6 @@
 // Words, counts and bits in bytes, and parts that are cleared or copied. Only this crate knows the byte order.
 // The four or eight bytes of a number are one part: where indices are checked at run time, that takes one check.
+// What works on the pool alone takes `Bytes`; a place in bytes that may be a table, a list, a file or a part is a plain number.
 ghost use mathlib.Core.Path.{_≡_};
 ghost use mathlib.Core.Logic.{_⊎_};
 ghost use Prim.Native.Nat.{_+_, _-_, _*_, _≤_};

@@ -17,7 +17,7 @@ pub struct Block(usize);
 // An address. A base that is not tested yet may be any number; that of a block fits a word, and the end of the last is at most 2^32.
 pub struct Address(u64);
 
-// A count of bytes, or an offset into the pool.
+// A count of bytes that a caller asks for or that blocks have, or an offset into the pool. A place in a file is none.
 pub struct Bytes(usize);
 
 // The first number that is no address.

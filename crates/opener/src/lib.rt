@@ -10,6 +10,7 @@ ghost use Rattle.parser.specs.Reading.{Says};
 ghost use Rattle.opener.specs.Answers.{opened, unopenedBy};
 ghost use Rattle.opener.specs.Filling.{lentTests, Suits, Filled};
 use numbers::Address;
+use numbers::Bytes;
 use parser::File;
 
 // The refusal number, the base, and how many roots there are.
@@ -52,7 +53,7 @@ fn fill(image: &[u8], file: File, t: usize, pool: &mut [u8], table: &mut [u8], r
     let table_end = 8 + t;
     packing::unpack(t, &image[8..table_end], &mut *table);
     let blocks = table_end + 2;
-    let blocks_end = blocks + 16 * file.used;
+    let blocks_end = blocks + Bytes::of_blocks(file.used).index();
     transfer::scatter(t, &image[blocks..blocks_end], &*table, &mut *pool);
     let words = blocks_end + 2;
     memory::set_part(&mut *roots, 0, &image[words..]);

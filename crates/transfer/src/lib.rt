@@ -1,11 +1,12 @@
-// The used blocks between a pool and the section of an image that holds them, one after the other.
+// The used blocks between a pool and the section of an image that holds them, one after the other. A block is one of the pool's, and where its bytes start there is `Bytes`.
+// A place in an image is a plain number; so is that of a part, which may be of either.
 ghost use mathlib.Core.Path.{_≡_};
 ghost use Prim.Native.Nat.{_+_, _*_, _≤_, _<_, min};
-ghost use lib.ListN.{length, drop};
+ghost use lib.ListN.{length, take, drop};
 ghost use lib.Seq.{sets};
 ghost use Rattle.rules.specs.Tables.{used as usedOf};
 ghost use Rattle.rules.specs.Planes.{entriesIn, IsTable};
-ghost use Rattle.rules.specs.Images.{blockBytes, usedFrom};
+ghost use Rattle.rules.specs.Images.{usedFrom};
 ghost use Rattle.rules.specs.Files.{poolOf};
 ghost use Rattle.transfer.specs.Copying.{lanes, Inside, blocksIn, groupIn, withUsed};
 use numbers::Block;
@@ -14,13 +15,12 @@ use numbers::Bytes;
 // 64 blocks that are all used.
 const ALL: u64 = 18446744073709551615;
 
-// The 16 bytes of the source's block k are copied to `at` in the target. All are read before the first is written: so the compiler moves them at once.
+// A block's 16 bytes, from `from` on in the source, are copied to `at` in the target. All are read before the first is written: so the compiler moves them at once.
 // They are one part of each, as in crate memory.
-fn copy_block(source: &[u8], k: Block, target: &mut [u8], at: usize)
-    requires { ⌜ (k .0 < 4096) × ((16 * k .0 + 16 ≤ length (now source)) × (at + 16 ≤ length (now target))) ⌝ }
-    ensures { λ _. ⌜ now (target .exit) ≡ sets (now (target .entry)) at (blockBytes (now (source .entry)) (k .0)) ⌝ }
+fn copy_block(source: &[u8], from: usize, target: &mut [u8], at: usize)
+    requires { ⌜ (from + 16 ≤ length (now source)) × (at + 16 ≤ length (now target)) ⌝ }
+    ensures { λ _. ⌜ now (target .exit) ≡ sets (now (target .entry)) at (take 16 (drop from (now (source .entry)))) ⌝ }
 {
-    let from = k.offset().index();
     let from_end = from + 16;
     let to_end = at + 16;
     let block = &source[from..from_end];
@@ -45,7 +45,8 @@ fn copy_group(pool: &[u8], i: usize, used: u64, image: &mut [u8], at: usize) -> 
     let mut to = at;
     while left != 0 {
         let j = freeruns::first(left);
-        copy_block(pool, Block::first().plus(64 * i + j), &mut *image, to);
+        let from = Block::first().plus(64 * i + j).offset();
+        copy_block(pool, from.index(), &mut *image, to);
         to += 16;
         left = left & (left - 1);
     }
@@ -67,29 +68,26 @@ pub fn gather(t: usize, pool: &[u8], table: &[u8], image: &mut [u8], at: usize)
     }
 }
 
-// Of the 64 blocks from block 64 * i on, those that have a bit in `used` get the next blocks of the bytes, block `first` and those behind it. Returns the block behind these.
-fn place_group(bytes: &[u8], first: usize, i: usize, used: u64, pool: &mut [u8]) -> usize
-    requires { ⌜ (i < 64) × ((first + usedOf (lanes used) ≤ 4096) × (16 * (first + usedOf (lanes used)) ≤ length (now bytes))) ⌝ }
+// Of the 64 blocks from block 64 * i on, those that have a bit in `used` get the next blocks of the bytes, of which `passed` come before. Returns how many are passed then.
+fn place_group(bytes: &[u8], passed: usize, i: usize, used: u64, pool: &mut [u8]) -> usize
+    requires { ⌜ (i < 64) × ((passed + usedOf (lanes used) ≤ 4096) × (16 * (passed + usedOf (lanes used)) ≤ length (now bytes))) ⌝ }
     requires { ⌜ Inside (now pool) i used ⌝ }
-    ensures { λ r. ⌜ (now (pool .exit) ≡ withUsed (now (pool .entry)) (64 * i) (lanes used) (drop (16 * first) (now (bytes .entry)))) × (r ≡ first + usedOf (lanes used)) ⌝ }
+    ensures { λ r. ⌜ (now (pool .exit) ≡ withUsed (now (pool .entry)) (64 * i) (lanes used) (drop (16 * passed) (now (bytes .entry)))) × (r ≡ passed + usedOf (lanes used)) ⌝ }
 {
     let mut left = used;
-    let mut next = first;
+    let mut next = passed;
     while left != 0 {
         let j = freeruns::first(left);
-        copy_block(
-            bytes,
-            Block::first().plus(next),
-            &mut *pool,
-            16 * (64 * i + j),
-        );
+        let from = Bytes::of_blocks(next);
+        let to = Block::first().plus(64 * i + j).offset();
+        copy_block(bytes, from.index(), &mut *pool, to.index());
         next += 1;
         left = left & (left - 1);
     }
     next
 }
 
-// The block behind the 64 from block 64 * i on, or behind the last of n.
+// How many blocks there are to the end of the 64 from block 64 * i on, or all n if that is past the last.
 fn group_end(n: usize, i: usize) -> usize
     requires { ⌜ i < 64 ⌝ }
     ensures { λ r. ⌜ r ≡ min (64 * i + 64) n ⌝ }
@@ -101,32 +99,34 @@ fn group_end(n: usize, i: usize) -> usize
     n
 }
 
-// The 64 blocks from block 64 * i on, or as many as there are: the used ones get the next blocks of the bytes, block `first` and those behind it, and the others become zero.
-// Returns the block behind these. Where all are used, they are one part of the bytes.
+// The 64 blocks from block 64 * i on, or as many as there are: the used ones get the next blocks of the bytes, of which `passed` come before, and the others become zero.
+// Returns how many are passed then. Where all are used, they are one part of the bytes.
 fn fill_group(
     t: usize,
     bytes: &[u8],
-    first: usize,
+    passed: usize,
     table: &[u8],
     i: usize,
     pool: &mut [u8],
 ) -> usize
     requires { ⌜ IsTable t (now table) × ((64 * i < length (entriesIn t (now table))) × (length (now pool) ≡ 16 * length (entriesIn t (now table)))) ⌝ }
-    requires { ⌜ (first + usedOf (groupIn (entriesIn t (now table)) i) ≤ 4096) × (16 * (first + usedOf (groupIn (entriesIn t (now table)) i)) ≤ length (now bytes)) ⌝ }
-    ensures { λ r. ⌜ (now (pool .exit) ≡ sets (now (pool .entry)) (1024 * i) (poolOf (groupIn (entriesIn t (now (table .entry))) i) (drop (16 * first) (now (bytes .entry)))))
-        × (r ≡ first + usedOf (groupIn (entriesIn t (now (table .entry))) i)) ⌝ }
+    requires { ⌜ (passed + usedOf (groupIn (entriesIn t (now table)) i) ≤ 4096) × (16 * (passed + usedOf (groupIn (entriesIn t (now table)) i)) ≤ length (now bytes)) ⌝ }
+    ensures { λ r. ⌜ (now (pool .exit) ≡ sets (now (pool .entry)) (1024 * i) (poolOf (groupIn (entriesIn t (now (table .entry))) i) (drop (16 * passed) (now (bytes .entry)))))
+        × (r ≡ passed + usedOf (groupIn (entriesIn t (now (table .entry))) i)) ⌝ }
 {
     let g = entries::group(t, table, i);
     let used = g.low | g.high;
+    let start = Block::first().plus(64 * i).offset();
     if used == ALL {
-        let from = 16 * first;
-        let to = from + 1024;
-        memory::set_part(&mut *pool, 1024 * i, &bytes[from..to]);
-        return first + 64;
+        let next = passed + 64;
+        let from = Bytes::of_blocks(passed).index();
+        let to = Bytes::of_blocks(next).index();
+        memory::set_part(&mut *pool, start.index(), &bytes[from..to]);
+        return next;
     }
     let end = group_end(entries::blocks(t), i);
-    memory::clear_part(&mut *pool, Bytes::of_blocks(64 * i), Bytes::of_blocks(end));
-    place_group(bytes, first, i, used, &mut *pool)
+    memory::clear_part(&mut *pool, start, Bytes::of_blocks(end));
+    place_group(bytes, passed, i, used, &mut *pool)
 }
 
 // The pool of a table's entries: each used block gets the next 16 of the bytes, and every other byte becomes zero.

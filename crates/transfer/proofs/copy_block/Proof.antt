@@ -4,29 +4,25 @@ use mathlib.Core.Path.{_≡_, ap, _∙_}
 use mathlib.Core.List.{List}
 use Prim.Native.Nat.{ℕ, _+_, _-_, _*_, _≤_}
 use native.Mathlib.Omega.{arith}
-use lib.ListN.{length, drop}
+use lib.ListN.{length, take, drop}
 use lib.Seq.{sets}
 use borrow.Author.Needs.{needs}
 use borrow.Rule.Slice.PartMut.{midOf, putMid}
 use Rattle.rules.specs.Words.{bytesOf, wordAt}
-use Rattle.rules.specs.Images.{blockBytes}
 use Rattle.laws.specs.Meaning.{AllBytes}
 use Rattle.laws.proofs.Lists.{bounded-take, bounded-drop}
-use Rattle.laws.proofs.Widths.{in-32-bits, in-slice}
+use Rattle.laws.proofs.Widths.{in-slice}
 use Rattle.memory.proofs.Parts.{part-length, part-filled}
 use Rattle.transfer.proofs.Copying.{four-words}
 use Rattle.transfer.proofs.copy_block.Statement.{statement}
 use Rattle.transfer.proofs.copy_block.Tie as tie
 
-module _ (source target : List ℕ) (k from at : ℕ) (e : from ≡ 16 * k) (bytes : AllBytes source) (inside : 16 * k + 16 ≤ length source) (room : at + 16 ≤ length target) where
+module _ (source target : List ℕ) (from at : ℕ) (bytes : AllBytes source) (inside : from + 16 ≤ length source) (room : at + 16 ≤ length target) where
   abbrev block : List ℕ
   block = midOf from (from + 16 - from) source
 
-  block-is : block ≡ blockBytes source k
-  unfolding blockBytes
-  block-is =
-      let n : 16 * k + 16 - 16 * k ≡ 16 = omega arith in
-      rw (e, n)
+  block-is : block ≡ take 16 (drop from source)
+  block-is = let n : from + 16 - from ≡ 16 = omega arith in rw n
 
   abbrev part : List ℕ
   part = midOf at (at + 16 - at) target
@@ -34,23 +30,17 @@ module _ (source target : List ℕ) (k from at : ℕ) (e : from ≡ 16 * k) (byt
   -- the part of the target comes back with the block in it
   copied : (last : List ℕ)
       → last ≡ sets (sets (sets (sets part 0 (bytesOf (wordAt block 0))) 4 (bytesOf (wordAt block 1))) 8 (bytesOf (wordAt block 2))) 12 (bytesOf (wordAt block 3))
-      → putMid at (at + 16 - at) target last ≡ sets target at (blockBytes source k)
+      → putMid at (at + 16 - at) target last ≡ sets target at (take 16 (drop from source))
   copied last stored =
       let long : length block ≡ from + 16 - from = part-length source from (from + 16 - from) (omega arith) in
       let all : last ≡ sets part 0 block = stored ∙ four-words block (bounded-take (from + 16 - from) (drop from source) (bounded-drop from source bytes)) (omega (arith, long)) part in
       rw all (part-filled target at (at + 16 - at) (omega arith) block (omega (arith, long)) ∙ ap (sets target at) block-is)
 
-offset-requires : tie.Need-offset-requires
-offset-requires c κs = search needs
-
-index-requires : tie.Need-index-requires
-index-requires c κs = search needs
-
 add-from-end : tie.Need-add-from-end
-add-from-end c = in-32-bits (search needs)
+add-from-end c = in-slice (c .before .before .args .source .now) (search needs) (search needs)
 
 add-to-end : tie.Need-add-to-end
-add-to-end c = in-slice (c .before .before .before .before .args .target .now) (search needs) (search needs)
+add-to-end c = in-slice (c .before .before .args .target .now) (search needs) (search needs)
 
 sub-block : tie.Need-sub-block
 sub-block c = search needs
@@ -104,11 +94,9 @@ returns c =
     let second = third .before .before .before .before in
     let first = second .before .before .before .before in
     let read = first .before .before .before in
-    let index = read .before .before .before .before .before in
-    let known = index .before .before .before in
+    let known = read .before .before .before .before .before .before in
     let s = known .before in
-    copied (s .args .source .now) (s .args .target .now) (s .args .k .0) (index .index .result) (s .args .at) (index .index .ensures ∙ index .before .offset .ensures)
-    (λ i. known .shared-slice-known .given i .fits) (s .pre .1 .0) (s .pre .1 .1) _
+    copied (s .args .source .now) (s .args .target .now) (s .args .from) (s .args .at) (λ i. known .shared-slice-known .given i .fits) (s .pre .0) (s .pre .1) _
     (last .set-four-bytes4 .ensures
     ∙ rw (third .set-four-bytes3 .ensures, second .set-four-bytes2 .ensures, first .set-four-bytes .ensures, read .word4 .ensures, read .before .word3 .ensures, read .before .before .word2 .ensures, read .before .before .before .word .ensures))
 
@@ -116,8 +104,6 @@ pub copy-block-spec : {M : Type 1} → statement M
 copy-block-spec =
     tie.close
     (tie.spec
-    offset-requires
-    index-requires
     add-from-end
     add-to-end
     sub-block

@@ -5,6 +5,7 @@ use mathlib.Core.List.{List}
 use Prim.Native.Nat.{ℕ, _+_, _*_, _^_, _≤_, _<_}
 use native.Mathlib.Omega.{arith}
 use lib.ListN.{length}
+use lib.Seq.{sets}
 use borrow.Author.Needs.{needs}
 use Rattle.rules.specs.Images.{blockBytes}
 use Rattle.laws.proofs.Images.{length-block}
@@ -49,9 +50,17 @@ module _ (c : tie.After-first Inv-loop μ-loop) where
   room : c .before .before .loop .to + 16 ≤ length (c .before .before .loop .image)
   room = rw (← long) (remains-room (c .before .before .loop .inv .1 .1) (first-split pool (start .args .i) (c .before .before .loop .left) (c .first .result) turn) (start .pre .1 .0))
 
--- that block
+-- where that block lies
 block-is : (c : tie.After-plus Inv-loop μ-loop) → c .plus .result .0 ≡ 64 * start (c .before .before) .args .i + c .before .before .first .result
 block-is c = omega (arith, c .plus .ensures, c .before .first2 .ensures)
+
+place-is : (c : tie.After-index Inv-loop μ-loop) → let bit = c .before .before .before .before in c .index .result ≡ 16 * (64 * start bit .args .i + bit .first .result)
+place-is c = omega (arith, c .index .ensures, c .before .offset .ensures, block-is (c .before .before))
+
+copied : (c : tie.After-copy-block Inv-loop μ-loop) → let bit = c .before .before .before .before .before .before in let l = bit .before .before .loop in
+    c .copy-block .last .1 .1 .0 ≡ sets (l .image) (l .to) (blockBytes (pool bit) (64 * start bit .args .i + bit .first .result))
+unfolding blockBytes
+copied c = rw (← place-is (c .before .before)) (c .copy-block .ensures)
 
 first-requires-2 : tie.Need-first-requires-2 Inv-loop μ-loop
 first-requires-2 c κs = search needs
@@ -65,32 +74,38 @@ add-plus c = in-32-bits (record { fits = omega (arith, turn (c .before) .few) })
 plus-requires : tie.Need-plus-requires Inv-loop μ-loop
 plus-requires c κs = omega (arith, turn (c .before) .few, c .first2 .ensures)
 
+offset-requires : tie.Need-offset-requires Inv-loop μ-loop
+offset-requires c κs = omega (arith, block-is c, turn (c .before .before) .few)
+
+index-requires : tie.Need-index-requires Inv-loop μ-loop
+index-requires c κs = search needs
+
 copy-block-requires : tie.Need-copy-block-requires Inv-loop μ-loop
 copy-block-requires c κs =
-    let bit = c .before .before .before in
-    (omega (arith, block-is (c .before), turn bit .few), (rw (block-is (c .before)) (inside bit), room bit))
+    let bit = c .before .before .before .before .before in
+    (omega (arith, place-is (c .before), inside bit), room bit)
 
 add-to : tie.Need-add-to Inv-loop μ-loop
 add-to c =
-    let bit = c .before .before .before .before .before .before in
+    let bit = c .before .before .before .before .before .before .before .before in
     in-slice (start bit .args .image .now) (omega (arith, room bit, bit .before .before .loop .inv .1 .1 .long)) (search needs)
 
 sub-left : tie.Need-sub-left Inv-loop μ-loop
 sub-left c = search needs
 
 loop-less : tie.Need-loop-less Inv-loop μ-loop
-loop-less c = turn (c .before .before .before .before .before .before) .less
+loop-less c = turn (c .before .before .before .before .before .before .before .before) .less
 
 loop-again : tie.Need-loop-again Inv-loop μ-loop
 loop-again c =
-    let bit = c .before .before .before .before .before .before in
+    let bit = c .before .before .before .before .before .before .before .before in
     let l = bit .before .before .loop in
     let i = start bit .args .i in
     let j = bit .first .result in (
       omega (arith, turn bit .less, l .inv .0),
       (
         others-inside (pool bit) i (l .left) j (turn bit) (l .inv .1 .0),
-        remains-next (l .inv .1 .1) (first-split (pool bit) i (l .left) j (turn bit)) (rw (← block-is (c .before .before .before .before)) (c .before .before .copy-block .ensures)) (rw (long bit)),
+        remains-next (l .inv .1 .1) (first-split (pool bit) i (l .left) j (turn bit)) (copied (c .before .before)) (rw (long bit)),
       ),
     )
 
@@ -114,6 +129,8 @@ copy-group-spec =
     mul-plus
     add-plus
     plus-requires
+    offset-requires
+    index-requires
     copy-block-requires
     add-to
     sub-left

@@ -4,7 +4,7 @@ use mathlib.Core.Path.{_≡_, sym, ap, _∙_}
 use mathlib.Core.List.{List}
 use Prim.Native.Nat.{ℕ, _+_, _-_, _*_, _≤_, _<_, max}
 use native.Mathlib.Omega.{arith}
-use lib.ListN.{length, drop, replicate, length-take, length-drop}
+use lib.ListN.{length, take, drop, replicate, length-take, length-drop}
 use lib.Seq.{sets}
 use lib.Bits.{bitOr}
 use borrow.Author.Needs.{needs}
@@ -23,6 +23,10 @@ use Rattle.transfer.proofs.fill_group.Tie as tie
 -- as many zeros at the same place
 zeros-at : (pool : List ℕ) {a b m n : ℕ} → a ≡ b → m ≡ n → sets pool a (replicate m 0) ≡ sets pool b (replicate n 0)
 zeros-at pool e f = rw (e, f)
+
+-- the same part at the same place
+part-at : (pool bytes : List ℕ) {a b m n from f : ℕ} → a ≡ b → m ≡ n → from ≡ f → sets pool a (take m (drop from bytes)) ≡ sets pool b (take n (drop f bytes))
+part-at pool bytes e g h = rw (e, g, h)
 
 group-requires : tie.Need-group-requires
 group-requires c κs = search needs
@@ -44,14 +48,43 @@ module _ (c : tie.After-group) where
   few : start .args .i < 64
   few = omega (arith, start .pre .0 .1 .0, few-entries (start .args .t) (start .args .table .now) (start .pre .0 .0))
 
-mul-from : tie.Need-mul-from
-mul-from c = in-32-bits (search needs)
+-- where they start
+first-requires : tie.Need-first-requires
+first-requires c κs = search needs
 
-add-to : tie.Need-add-to
-add-to c = in-32-bits (search needs)
+mul-plus : tie.Need-mul-plus
+mul-plus c = in-32-bits (record { fits = omega (arith, few (c .before .before)) })
 
-mul-set-part : tie.Need-mul-set-part
-mul-set-part c = in-32-bits (record { fits = omega (arith, few (c .before .before .before)) })
+plus-requires : tie.Need-plus-requires
+plus-requires c κs = omega (arith, few (c .before .before), c .first .ensures)
+
+offset-requires : tie.Need-offset-requires
+offset-requires c κs = omega (arith, few (c .before .before .before), c .plus .ensures, c .before .first .ensures)
+
+module _ (c : tie.After-offset) where
+  abbrev group : tie.After-group
+  group = c .before .before .before .before
+
+  start-is : c .offset .result .0 ≡ 16 * (64 * start group .args .i)
+  start-is = omega (arith, c .offset .ensures, c .before .plus .ensures, c .before .before .first .ensures)
+
+add-next : tie.Need-add-next
+add-next c = in-32-bits (search needs)
+
+of-blocks-requires : tie.Need-of-blocks-requires
+of-blocks-requires c κs = search needs
+
+index-requires : tie.Need-index-requires
+index-requires c κs = search needs
+
+of-blocks-requires-2 : tie.Need-of-blocks-requires-2
+of-blocks-requires-2 c κs = search needs
+
+index-requires-2 : tie.Need-index-requires-2
+index-requires-2 c κs = search needs
+
+index-requires-3 : tie.Need-index-requires-3
+index-requires-3 c κs = search needs
 
 sub-set-part : tie.Need-sub-set-part
 sub-set-part c = search needs
@@ -61,83 +94,90 @@ part-set-part-start c = search needs
 
 -- where all are used
 module _ (c : tie.Then1) where
-  abbrev group : tie.After-group
-  group = c .before .before
+  abbrev all : tie.After-group
+  all = group (c .before)
 
-  sixty-four : used (groupIn (es group) (start group .args .i)) ≡ 64
-  sixty-four = full-used (es group) (start group .args .i) _ _ _ (group .group .ensures) (either group) (c .if1 .taken)
+  sixty-four : used (groupIn (es all) (start all .args .i)) ≡ 64
+  sixty-four = full-used (es all) (start all .args .i) _ _ _ (all .group .ensures) (either all) (c .if1 .taken)
 
-  fits : 1024 * start group .args .i + 1024 ≤ length (start group .args .pool .now)
-  fits = omega (arith, full-inside (es group) (start group .args .i) _ _ _ (group .group .ensures) (either group) (c .if1 .taken), start group .pre .0 .1 .1)
+  fits : 1024 * start all .args .i + 1024 ≤ length (start all .args .pool .now)
+  fits = omega (arith, full-inside (es all) (start all .args .i) _ _ _ (all .group .ensures) (either all) (c .if1 .taken), start all .pre .0 .1 .1)
+
+-- which part of the bytes they are, and where it is stored
+module _ (c : tie.After-index3) where
+  abbrev then : tie.Then1
+  then = c .before .before .before .before .before .before
+
+  from-is : c .before .before .before .before .index .result ≡ 16 * start (all then) .args .passed
+  from-is = omega (arith, c .before .before .before .before .index .ensures, c .before .before .before .before .before .of-blocks .ensures)
+
+  to-is : c .before .before .index2 .result ≡ 16 * start (all then) .args .passed + 1024
+  to-is = omega (arith, c .before .before .index2 .ensures, c .before .before .before .of-blocks2 .ensures)
+
+  at-is : c .index3 .result ≡ 1024 * start (all then) .args .i
+  at-is = omega (arith, c .index3 .ensures, start-is (then .before))
 
 part-set-part-end : tie.Need-part-set-part-end
-part-set-part-end c = omega (arith, sixty-four (c .before), start (group (c .before)) .pre .1 .1)
+part-set-part-end c = omega (arith, to-is c, sixty-four (then c), start (all (then c)) .pre .1 .1)
 
 set-part-requires : tie.Need-set-part-requires
 set-part-requires c κs =
-    let a = start (group (c .before .before)) .args in
-    omega (arith, length-take (16 * a .first + 1024 - 16 * a .first) (drop (16 * a .first) (a .bytes .now)), fits (c .before .before))
-
-add-result : tie.Need-add-result
-add-result c = in-32-bits (search needs)
+    let o = c .before in
+    let from = o .before .before .before .before .index .result in
+    omega (arith, at-is o, from-is o, to-is o, length-take (o .before .before .index2 .result - from) (drop from (start (all (then o)) .args .bytes .now)), fits (then o))
 
 same-length : tie.Need-same-length
 same-length c = search needs
 
 returns : tie.Need-returns
 returns c =
-    let then = c .before .before .before .before .before in
-    let g = group then in
+    let o = c .before .before .before .before in
+    let g = all (then o) in
     let a = start g .args in
-    let count : 16 * a .first + 1024 - 16 * a .first ≡ 1024 = omega arith in (
-      rw count at (c .before .before .set-part .ensures)
-          ∙ ap (sets (a .pool .now) (1024 * a .i)) (sym (full-pool (es g) (a .i) _ _ _ (g .group .ensures) (either g) (then .if1 .taken) (drop (16 * a .first) (a .bytes .now)))),
-      omega (arith, sixty-four then),
+    let count : o .before .before .index2 .result - o .before .before .before .before .index .result ≡ 1024 = omega (arith, from-is o, to-is o) in (
+      c .before .before .set-part .ensures
+          ∙ part-at (a .pool .now) (a .bytes .now) (at-is o) count (from-is o)
+          ∙ ap (sets (a .pool .now) (1024 * a .i)) (sym (full-pool (es g) (a .i) _ _ _ (g .group .ensures) (either g) (then o .if1 .taken) (drop (16 * a .passed) (a .bytes .now)))),
+      omega (arith, sixty-four (then o)),
     )
 
 blocks-requires : tie.Need-blocks-requires
 blocks-requires c κs = search needs
 
 group-end-requires : tie.Need-group-end-requires
-group-end-requires c κs = few (c .before .before .before)
+group-end-requires c κs = few (group (c .before .before))
 
-mul-of-blocks : tie.Need-mul-of-blocks
-mul-of-blocks c = in-32-bits (record { fits = omega (arith, few (c .before .before .before .before .before)) })
-
-of-blocks-requires : tie.Need-of-blocks-requires
-of-blocks-requires c κs = omega (arith, few (c .before .before .before .before .before))
-
-of-blocks-requires-2 : tie.Need-of-blocks-requires-2
-of-blocks-requires-2 c κs = omega (arith, c .before .before .group-end .ensures, few (c .before .before .before .before .before .before))
+of-blocks-requires-3 : tie.Need-of-blocks-requires-3
+of-blocks-requires-3 c κs = omega (arith, c .before .group-end .ensures, few (group (c .before .before .before .before)))
 
 -- what is cleared
-module _ (c : tie.After-of-blocks2) where
+module _ (c : tie.After-of-blocks3) where
+  abbrev from : tie.After-offset
+  from = c .before .before .before .before .before
+
   abbrev lent : tie.After-group
-  lent = c .before .before .before .before .before .before .before
+  lent = group from
 
-  first-byte : c .before .of-blocks .result .0 ≡ 16 * (64 * start lent .args .i)
-  first-byte = c .before .of-blocks .ensures
-
-  behind : c .of-blocks2 .result .0 ≡ 16 * (64 * start lent .args .i + length (groupIn (es lent) (start lent .args .i)))
+  behind : c .of-blocks3 .result .0 ≡ 16 * (64 * start lent .args .i + length (groupIn (es lent) (start lent .args .i)))
   behind =
-      let ends = c .before .before .before in
+      let ends = c .before .before in
       let n = ends .before .blocks2 .ensures (start lent .args .table .now) in
       let rest = drop (64 * start lent .args .i) (es lent) in
-      omega (arith, c .of-blocks2 .ensures, ends .group-end .ensures, n, start lent .pre .0 .1 .0, length-take 64 rest, length-drop (64 * start lent .args .i) (es lent))
+      omega (arith, c .of-blocks3 .ensures, ends .group-end .ensures, n, start lent .pre .0 .1 .0, length-take 64 rest, length-drop (64 * start lent .args .i) (es lent))
 
 clear-part-requires : tie.Need-clear-part-requires
 clear-part-requires c κs =
     let g = lent c in
     let rest = drop (64 * start g .args .i) (es g) in
-    (omega (arith, first-byte c, behind c), omega (arith, behind c, start g .pre .0 .1 .0, start g .pre .0 .1 .1, length-take 64 rest, length-drop (64 * start g .args .i) (es g)))
+    (omega (arith, start-is (from c), behind c), omega (arith, behind c, start g .pre .0 .1 .0, start g .pre .0 .1 .1, length-take 64 rest, length-drop (64 * start g .args .i) (es g)))
 
 -- the 64 blocks are zero then
 cleared : (c : tie.After-clear-part) → let g = lent (c .before) in let a = start g .args in c .clear-part .last .0 ≡ sets (a .pool .now) (16 * (64 * a .i)) (replicate (16 * length (groupIn (es g) (a .i))) 0)
 cleared c =
     let o = c .before in
     let g = lent o in
-    let long : o .of-blocks2 .result .0 - o .before .of-blocks .result .0 ≡ 16 * length (groupIn (es g) (start g .args .i)) = omega (arith, first-byte o, behind o) in
-    c .clear-part .ensures ∙ zeros-at _ (first-byte o) long
+    let long : o .of-blocks3 .result .0 - from o .offset .result .0 ≡ 16 * length (groupIn (es g) (start g .args .i)) = omega (arith, start-is (from o), behind o) in
+    c .clear-part .ensures ∙ zeros-at _ (start-is (from o)) long
 
 place-group-requires : tie.Need-place-group-requires
 place-group-requires c κs =
@@ -158,9 +198,9 @@ returns-2 c =
     let z = p .before .before .before .before in
     let g = lent (z .before) in
     let a = start g .args in
-    let bs = drop (16 * a .first) (a .bytes .now) in (
+    let bs = drop (16 * a .passed) (a .bytes .now) in (
       p .place-group .ensures .0
-          ∙ rw (cleared z) (group-pool (es g) (a .i) _ _ (bits g) (g .group .ensures) (either g) (a .pool .now) bs (omega (arith, start g .pre .1 .1, length-drop (16 * a .first) (a .bytes .now)))),
+          ∙ rw (cleared z) (group-pool (es g) (a .i) _ _ (bits g) (g .group .ensures) (either g) (a .pool .now) bs (omega (arith, start g .pre .1 .1, length-drop (16 * a .passed) (a .bytes .now)))),
       omega (arith, p .place-group .ensures .1, group-used (es g) (a .i) _ _ (bits g) (g .group .ensures) (either g)),
     )
 
@@ -169,21 +209,25 @@ fill-group-spec =
     tie.close
     (tie.spec
     group-requires
-    mul-from
-    add-to
-    mul-set-part
+    first-requires
+    mul-plus
+    plus-requires
+    offset-requires
+    add-next
+    of-blocks-requires
+    index-requires
+    of-blocks-requires-2
+    index-requires-2
+    index-requires-3
     sub-set-part
     part-set-part-start
     part-set-part-end
     set-part-requires
-    add-result
     same-length
     returns
     blocks-requires
     group-end-requires
-    mul-of-blocks
-    of-blocks-requires
-    of-blocks-requires-2
+    of-blocks-requires-3
     clear-part-requires
     place-group-requires
     same-length-2

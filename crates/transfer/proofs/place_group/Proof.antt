@@ -4,7 +4,9 @@ use mathlib.Core.Path.{_≡_}
 use Prim.Native.Nat.{_+_, _*_, _≤_, _<_}
 use native.Mathlib.Omega.{arith}
 use lib.ListN.{length}
+use lib.Seq.{sets}
 use borrow.Author.Needs.{needs}
+use Rattle.rules.specs.Images.{blockBytes}
 use Rattle.laws.proofs.Widths.{in-32-bits}
 use Rattle.transfer.proofs.Copying.{First, first-bit, first-inside}
 use Rattle.transfer.proofs.Placing.{Places, places-all, places-none, places-next, fewer}
@@ -12,10 +14,10 @@ use Rattle.transfer.proofs.place_group.Statement.{statement}
 use Rattle.transfer.proofs.place_group.Tie as tie
 
 abbrev Inv-loop : tie.InvT-loop
-Inv-loop bytes first i used pool₀ left₀ next₀ pool left next = Places pool₀ bytes i first used pool next left
+Inv-loop bytes passed i used pool₀ left₀ next₀ pool left next = Places pool₀ bytes i passed used pool next left
 
 abbrev μ-loop : tie.MeasureT-loop
-μ-loop bytes first i used pool₀ left₀ next₀ pool left next = left
+μ-loop bytes passed i used pool₀ left₀ next₀ pool left next = left
 
 loop-holds : tie.Need-loop-holds Inv-loop μ-loop
 loop-holds c = places-all _ _ _ _ _ (omega arith) (c .before .before .pre .1)
@@ -42,43 +44,63 @@ module _ (c : tie.After-first Inv-loop μ-loop) where
   enough : 16 * c .before .before .loop .next + 16 ≤ length (start .args .bytes .now)
   enough = omega (arith, start .pre .0 .1 .1, c .before .before .loop .inv .end, fewer (c .before .before .loop .inv) turn)
 
--- the block that they are read from
-block-is : (c : tie.After-plus Inv-loop μ-loop) → c .plus .result .0 ≡ c .before .before .before .before .loop .next
+-- where they are read, and where they are stored
+of-blocks-requires : tie.Need-of-blocks-requires Inv-loop μ-loop
+of-blocks-requires c κs = omega (arith, few c)
+
+from-is : (c : tie.After-index Inv-loop μ-loop) → let bit = c .before .before .before .before .before in c .index .result ≡ 16 * bit .before .before .loop .next
+from-is c = omega (arith, c .index .ensures, c .before .before .before .before .of-blocks .ensures)
+
+block-is : (c : tie.After-plus Inv-loop μ-loop) → let bit = c .before .before .before in c .plus .result .0 ≡ 64 * start bit .args .i + bit .first .result
 block-is c = omega (arith, c .plus .ensures, c .before .first2 .ensures)
+
+to-is : (c : tie.After-index2 Inv-loop μ-loop) → let bit = c .before .before .before .before .before .before .before in c .index2 .result ≡ 16 * (64 * start bit .args .i + bit .first .result)
+to-is c = omega (arith, c .index2 .ensures, c .before .before .before .offset .ensures, block-is (c .before .before .before .before))
+
+stored : (c : tie.After-copy-block Inv-loop μ-loop) → let bit = c .before .before .before .before .before .before .before .before in let l = bit .before .before .loop in
+    c .copy-block .last .1 .1 .0 ≡ sets (l .pool) (16 * (64 * start bit .args .i + bit .first .result)) (blockBytes (start bit .args .bytes .now) (l .next))
+unfolding blockBytes
+stored c = rw (← from-is (c .before .before .before), ← to-is (c .before)) (c .copy-block .ensures)
 
 first-requires-2 : tie.Need-first-requires-2 Inv-loop μ-loop
 first-requires-2 c κs = search needs
 
+mul-plus : tie.Need-mul-plus Inv-loop μ-loop
+mul-plus c = in-32-bits (search needs)
+
+add-plus : tie.Need-add-plus Inv-loop μ-loop
+add-plus c = in-32-bits (record { fits = omega (arith, turn (c .before .before) .few) })
+
 plus-requires : tie.Need-plus-requires Inv-loop μ-loop
-plus-requires c κs = omega (arith, few (c .before), c .first2 .ensures)
+plus-requires c κs = omega (arith, turn (c .before .before) .few, c .first2 .ensures)
 
-mul-copy-block : tie.Need-mul-copy-block Inv-loop μ-loop
-mul-copy-block c = in-32-bits (search needs)
+offset-requires : tie.Need-offset-requires Inv-loop μ-loop
+offset-requires c κs = omega (arith, block-is c, turn (c .before .before .before) .few)
 
-add-copy-block : tie.Need-add-copy-block Inv-loop μ-loop
-add-copy-block c = in-32-bits (record { fits = omega (arith, turn (c .before .before .before) .few) })
+index-requires : tie.Need-index-requires Inv-loop μ-loop
+index-requires c κs = search needs
 
-mul-copy-block-2 : tie.Need-mul-copy-block-2 Inv-loop μ-loop
-mul-copy-block-2 c = in-32-bits (record { fits = omega (arith, turn (c .before .before .before) .few) })
+index-requires-2 : tie.Need-index-requires-2 Inv-loop μ-loop
+index-requires-2 c κs = search needs
 
 copy-block-requires : tie.Need-copy-block-requires Inv-loop μ-loop
 copy-block-requires c κs =
-    let bit = c .before .before .before in
-    (rw (block-is (c .before)) (few bit), (rw (block-is (c .before)) (enough bit), inside bit))
+    let bit = c .before .before .before .before .before .before .before in
+    (omega (arith, from-is (c .before .before), enough bit), omega (arith, to-is c, inside bit))
 
 add-next : tie.Need-add-next Inv-loop μ-loop
-add-next c = in-32-bits (record { fits = omega (arith, few (c .before .before .before .before .before .before)) })
+add-next c = in-32-bits (record { fits = omega (arith, few (c .before .before .before .before .before .before .before .before .before .before)) })
 
 sub-left : tie.Need-sub-left Inv-loop μ-loop
 sub-left c = search needs
 
 loop-less : tie.Need-loop-less Inv-loop μ-loop
-loop-less c = turn (c .before .before .before .before .before .before) .less
+loop-less c = turn (c .before .before .before .before .before .before .before .before .before .before) .less
 
 loop-again : tie.Need-loop-again Inv-loop μ-loop
 loop-again c =
-    let bit = c .before .before .before .before .before .before in
-    places-next (bit .before .before .loop .inv) (turn bit) (rw (← block-is (c .before .before .before .before)) (c .before .before .copy-block .ensures))
+    let bit = c .before .before .before .before .before .before .before .before .before .before in
+    places-next (bit .before .before .loop .inv) (turn bit) (stored (c .before .before))
 
 same-length : tie.Need-same-length Inv-loop μ-loop
 same-length c = c .before .loop .inv .long
@@ -94,11 +116,14 @@ place-group-spec =
     μ-loop
     loop-holds
     first-requires
+    of-blocks-requires
     first-requires-2
+    mul-plus
+    add-plus
     plus-requires
-    mul-copy-block
-    add-copy-block
-    mul-copy-block-2
+    offset-requires
+    index-requires
+    index-requires-2
     copy-block-requires
     add-next
     sub-left
