@@ -1,7 +1,7 @@
 -- Two faithful forms agree, entry by entry and call by call. So the planes agree with the packed table, and each has a counterpart in the other.
 -- Assumes nothing.
 use mathlib.Core.Path.{_≡_, refl, sym, ap, _∙_}
-use mathlib.Core.List.{List, [], _∷_}
+use mathlib.Core.List.{List}
 use Prim.Native.Nat.{ℕ, _*_, _<_}
 use native.Mathlib.Omega.{arith}
 use lib.ListN.{length, set, length-set}
@@ -12,11 +12,11 @@ use Rattle.rules.specs.Tables.{entryAt}
 use Rattle.rules.specs.Forms.{Form, packed}
 use Rattle.laws.specs.Faithful.{Faithful}
 use Rattle.rules.specs.Outcomes.{Heap, Outcome}
-use Rattle.rules.specs.Runs.{Call, step}
-use Rattle.rules.specs.Memory.{Memory, memory, heapIn, Sound, Result, turnIn, perform, afterIn, answersIn, filledIn}
+use Rattle.rules.specs.Runs.{step}
+use Rattle.rules.specs.Memory.{Memory, memory, heapIn, Sound, perform}
 use Rattle.rules.specs.Planes.{planeBytes, entriesIn, planesOf, planes}
-use Rattle.laws.specs.Agreement.{inPlanes, resultInPlanes, CallInPlanes, RunInPlanes, withEntry, HoldSame, WritingAgrees, CallsAlike, RunsAlike, FormsAgree}
-use Rattle.laws.proofs.Memory.{Written, kept-by, after-written, follows-sound, sound-next, packed-faithful, packed-sound, table-fits}
+use Rattle.laws.specs.Agreement.{withEntry, HoldSame, WritingAgrees, CallsAlike, FormsAgree}
+use Rattle.laws.proofs.Memory.{follows-sound, sound-next, packed-faithful, packed-sound, table-fits}
 use Rattle.laws.proofs.Lists.{bounded-set}
 use Rattle.laws.proofs.Entries.{length-entriesOf, entriesOf-lt, entriesOf-tableOf}
 use Rattle.laws.proofs.Planes.{length-entriesIn, length-planesOf, read-planes, planes-clean, planes-faithful}
@@ -71,16 +71,8 @@ module _ (f g : Form) (faithful : Faithful f) (faithful′ : Faithful g) where
             (ap (λ (h : Heap). h .pool) left) (ap (λ (h : Heap). h .entries) left);
       }
 
-  runs : RunsAlike f g
-  unfolding answersIn afterIn filledIn
-  runs [] m m′ h = (refl, refl, h)
-  runs (t ∷ ts) m m′ h =
-      let x = calls (t .call) (t .stack) m m′ h in
-      let r = runs ts (turnIn f t m .memory) (turnIn g t m′ .memory) (x .memory) in
-      (rw (x .answer, r .0), rw (x .filled, r .1), r .2)
-
   pub forms-agree : FormsAgree f g
-  forms-agree = record { writing = writing; calls = calls; runs = runs }
+  forms-agree = record { writing = writing; calls = calls }
 
 -- ---- packed and planes
 
@@ -103,40 +95,3 @@ in-packed t m s =
 -- reading and writing an entry agree on the packed table and on the planes, and so does every call
 pub planes-agree : (t : ℕ) → FormsAgree packed (planes t)
 planes-agree t = forms-agree packed (planes t) packed-faithful (planes-faithful t)
-
--- ---- in bytes
-
--- results are the same if all their parts are
-same-result : (r s : Result) → r .answer ≡ s .answer → r .memory ≡ s .memory → r .stack ≡ s .stack → r .filled ≡ s .filled → r ≡ s
-same-result r s a m k f = rw (a, m, k, f)
-
--- what a call leaves of planes that are what their entries are written as is so again
-written-next : (t : ℕ) (c : Call) (stack : List ℕ) (m : Memory) → Sound (planes t) m → Written (planes t) m → Written (planes t) (perform (planes t) c stack m .memory)
-written-next t c stack m s w = kept-by (Written (planes t)) (planes t) c stack m (follows-sound (planes t) (planes-faithful t) c stack m s .written) w
-
--- planes that are written hold the same as a packed table only if they are its planes
-are-planes : (t : ℕ) (m m′ : Memory) → HoldSame packed (planes t) m m′ → Written (planes t) m′ → m′ ≡ inPlanes t m
-are-planes t m m′ h w =
-    rw (sym (h .pool)) (ap (memory (m .pool)) (w ∙ ap (planesOf t) (sym (same-entries packed (planes t) packed-faithful (planes-faithful t) m m′ h))))
-
-module _ (t : ℕ) (m : Memory) (long : length (m .table) ≡ t) where
-  there : HoldSame packed (planes t) m (inPlanes t m)
-  there = in-planes t m long
-
-  there-written : Written (planes t) (inPlanes t m)
-  there-written = ap (planesOf t) (same-entries packed (planes t) packed-faithful (planes-faithful t) m (inPlanes t m) there)
-
-pub call-in-planes : CallInPlanes
-call-in-planes t c stack m long =
-    let r : Result = perform packed c stack m in
-    let r′ : Result = perform (planes t) c stack (inPlanes t m) in
-    let h = there t m long in
-    let x = planes-agree t .calls c stack m (inPlanes t m) h in
-    let e : r′ .memory ≡ inPlanes t (r .memory) = are-planes t (r .memory) (r′ .memory) (x .memory) (written-next t c stack (inPlanes t m) (h .sound′) (there-written t m long)) in
-    same-result r′ (resultInPlanes t r) (sym (x .answer)) e (sym (x .stack)) (sym (x .filled))
-
-pub run-in-planes : RunInPlanes
-run-in-planes t ts m long =
-    let h = there t m long in
-    let x = planes-agree t .runs ts m (inPlanes t m) h in
-    (sym (x .0), sym (x .1), are-planes t (afterIn packed ts m) (afterIn (planes t) ts (inPlanes t m)) (x .2) (after-written (planes t) (planes-faithful t) ts (inPlanes t m) (h .sound′) (there-written t m long)))

@@ -26,6 +26,7 @@ pub mod Sizes
 pub mod Widths
 pub mod Clamped
 pub mod Memory
+pub mod Lent
 pub mod Planes
 pub mod Agreement
 pub mod Restated

@@ -17,7 +17,7 @@ use Rattle.rules.specs.Refusals.{Test, firstOf}
 use Rattle.rules.specs.Calls.{init, placing, allocate, free, Way, stay, shrink, grow, move, noWay, along, reallocate, collecting, collect, survey, load, store, writeImage, openTests, openImage}
 use Rattle.rules.specs.Files.{faultOf, fileTests}
 use Rattle.rules.specs.Runs.{Call, Init, Allocate, Free, Reallocate, Collect, Survey, Load, Store, WriteImage, OpenImage, step, Turn, after, answers, fillings}
-use Rattle.rules.specs.Memory.{Memory, lengthsFit, SameBeside, Sound, heapIn, holding, doneIn, Result, result, AcceptedIn, stackFor, readsTable, faultIn, testsIn, orRefused, perform, turnIn, afterIn, answersIn, filledIn}
+use Rattle.rules.specs.Memory.{Memory, lengthsFit, Sound, heapIn, holding, doneIn, Result, result, AcceptedIn, stackFor, readsTable, faultIn, testsIn, orRefused, perform, turnIn, afterIn, answersIn, filledIn}
 use Rattle.laws.specs.Meaning.{AllBytes}
 use Rattle.laws.proofs.Entries.{length-entriesOf, length-tableOf, entriesOf-lt, tableOf-entriesOf, entriesOf-tableOf}
 use Rattle.laws.proofs.Refusals.{both-false, both-left, both-right, not-false, numbered, first-more, first-less, refusal-is}
@@ -127,8 +127,8 @@ pub still-fit : (f : Form) → Faithful f → (c : Call) (m : Memory) (h : Heap)
 still-fit f faithful c m h fit long = faithful .write-fits (m .table) (h .entries) (table-fits f m fit) long
 
 -- which are what all but the pool decides, as is whether the table is clean
-pub sound-beside : (f : Form) (m m′ : Memory) → SameBeside m m′ → Sound f m → Sound f m′
-sound-beside f m m′ b s = record { fits = rw (← b .table) (s .fits); clean = rw (← b .table) (s .clean) }
+pub same-table-sound : (f : Form) (m m′ : Memory) → m .table ≡ m′ .table → Sound f m → Sound f m′
+same-table-sound f m m′ e s = record { fits = rw (← e) (s .fits); clean = rw (← e) (s .clean) }
 
 -- every packed table is as its form asks
 pub packed-sound : (m : Memory) → lengthsFit packed m ≡ true → Sound packed m
@@ -292,12 +292,6 @@ module _ (f : Form) (faithful : Faithful f) where
   after-in (t ∷ ts) m s =
       let x = follows-sound (t .call) (t .stack) m s in
       after-in ts (turnIn f t m .memory) (sound-next (t .call) (t .stack) m s) ∙ ap (after ts) (x .heap)
-
-  pub after-written : (ts : List Turn) (m : Memory) → Sound f m → Written f m → Written f (afterIn f ts m)
-  unfolding afterIn
-  after-written [] m s w = w
-  after-written (t ∷ ts) m s w =
-      after-written ts (turnIn f t m .memory) (sound-next (t .call) (t .stack) m s) (kept-by (Written f) f (t .call) (t .stack) m (follows-sound (t .call) (t .stack) m s .written) w)
 
 -- ---- the tests of a call that reads the table, where 1 and 2 are also what the form refuses
 

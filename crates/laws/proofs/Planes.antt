@@ -3,7 +3,7 @@
 use mathlib.Core.Path.{_≡_, refl, sym, ap, _∙_}
 use mathlib.Core.Bool.{Bool, true, false}
 use mathlib.Core.List.{List}
-use Prim.Native.Nat.{ℕ, _+_, _-_, _*_, _/_, _%_, _≤_, _<_, max}
+use Prim.Native.Nat.{ℕ, zero, suc, _+_, _-_, _*_, _/_, _%_, _≤_, _<_, max}
 use native.Mathlib.Omega.{arith}
 use lib.Dec.{ltb}
 use lib.ListN.{length, getD, length-append, List·getD-eq-default, List·getD-append}
@@ -17,7 +17,7 @@ use Rattle.laws.specs.Meaning.{AllBytes}
 use Rattle.laws.specs.Faithful.{Small, Faithful}
 use Rattle.rules.specs.Memory.{memory, Sound}
 use Rattle.rules.specs.Planes.{planeBytes, entryIn, entriesIn, spare, spareFree, plane, planesOf, planes, Sized, IsTable, Holds}
-use Rattle.laws.proofs.Lists.{length-tabulate, getD-tabulate, count-no, no-count}
+use Rattle.laws.proofs.Lists.{length-tabulate, getD-tabulate, count-no, no-count, bounded-append}
 use Rattle.laws.proofs.Refusals.{not-false}
 use Rattle.laws.proofs.Bits.{two-bits, bitOf-lt, bitOf-byte, byte-bits, byteOf-same, bitAt-byte, bitAt-lt}
 
@@ -245,3 +245,23 @@ is-table t pool table few s = record { sized = record { few = omega (arith, few,
 
 pub table-sound : (t : ℕ) (pool table : List ℕ) → IsTable t table → Sound (planes t) (memory pool table)
 table-sound t pool table i = record { fits = eq-eqb _ _ (i .sized .long); clean = i .clean }
+
+-- ---- planes are bytes
+
+tabulate-bytes : (n : ℕ) (f : ℕ → ℕ) → ((i : ℕ) → f i < 256) → AllBytes (tabulate n f)
+unfolding tabulate
+tabulate-bytes zero f small i = omega arith
+tabulate-bytes (suc n) f small zero = small 0
+tabulate-bytes (suc n) f small (suc i) = tabulate-bytes n (λ (k : ℕ). f (suc k)) (λ k. small (suc k)) i
+
+plane-bytes : (t : ℕ) (bit : ℕ → ℕ) → ((k : ℕ) → bit k < 2) → AllBytes (plane t bit)
+unfolding plane byteOf
+plane-bytes t bit small =
+    tabulate-bytes _ _
+    (λ i.
+    omega (arith, small (8 * i + 0), small (8 * i + 1), small (8 * i + 2), small (8 * i + 3), small (8 * i + 4), small (8 * i + 5), small (8 * i + 6), small (8 * i + 7)))
+
+pub planes-bytes : (t : ℕ) (es : List ℕ) → AllBytes (planesOf t es)
+unfolding planesOf
+planes-bytes t es =
+    bounded-append (plane t (λ (k : ℕ). entryAt es k % 2)) (plane t (λ (k : ℕ). entryAt es k / 2 % 2)) (plane-bytes t _ (λ k. omega arith)) (plane-bytes t _ (λ k. omega arith))

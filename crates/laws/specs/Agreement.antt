@@ -6,10 +6,10 @@ use Prim.Native.Nat.{ℕ, _<_}
 use lib.ListN.{length, set}
 use Rattle.rules.specs.Tables.{entryAt}
 use Rattle.rules.specs.Entries.{entriesOf}
-use Rattle.rules.specs.Forms.{Form, packed}
-use Rattle.rules.specs.Planes.{planesOf, planes}
-use Rattle.rules.specs.Runs.{Call, Turn}
-use Rattle.rules.specs.Memory.{Memory, memory, Sound, Result, perform, afterIn, answersIn, filledIn}
+use Rattle.rules.specs.Forms.{Form}
+use Rattle.rules.specs.Planes.{planesOf}
+use Rattle.rules.specs.Runs.{Call}
+use Rattle.rules.specs.Memory.{Memory, memory, Sound, Result, perform}
 
 -- the memory with e written as the entry of block k
 abbrev pub withEntry : Form → Memory → ℕ → ℕ → Memory
@@ -46,35 +46,13 @@ pub record Alike (f g : Form) (r r′ : Result) : Type 0 where
 abbrev pub CallsAlike : Form → Form → Type 0
 CallsAlike f g = (c : Call) (stack : List ℕ) (m m′ : Memory) → HoldSame f g m m′ → Alike f g (perform f c stack m) (perform g c stack m′)
 
--- and every list of calls
-abbrev pub RunsAlike : Form → Form → Type 0
-RunsAlike f g =
-    (ts : List Turn) (m m′ : Memory) → HoldSame f g m m′
-    → (answersIn f ts m ≡ answersIn g ts m′) × (filledIn f ts m ≡ filledIn g ts m′) × HoldSame f g (afterIn f ts m) (afterIn g ts m′)
-
 -- Reading and writing an entry agree in the two forms, and so does every call.
 pub record FormsAgree (f g : Form) : Type 0 where
   pub writing : WritingAgrees f g
   pub calls : CallsAlike f g
-  pub runs : RunsAlike f g
 
 -- ---- a packed table of t bytes, in planes
 
 -- the memory with the same entries in planes
 abbrev pub inPlanes : ℕ → Memory → Memory
 inPlanes t m = memory (m .pool) (planesOf t (entriesOf (m .table)))
-
--- the result with its memory in planes
-abbrev pub resultInPlanes : ℕ → Result → Result
-resultInPlanes t r = record { answer = r .answer; memory = inPlanes t (r .memory); stack = r .stack; filled = r .filled }
-
--- Every call on the planes gives what it gives on the packed table, in planes, byte by byte.
-abbrev pub CallInPlanes : Type 0
-CallInPlanes = (t : ℕ) (c : Call) (stack : List ℕ) (m : Memory) → length (m .table) ≡ t → perform (planes t) c stack (inPlanes t m) ≡ resultInPlanes t (perform packed c stack m)
-
--- And so does every list of calls.
-abbrev pub RunInPlanes : Type 0
-RunInPlanes =
-    (t : ℕ) (ts : List Turn) (m : Memory) → length (m .table) ≡ t
-    → (answersIn (planes t) ts (inPlanes t m) ≡ answersIn packed ts m) × (filledIn (planes t) ts (inPlanes t m) ≡ filledIn packed ts m)
-    × (afterIn (planes t) ts (inPlanes t m) ≡ inPlanes t (afterIn packed ts m))

@@ -15,6 +15,7 @@ pub mod Runs
 pub mod Forms
 pub mod Planes
 pub mod Memory
+pub mod Lent
 pub mod Examples
 pub mod Limits
 pub mod Orders

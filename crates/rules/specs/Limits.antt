@@ -5,14 +5,13 @@ use mathlib.Core.Path.{_≡_, refl}
 use mathlib.Core.List.{List, [], _∷_, map}
 use mathlib.Core.Option.{some, none}
 use Prim.Native.Nat.{ℕ, _*_}
-use lib.IntN.{ℤ}
 use lib.ListN.{length}
 use Rattle.rules.specs.Tests.{count, leading}
 use Rattle.rules.specs.Words.{number, wordAt}
 use Rattle.rules.specs.Entries.{entryOf, entriesOf, tableOf}
 use Rattle.rules.specs.Tables.{mayFollow, wellAfter, wellFormed, blockCount, freeFrom, aligned, fits, firstFrom, firstFit, used, objects, longest}
 use Rattle.rules.specs.Pointers.{addressOf, goodBase, targetOf}
-use Rattle.rules.specs.Outcomes.{Heap, onlyRefusal, surveyed, loaded, unlessRefused}
+use Rattle.rules.specs.Outcomes.{onlyRefusal, surveyed, loaded, unlessRefused}
 use Rattle.rules.specs.Refusals.{firstOf, goodShape, wholeWords, heapTests, collectionTests}
 use Rattle.rules.specs.Calls.{blocksFor, allocate, reallocate, survey, load}
 use Rattle.rules.specs.Examples.{Example, example, zeros, stale, small}

@@ -16,7 +16,7 @@ use Rattle.rules.specs.Refusals.{Test, test, firstOf}
 use Rattle.rules.specs.Files.{faultOf}
 use Rattle.rules.specs.Runs.{Call, Init, Allocate, Free, Reallocate, Collect, Survey, Load, Store, WriteImage, OpenImage, step, fileIn, Turn}
 
--- what is lent to every call. A table or record that is lent beside these is one more field
+-- the bytes of a heap, which are lent to every call. What else is lent lies beside them (Lent)
 pub record Memory : Type 0 where
   pub pool : List ℕ
   pub table : List ℕ
@@ -32,16 +32,12 @@ heapIn f m = record { pool = m .pool; entries = f .read (m .table) }
 abbrev pub lengthsFit : Form → Memory → Bool
 lengthsFit f m = f .fits (m .table)
 
--- the two memories hold the same but for the pool
-pub record SameBeside (m m′ : Memory) : Type 0 where
-  pub table : m .table ≡ m′ .table
-
 -- its lengths fit, and its table is as the form asks
 pub record Sound (f : Form) (m : Memory) : Type 0 where
   pub fits : lengthsFit f m ≡ true
   pub clean : f .clean (m .table) ≡ true
 
--- the memory that an accepted call leaves, with this heap in it. What is lent beside pool and table is worked out here, from the call and from what was there
+-- the memory that an accepted call leaves, with this heap in it
 abbrev pub holding : Form → Call → Memory → Heap → Memory
 holding f c m h = memory (h .pool) (f .write (h .entries))
 
