@@ -7,7 +7,7 @@ use Rattle.rules.specs.Outcomes.{Outcome}
 use Rattle.rules.specs.Runs.{Call}
 use Rattle.laws.proofs.Matching.{Matching}
 use Rattle.laws.proofs.Twice.{Twin}
-use Rattle.runs.specs.Noninterference.{SameAnswer, equal}
+use Rattle.unwinding.specs.Answers.{SameAnswer, equal}
 
 pub record Same (call : Call) (stack stack′ : List ℕ) (x y : Outcome) : Type 0 where
   pub answer : SameAnswer stack stack′ (x .answer) (y .answer) call

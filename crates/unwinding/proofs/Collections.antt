@@ -26,8 +26,8 @@ use Rattle.keeping.specs.Keeping.{collected, Agree}
 use Rattle.keeping.proofs.Kept.{collected-used}
 use Rattle.keeping.proofs.Alike.{agree-words, marking-alike, collected-alike, collected-bytes}
 use Rattle.keeping.proofs.Collections.{acted, collect-from, tests-ask, collect-asks, collect-is, used-agree}
-use Rattle.runs.specs.Noninterference.{SameStacks, equally-long, both-good, SameAnswer, equal, but-rescans}
-use Rattle.runs.proofs.Same.{Same}
+use Rattle.unwinding.specs.Answers.{SameStacks, equally-long, both-good, SameAnswer, equal, but-rescans}
+use Rattle.unwinding.proofs.Same.{Same}
 
 -- ---- the mark stacks pass the same tests
 

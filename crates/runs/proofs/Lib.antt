@@ -1,9 +1,0 @@
-pub mod Same
-pub mod Collections
-pub mod Heaps
-pub mod Noninterference
-pub mod OnHeaps
-pub mod Conclusions
-pub mod Hypotheses
-pub mod Unseen
-pub mod Samples

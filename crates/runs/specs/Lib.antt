@@ -1,3 +1,0 @@
-pub mod Noninterference
-pub mod Unseen
-pub mod Samples

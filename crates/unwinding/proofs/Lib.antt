@@ -1,0 +1,4 @@
+pub mod Same
+pub mod Collections
+pub mod Heaps
+pub mod Memories
