@@ -9,7 +9,7 @@ use Rattle.rules.specs.Runs.{Call, Collect}
 use Rattle.rules.specs.Forms.{Form}
 use Rattle.rules.specs.Memory.{Memory, Result, perform}
 use Rattle.keeping.specs.Keeping.{butRescans}
-use Rattle.runs.specs.Unseen.{collects}
+use Rattle.programs.specs.Programs.{collects}
 use Rattle.programs.specs.Programs.{Program, ask, run}
 use Rattle.programs.proofs.Stacks.{stack-unseen}
 

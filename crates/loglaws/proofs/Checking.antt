@@ -34,7 +34,7 @@ survey-number base h n e =
     ⊎-elim (λ x. inl (sym e ∙ x .1)) (λ x. ⊎-elim (λ y. inr (sym e ∙ y .1)) (λ y. absurd (omega (arith, e, y .1))) (x .1)) (promises .survey-refusal base h)
 
 -- and so in memory
-survey-number-in : (f : Form) (base : ℕ) (m : Memory) (n : ℕ) → surveyIn f base m ≡ suc n → (suc n ≡ 1) ⊎ (suc n ≡ 2)
+pub survey-number-in : (f : Form) (base : ℕ) (m : Memory) (n : ℕ) → surveyIn f base m ≡ suc n → (suc n ≡ 1) ⊎ (suc n ≡ 2)
 unfolding First step
 survey-number-in f base m n e =
     ⊎-elim (λ x. absurd (x .0 refl))

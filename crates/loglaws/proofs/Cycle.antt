@@ -4,16 +4,15 @@ use mathlib.Core.Path.{_≡_, refl, ap, ap₂, sym, subst, _∙_}
 use mathlib.Core.Logic.{_≢_, inl, inr, ⊎-elim}
 use mathlib.Core.Bool.{Bool, true, false, not}
 use mathlib.Core.List.{List, [], _∷_, _++_, map, map-append, List·Memᴰ, List·Memᴰ·head, List·Memᴰ·cases-cons, Memᴰ·append-left, Memᴰ·append-right, Memᴰ·cast}
-use Prim.Native.Nat.{ℕ, zero, suc, _+_, _-_, _*_, _/_, _%_, _^_, _≤_, _<_}
+use Prim.Native.Nat.{ℕ, _+_, _-_, _*_, _/_, _^_, _≤_, _<_}
 use native.Mathlib.Decide.{ℕ-discrete}
 use native.Mathlib.Omega.{arith}
 use lib.Dec.{leb, ltb}
 use lib.IntN.{pos, negℤ}
 use lib.ListN.{length, length-append, length-map}
 use borrow.Author.Tests.{leb-true, leb-false, ltb-true, ltb-false, not-true, not-false, le-leb, eq-eqb, ne-eqb}
-use Rattle.rules.specs.Tests.{pick, both, tabulate}
+use Rattle.rules.specs.Tests.{pick, both}
 use Rattle.rules.specs.Words.{bytesOf, wordsOf}
-use Rattle.rules.specs.Bits.{byteOf}
 use Rattle.rules.specs.Entries.{HEAD, TAIL}
 use Rattle.rules.specs.Tables.{entryAt, used}
 use Rattle.laws.specs.Meaning.{AllBytes, Lowest, Passed, Accepted}
@@ -23,12 +22,11 @@ use Rattle.rules.specs.Reach.{Reachable}
 use Rattle.rules.specs.Calls.{init, collect}
 use Rattle.rules.specs.Forms.{Form}
 use Rattle.laws.specs.Faithful.{Faithful}
-use Rattle.rules.specs.Planes.{plane, planesOf, planes}
+use Rattle.rules.specs.Planes.{planes}
 use Rattle.rules.specs.Runs.{Init, Collect, step}
 use Rattle.rules.specs.Memory.{Memory, Result, heapIn, Sound, AcceptedIn, perform}
-use Rattle.laws.proofs.Lists.{bounded-append}
 use Rattle.laws.proofs.Words.{length-bytesOf}
-use Rattle.laws.proofs.Planes.{length-entriesIn, planes-faithful}
+use Rattle.laws.proofs.Planes.{length-entriesIn, planes-faithful, planes-bytes}
 use Rattle.laws.proofs.Tables.{used-le}
 use Rattle.laws.proofs.Memory.{Written, follows-accepted, Performed, acted, left, performed}
 use Rattle.keeping.specs.Keeping.{Keeps, Proper}
@@ -39,13 +37,13 @@ use Rattle.promises.specs.Conditions.{Condition, when, First, NoFit}
 use Rattle.promises.specs.Promises.{Object, Among}
 use Rattle.promises.proofs.Promised.{promises}
 use Rattle.promises.proofs.Bytes.{on-bytes, first-past}
-use Rattle.programs.specs.Programs.{Ran, run}
+use Rattle.programs.specs.Programs.{Program, Ran, run}
 use Rattle.programs.proofs.OnHeaps.{run-on-heap, run-written}
 use Rattle.logs.specs.Log.{Reply, append, read, drop}
 use Rattle.loglaws.specs.Chains.{Entry, Chain, ends, heads}
 use Rattle.loglaws.specs.Pairs.{Pair, pairs, readPairs}
 use Rattle.loglaws.specs.Promises.{surveyIn, collectionIn, ofAppend, NoEntry, ofRead, ofDrop, Longer, Dropped}
-use Rattle.loglaws.specs.Cycle.{Deed, Append, Drop, programOf, ranTo, firstBy, repliesTo, firstAfter, memoryAfter, told, refusedOn, doneOn, changeOf, toldOn, pairsOn, toldBy, pairsAfter, InWords, AllInWords, done, next, roomIn, LogIsList}
+use Rattle.loglaws.specs.Cycle.{Deed, Append, Drop, programOf, stackOf, ranTo, firstBy, repliesTo, firstAfter, memoryAfter, told, refusedOn, doneOn, changeOf, toldOn, pairsOn, toldBy, pairsAfter, InWords, AllInWords, done, next, roomIn, LogIsList}
 use Rattle.loglaws.proofs.Chaining.{chain-one, chain-front, chain-object, chain-blocks, chain-reachable}
 use Rattle.loglaws.proofs.Lasting.{sound-survey}
 use Rattle.loglaws.proofs.Calling.{first-among}
@@ -182,27 +180,6 @@ module _ (t base : ℕ) (h : Heap) (first : ℕ) (ps : List Pair) (s : Only base
       let g = some-free (h .entries) (omega (arith, s .counted, long, l, length-pairs (s .entries) ps (s .are))) in
       none-fits _ (gap-fits (h .entries) (s .paired) (omega (arith, long)) g)
 
--- ---- bytes
-
--- planes are bytes
-tabulate-bytes : (n : ℕ) (f : ℕ → ℕ) → ((i : ℕ) → f i < 256) → AllBytes (tabulate n f)
-unfolding tabulate
-tabulate-bytes zero f small i = omega arith
-tabulate-bytes (suc n) f small zero = small 0
-tabulate-bytes (suc n) f small (suc i) = tabulate-bytes n (λ (k : ℕ). f (suc k)) (λ k. small (suc k)) i
-
-plane-bytes : (t : ℕ) (bit : ℕ → ℕ) → ((k : ℕ) → bit k < 2) → AllBytes (plane t bit)
-unfolding plane byteOf
-plane-bytes t bit small =
-    tabulate-bytes _ _
-    (λ i.
-    omega (arith, small (8 * i + 0), small (8 * i + 1), small (8 * i + 2), small (8 * i + 3), small (8 * i + 4), small (8 * i + 5), small (8 * i + 6), small (8 * i + 7)))
-
-planes-bytes : (t : ℕ) (es : List ℕ) → AllBytes (planesOf t es)
-unfolding planesOf
-planes-bytes t es =
-    bounded-append (plane t (λ (k : ℕ). entryAt es k % 2)) (plane t (λ (k : ℕ). entryAt es k / 2 % 2)) (plane-bytes t _ (λ k. omega arith)) (plane-bytes t _ (λ k. omega arith))
-
 -- ---- the lent memory
 
 -- it holds such a heap, and its table is as its form asks
@@ -255,8 +232,8 @@ module _ (t base : ℕ) (m : Memory) (first : ℕ) (ps : List Pair) (l : Logged 
     -- the table stays as its form asks
     left-logged : (new : ℕ) (qs : List Pair) → Only base (heapIn f (r .memory)) new qs → Logged t base (r .memory) new qs
     left-logged new qs o =
-        let p = programOf base first d in
-        record { sound = run-on-heap f faithful (p .program) (p .stack) m (l .sound) .3; written = run-written f faithful (p .program) (p .stack) m (l .sound) (l .written); only = o }
+        let p : Program Reply = programOf base first d in
+        record { sound = run-on-heap f faithful p (stackOf d) m (l .sound) .3; written = run-written f faithful p (stackOf d) m (l .sound) (l .written); only = o }
 
     -- what each deed has to show: its number; what it leaves if that is 0; and else that nothing has changed
     record Does : Type 0 where

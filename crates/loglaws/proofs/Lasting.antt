@@ -26,7 +26,7 @@ use Rattle.promises.proofs.Bytes.{on-bytes, first-at, first-past}
 use Rattle.promises.proofs.Observed.{survey-number}
 use Rattle.promises.proofs.Whole.{sized}
 use Rattle.loglaws.specs.Chains.{Entry, Chain}
-use Rattle.loglaws.specs.Lasting.{Spares, AllSpare, done, next, LogLasts}
+use Rattle.loglaws.specs.Lasting.{Spares}
 use Rattle.loglaws.proofs.Chaining.{chain-object, chain-same, chain-apart, chain-reachable}
 
 -- ---- the chain
@@ -61,16 +61,6 @@ module _ (f : Form) (faithful : Faithful f) (base first : ℕ) (es : List Entry)
       subst (λ (h : Heap). Chain base h first es) (sym (follows-accepted f faithful c stack m accepted .heap))
       (spared c stack m spares chain (on-bytes .accepted-bytes f c stack m accepted .0)))
       chain
-
-  -- and so do lists of calls
-  lasts : (m : Memory) (ts : List Turn) → Chain base (heapIn f m) first es → AllSpare base first es ts → Chain base (heapIn f (afterIn f ts m)) first es
-  unfolding afterIn
-  lasts m [] chain done = chain
-  lasts m (t ∷ ts) chain (next spares rest) = lasts (turnIn f t m .memory) ts (lasts-once (t .call) (t .stack) m spares chain) rest
-
-pub log-lasts : LogLasts
-unfolding LogLasts
-log-lasts f faithful base first m es ts chain spare = lasts f faithful base first es m ts chain spare
 
 -- ---- a heap that passes 1 and 2 still does after any calls
 

@@ -2,7 +2,6 @@ pub mod Chaining
 pub mod Distinct
 pub mod Lasting
 pub mod LastingUses
-pub mod LastingBeside
 pub mod Following
 pub mod Finding
 pub mod Entering
@@ -17,5 +16,3 @@ pub mod Cycle
 pub mod CycleUses
 pub mod CycleRefused
 pub mod Uses
-pub mod TwoLogs
-pub mod OtherT

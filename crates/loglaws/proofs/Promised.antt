@@ -1,12 +1,7 @@
--- The promises of the log, together; and that it reads as before.
+-- The promises of the log, together.
 -- Assumes nothing.
-use mathlib.Core.Path.{sym, _∙_}
-use mathlib.Core.List.{[]}
-use Rattle.rules.specs.Memory.{afterIn}
 use Rattle.loglaws.specs.Promises.{LogPromises}
-use Rattle.loglaws.specs.Lasting.{LogLasts, LogReadsAsBefore}
-use Rattle.loglaws.proofs.Lasting.{log-lasts, passes-after}
-use Rattle.loglaws.proofs.Reading.{read-as, read-refusal, read-declined, was-read, drop-refusal, drop-declined, dropped}
+use Rattle.loglaws.proofs.Reading.{read-refusal, read-declined, was-read, drop-refusal, drop-declined, dropped}
 use Rattle.loglaws.proofs.Appending.{append-refusal, append-declined, append-no-room, appended, appended-after}
 
 pub log-promises : LogPromises
@@ -23,10 +18,3 @@ log-promises = record {
   was-read = was-read;
   dropped = dropped;
 }
-
--- where the chain and the first tests are as they were, every read is
-pub log-reads-as-before : LogReadsAsBefore
-unfolding LogReadsAsBefore LogLasts
-log-reads-as-before f faithful base first m es ts passes chain spare index =
-    read-as f faithful base first index [] (afterIn f ts m) (passes-after f faithful base ts m passes) es (log-lasts f faithful base first m es ts chain spare)
-    ∙ sym (read-as f faithful base first index [] m passes es chain)

@@ -23,7 +23,7 @@ use Rattle.rules.specs.Refusals.{firstOf, goodShape}
 use Rattle.rules.specs.Calls.{collect, survey}
 use Rattle.rules.specs.Forms.{Form}
 use Rattle.laws.specs.Faithful.{Faithful}
-use Rattle.rules.specs.Runs.{Collect, step, Turn}
+use Rattle.rules.specs.Runs.{Collect, step}
 use Rattle.rules.specs.Memory.{Memory, Result, heapIn, Sound, AcceptedIn, orRefused, perform, afterIn}
 use Rattle.laws.proofs.Words.{wordAt-same}
 use Rattle.laws.proofs.Tables.{entry-inside, extent-of, extent-used, count-is, run-apart, objects-apart, first-lowest}
@@ -40,15 +40,15 @@ use Rattle.programs.specs.Programs.{Ran, ran, run}
 use Rattle.logs.specs.Log.{Reply, logged, declined, append, read, drop}
 use Rattle.loglaws.specs.Chains.{Entry, Chain, ends, leads, Log, heads}
 use Rattle.loglaws.specs.Pairs.{Pair, pairs, readPairs}
-use Rattle.loglaws.specs.Lasting.{AllSpare, done, next, Spares, LogReadsAsBefore}
+use Rattle.loglaws.specs.Lasting.{Spares}
 use Rattle.loglaws.specs.Promises.{surveyIn, collectionIn, ofAppend, NoEntry, ofRead, ofDrop, Declined, LastOf, Longer, Appended, Dropped}
 use Rattle.logs.specs.Examples.{ranFrom, reads, linked, sevens}
-use Rattle.loglaws.proofs.Chaining.{Front, address-one, address-some, chain-front, chain-none, chain-one, chain-same, chain-object}
-use Rattle.loglaws.proofs.Lasting.{survey-sound, sound-survey, passes-after}
+use Rattle.loglaws.proofs.Chaining.{Front, address-one, address-some, chain-front, chain-none, chain-one}
+use Rattle.loglaws.proofs.Lasting.{lasts-once, survey-sound, sound-survey, passes-after}
 use Rattle.loglaws.proofs.Calling.{kept-accepted}
 use Rattle.loglaws.proofs.Ending.{Indexed, past, inside, indexed}
 use Rattle.loglaws.proofs.Reading.{chain-at, split-same, pairs-at, pairs-past, read-as}
-use Rattle.loglaws.proofs.Promised.{log-promises, log-reads-as-before}
+use Rattle.loglaws.proofs.Promised.{log-promises}
 
 -- ---- one outcome
 
@@ -440,18 +440,13 @@ module _ (f : Form) (faithful : Faithful f) (base first : ℕ) (stack : List ℕ
       → let r : Ran Reply = run f (append base first time tips roots stack) stack m in
       r .reply .refusal ≡ 9 → (other : ℕ) (es : List Entry) → Chain base (heapIn f m) other es → List·Memᴰ other (wordsOf (bytesOf first ++ roots))
       → (index : ℕ) → run f (read base other index) [] (r .memory) .reply ≡ run f (read base other index) [] m .reply
-  unfolding LogReadsAsBefore Spares afterIn
+  unfolding Spares afterIn
   nine-then-others bytes time tips roots nine other es chain among index =
-      let x = log-promises .append-no-room f faithful base first time tips roots stack m bytes nine in
-      ap (λ (n : Memory). run f (read base other index) [] n .reply) (x .1)
-      ∙ log-reads-as-before f faithful base other m es (record { call = Collect base (bytesOf first ++ roots); stack = stack } ∷ []) surveyed chain (next (refl, among) done) index
-
-  -- after any two lists of calls that spare it, long or short, a log reads alike
-  pub lists-alike : (es : List Entry) → Chain base (heapIn f m) first es → (ts us : List Turn) → AllSpare base first es ts → AllSpare base first es us
-      → (index : ℕ) → run f (read base first index) [] (afterIn f ts m) .reply ≡ run f (read base first index) [] (afterIn f us m) .reply
-  unfolding LogReadsAsBefore
-  lists-alike es chain ts us spare spare′ index =
-      log-reads-as-before f faithful base first m es ts surveyed chain spare index ∙ sym (log-reads-as-before f faithful base first m es us surveyed chain spare′ index)
+      let n : Memory = collectionIn f base first roots stack m .memory in
+      let z : surveyIn f base n ≡ 0 = passes-after f faithful base (record { call = Collect base (bytesOf first ++ roots); stack = stack } ∷ []) m surveyed in
+      ap (λ (n : Memory). run f (read base other index) [] n .reply) (log-promises .append-no-room f faithful base first time tips roots stack m bytes nine .1)
+      ∙ read-as f faithful base other index [] n z es (lasts-once f faithful base other es (Collect base (bytesOf first ++ roots)) stack m (refl, among) chain)
+      ∙ sym (read-as f faithful base other index [] m surveyed es chain)
 
 -- numbers that are known only not to be otherwise
 surely : (a b : ℕ) → ¬ (a ≡ b → ⊥) → a ≡ b
@@ -561,13 +556,7 @@ longer-others base old before es k time tips after new chain l o head other =
         go (yes e) q = omega (arith, q, ap (entryAt (after .entries)) e, joined base old before es k time tips after new l .object)
         go (no off) q = x .next (sym (l .entries (o + b) (λ w. ⊎-elim (λ a. off (omega (arith, a, w .0))) (λ a. omega (arith, a, w .1)) apart)) ∙ q)
 
--- so two logs that share no entry do not disturb each other: an append to one leaves the other's chain
-pub longer-apart : (base old : ℕ) (before : Heap) (es : List Entry) (k time tips : ℕ) (after : Heap) (new : ℕ) → Chain base before old es → Longer base old before es k time tips after new
-    → (other : ℕ) (ds : List Entry) → Chain base before other ds → ((o : ℕ) → List·Memᴰ o (heads ds) → LastOf es o → ⊥) → Chain base after other ds
-longer-apart base old before es k time tips after new chain l other ds chain′ disjoint =
-    chain-same base before after chain′ (λ o m. longer-others base old before es k time tips after new chain l o (chain-object base before chain′ o m) (disjoint o m))
-
--- and so does a drop
+-- and so does a drop: every object but the one that it frees stays as it was
 pub dropped-others : (base : ℕ) (before : Heap) (first : ℕ) (e : Entry) (es : List Entry) (after : Heap) (r : Reply) → Chain base before first (e ∷ es) → Dropped base before e es after r
     → (o : ℕ) → Object before o → o ≢ e .head → Same before after o
 dropped-others base before first e es after r chain d o head other =

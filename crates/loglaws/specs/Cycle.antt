@@ -13,7 +13,7 @@ use Rattle.rules.specs.Forms.{Form}
 use Rattle.rules.specs.Planes.{planes}
 use Rattle.rules.specs.Runs.{Init}
 use Rattle.rules.specs.Memory.{Memory, AcceptedIn, perform}
-use Rattle.programs.specs.Programs.{Ran, run, Lent, lent, ranIn}
+use Rattle.programs.specs.Programs.{Program, Ran, run}
 use Rattle.logs.specs.Log.{Reply, append, read, drop}
 use Rattle.loglaws.specs.Pairs.{Pair, readPairs}
 
@@ -25,13 +25,17 @@ pub data Deed : Type 0 where
 
 -- ---- deeds on the log
 
--- the program of a deed, on the log with this first address, with the mark stack that is lent to it
-abbrev pub programOf : ℕ → ℕ → Deed → Lent Reply
-programOf base first (Append time tips roots stack) = lent (append base first time tips roots stack) stack
-programOf base first Drop = lent (drop base first) []
+-- the program of a deed, on the log with this first address, and the mark stack that is lent to it
+abbrev pub programOf : ℕ → ℕ → Deed → Program Reply
+programOf base first (Append time tips roots stack) = append base first time tips roots stack
+programOf base first Drop = drop base first
+
+abbrev pub stackOf : Deed → List ℕ
+stackOf (Append time tips roots stack) = stack
+stackOf Drop = []
 
 abbrev pub ranTo : Form → ℕ → Deed → ℕ → Memory → Ran Reply
-ranTo f base d first m = ranIn f (programOf base first d) m
+ranTo f base d first m = run f (programOf base first d) (stackOf d) m
 
 -- the logger keeps the answered first address, and after a refusal the old one
 abbrev pub firstBy : ℕ → Reply → ℕ

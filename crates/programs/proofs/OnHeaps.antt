@@ -11,7 +11,7 @@ use Rattle.rules.specs.Runs.{Call, step}
 use Rattle.rules.specs.Memory.{Memory, Result, heapIn, Sound, perform}
 use Rattle.laws.proofs.Memory.{Written, kept-by, follows-sound, sound-next}
 use Rattle.keeping.specs.Keeping.{butRescans}
-use Rattle.runs.specs.Unseen.{collects}
+use Rattle.programs.specs.Programs.{collects}
 use Rattle.programs.specs.Programs.{Program, give, ask, Ran, stackAfter, run}
 
 -- the reply, and the heap and the mark stack that are left

@@ -13,8 +13,8 @@ use Rattle.rules.specs.Memory.{Memory, Result, perform}
 use Rattle.laws.proofs.Refusals.{true-not-false}
 use Rattle.laws.proofs.Memory.{follows-accepted, Performed, acted, left, performed}
 use Rattle.keeping.proofs.Collections.{keeps-exactly}
-use Rattle.runs.specs.Noninterference.{SameStacks, equally-long, both-good}
-use Rattle.runs.specs.Unseen.{collects}
+use Rattle.unwinding.specs.Answers.{SameStacks, equally-long, both-good}
+use Rattle.programs.specs.Programs.{collects}
 use Rattle.programs.specs.Programs.{stackAfter}
 
 module _ (f : Form) (faithful : Faithful f) where

@@ -1,3 +1,2 @@
 pub mod Programs
-pub mod Unseen
 pub mod AsList

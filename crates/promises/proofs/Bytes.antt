@@ -28,9 +28,8 @@ use Rattle.laws.proofs.Refusals.{true-not-false, both-left, both-right, not-tru
 use Rattle.laws.proofs.Memory.{tests-passed, perform-accepted, passes-in, accepted-sound, Performed, acted, left, performed, packed-faithful, follows-accepted, follows-sound, sound-next}
 use Rattle.laws.proofs.Opening.{open-passed, open-passes}
 use Rattle.laws.proofs.Planes.{length-entriesIn, getD-entriesIn, entryIn-byte, planes-faithful}
-use Rattle.laws.proofs.Agreement.{in-planes, in-packed, planes-agree, call-in-planes, run-in-planes}
 use Rattle.promises.specs.Conditions.{Condition, First, when, ofInit, ofAllocate, ofFree, ofReallocate, ofCollect, ofSurvey, ofWord, ofWriteImage}
-use Rattle.promises.specs.Bytes.{OnBytes, AsPacked}
+use Rattle.promises.specs.Bytes.{OnBytes}
 use Rattle.promises.proofs.Checked.{number as number-of, no-refusal, init-checked, open-checked, acts}
 use Rattle.promises.proofs.Planes.{shape-in-bytes, spare-in-bytes, free-planes}
 use Rattle.promises.proofs.Storing.{stored, survey-leaves, load-leaves}
@@ -318,6 +317,3 @@ on-bytes = record {
   clean-after = clean-after;
   init-zero = init-zero;
 }
-
-pub as-packed : AsPacked
-as-packed = record { planes-agree = planes-agree; in-planes = in-planes; in-packed = in-packed; call-in-planes = call-in-planes; run-in-planes = run-in-planes }

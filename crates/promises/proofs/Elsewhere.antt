@@ -31,7 +31,7 @@ use Rattle.promises.specs.Determined.{Sized}
 use Rattle.promises.proofs.Bytes.{on-bytes, first-at}
 use Rattle.promises.specs.Samples.{sampleBase, sampleTable, samplePool, sampleMemory, sampleRoots}
 use Rattle.promises.proofs.Whole.{whole}
-use Rattle.promises.proofs.OtherT.{other-t-is-refused}
+use Rattle.promises.proofs.OtherT.{one-call}
 use Rattle.promises.proofs.RoundTrips.{write-then-open, open-then-write, opens-exactly, one-file}
 
 -- the image, in a buffer that is just long enough
@@ -216,7 +216,7 @@ opened-by-one-t t t′ room room′ image image′ m accepted accepted′ =
 
 pub other-t-refuses : (t t′ room : ℕ) (image : List ℕ) (m : Memory) → length (m .pool) ≡ 64 * t → t′ ≢ t → faultOf image ≡ 0
     → perform (planes t′) (OpenImage image room) [] m ≡ result (onlyRefusal 1) m []
-other-t-refuses t t′ room image m size other faultless = rw faultless at (other-t-is-refused .one-call t t′ (OpenImage image room) [] m size other)
+other-t-refuses t t′ room image m size other faultless = rw faultless at (one-call t t′ (OpenImage image room) [] m size other)
 
 -- a refusal, by whichever number, leaves the list
 pub refused-list : (f : Form) (image list : List ℕ) (m : Memory) (r : ℕ) → perform f (OpenImage image (length list)) [] m .answer .refusal ≡ suc r

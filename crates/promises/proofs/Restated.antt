@@ -8,17 +8,17 @@ use mathlib.Core.List.{List, [], _++_}
 use Prim.Native.Nat.{ℕ, _+_, _*_, _-_, _/_, _%_, _≤_, _<_}
 use lib.ListN.{length, getD, drop, replicate}
 use Rattle.rules.specs.Bits.{bitOf}
-use Rattle.rules.specs.Entries.{FREE, HEAD, entriesOf, tableOf}
+use Rattle.rules.specs.Entries.{FREE, HEAD}
 use Rattle.rules.specs.Tables.{entryAt, wellFormed, used}
 use Rattle.rules.specs.Outcomes.{Heap, Outcome, openedAt}
 use Rattle.rules.specs.Images.{imageOf}
 use Rattle.rules.specs.Files.{fileOf, rootsOf}
 use Rattle.rules.specs.Calls.{allocate, reallocate, collect, openImage}
-use Rattle.rules.specs.Runs.{Call, Init, Store, WriteImage, OpenImage, Turn, step}
+use Rattle.rules.specs.Runs.{Call, Init, Store, WriteImage, OpenImage, step}
 use Rattle.rules.specs.Forms.{Form, packed}
 use Rattle.laws.specs.Faithful.{Faithful}
-use Rattle.rules.specs.Planes.{planeBytes, entriesIn, spareFree, planesOf, planes}
-use Rattle.rules.specs.Memory.{Memory, memory, heapIn, Sound, Result, faultIn, perform, afterIn, answersIn, filledIn}
+use Rattle.rules.specs.Planes.{planeBytes, entriesIn, spareFree, planes}
+use Rattle.rules.specs.Memory.{Memory, memory, heapIn, Sound, Result, faultIn, perform}
 use Rattle.laws.specs.Meaning.{AllBytes, Shape}
 use Rattle.keeping.specs.Keeping.{butRescans, Collected}
 use Rattle.keeping.proofs.Collections.{any-stack}
@@ -26,7 +26,7 @@ use Rattle.promises.specs.Conditions.{Condition, First}
 use Rattle.promises.specs.Promises.{byteAt, Refused, Initialised, Allocated, Freed, Reallocated, Stored, Loaded, Surveyed, Imaged, Opened, Reclaimed}
 use Rattle.promises.specs.Determined.{SameHeap, partsOf}
 use Rattle.promises.proofs.Promised.{promises}
-use Rattle.promises.proofs.Bytes.{on-bytes, as-packed}
+use Rattle.promises.proofs.Bytes.{on-bytes}
 use Rattle.promises.proofs.RoundTrips.{write-then-open}
 use Rattle.promises.proofs.Determined.{determined}
 use Rattle.promises.proofs.Whole.{whole}
@@ -202,26 +202,6 @@ module _ (table es : List ℕ) (small : (k : ℕ) → entryAt es k < 4) where
 
   pub packed-read-back : packed .fits table ≡ true → length es ≡ length (packed .read table) → packed .read (packed .write es) ≡ es
   packed-read-back fits long = on-bytes .packed-faithful .read-write table es fits long small
-
--- ---- planes and a packed table
-
-module _ (t : ℕ) (m : Memory) (ts : List Turn) where
-  -- from a packed table to its planes, by their entries, and in bytes
-  pub planes-answer : length (m .table) ≡ t → answersIn packed ts m ≡ answersIn (planes t) ts (memory (m .pool) (planesOf t (entriesOf (m .table))))
-  planes-answer long = as-packed .planes-agree t .runs ts m _ (as-packed .in-planes t m long) .0
-
-  -- and from planes to their packed table
-  pub packed-answers : Sound (planes t) m → answersIn packed ts (memory (m .pool) (tableOf (entriesIn t (m .table)))) ≡ answersIn (planes t) ts m
-  packed-answers sound = as-packed .planes-agree t .runs ts _ m (as-packed .in-packed t m sound) .0
-
-  pub planes-after : length (m .table) ≡ t
-      → (filledIn (planes t) ts (memory (m .pool) (planesOf t (entriesOf (m .table)))) ≡ filledIn packed ts m)
-      × (afterIn (planes t) ts (memory (m .pool) (planesOf t (entriesOf (m .table)))) ≡ memory (afterIn packed ts m .pool) (planesOf t (entriesOf (afterIn packed ts m .table))))
-  planes-after long = let x = as-packed .run-in-planes t ts m long in (x .1, x .2)
-
-pub planes-perform : (t : ℕ) (c : Call) (stack : List ℕ) (m : Memory) → length (m .table) ≡ t
-    → perform (planes t) c stack (memory (m .pool) (planesOf t (entriesOf (m .table)))) .answer ≡ perform packed c stack m .answer
-planes-perform t c stack m long i = as-packed .call-in-planes t c stack m long i .answer
 
 -- ---- an image that is opened elsewhere
 

@@ -13,7 +13,7 @@ use lib.IntN.{ℤ, pos, negℤ, _+ℤ_, natAbs}
 use lib.ListN.{replicate}
 use Rattle.rules.specs.Tests.{count, leading, tabulate}
 use Rattle.rules.specs.Bits.{bitOf, bitAt}
-use Rattle.rules.specs.Words.{number, bytesOf, firstTwo, wordAt, withWord, wordsOf}
+use Rattle.rules.specs.Words.{number, bytesOf, wordAt, withWord, wordsOf}
 use Rattle.rules.specs.Entries.{HEAD}
 use Rattle.rules.specs.Tables.{entryAt, mayFollow, wellAfter, wellFormed, blockCount, startOf, freeFrom, aligned, fits, firstFrom, firstFit, placed, released, extended, used, objects, longest, growsInPlace}
 use Rattle.rules.specs.Pointers.{addressOf, goodBase, targetOf, headsObject, headAt, leadsTo}
@@ -21,26 +21,24 @@ use Rattle.laws.specs.Meaning.{AllBytes, Lowest, Longest, Points, PointsInto, L
 use Rattle.rules.specs.Outcomes.{Heap, Answer, Outcome, onlyRefusal, loaded, surveyed, leaves, changeFrom, unlessRefused, clearedBlocks}
 use Rattle.rules.specs.Refusals.{firstOf, goodShape, wholeWords}
 use Rattle.rules.specs.Reach.{Reachable, root, edge}
-use Rattle.rules.specs.Files.{sectionTests, fileTests, faultOf}
+use Rattle.rules.specs.Files.{faultOf}
 use Rattle.rules.specs.Marking.{pushed, visitTo, visit, walkWords, walk, drainFor, drain, trace, rootTo, markRoot, markRoots, passBlock, passFrom, pass, rescanFor, rescan, markAll, sweptEntry, freeingAfter, sweepFrom, sweep}
 use Rattle.rules.specs.Calls.{blocksFor, taken, placing, init, allocate, freed, free, shrunk, grown, moved, movesTo, wayToGrow, wayTo, along, reallocate, collecting, collect, survey, load, store}
 use Rattle.rules.specs.Runs.{Call, Init, Allocate, Free, Reallocate, Collect, Survey, Load, Store, WriteImage, OpenImage, step, answers}
 use Rattle.rules.specs.Planes.{planeBytes, entryIn, entriesIn, spare, spareFree, planes}
-use Rattle.rules.specs.Memory.{memory, Sound, result, AcceptedIn, perform, afterIn, filledIn}
+use Rattle.rules.specs.Memory.{memory, Sound, result, AcceptedIn, perform}
 use Rattle.laws.proofs.Planes.{length-entriesIn}
-use Rattle.laws.proofs.Memory.{answers-in}
 use Rattle.laws.proofs.Tables.{first-lowest, longest-says, le-run, well-says, extent-of}
 use Rattle.laws.proofs.Pointers.{into-used}
 use Rattle.laws.proofs.Marking.{head-inside}
 use Rattle.promises.specs.Conditions.{First, RoomAfter, ofAllocate, ofFree, ofReallocate, ofCollect, ofWord}
 use Rattle.promises.specs.Promises.{Object, blocksOf, Surveyed}
-use Rattle.promises.specs.OtherT.{TurnAt, turnAt, afterAt, answersAt, filledAt, ofT, atOtherT, othersAs}
 use Rattle.promises.specs.Samples.{sampleBase, sampleTable, samplePool, sampleHeap, sampleMemory, sampleRoots, sampleStack}
 use Rattle.promises.proofs.Promised.{promises}
 use Rattle.promises.proofs.Bytes.{on-bytes}
-use Rattle.promises.proofs.OtherT.{other-t-is-refused}
+use Rattle.promises.proofs.OtherT.{one-call}
 use Rattle.promises.proofs.Determined.{start-one, surveyed-one}
-use Rattle.promises.proofs.Observed.{Sums, allocate-number, free-number, reallocate-number, collect-number, store-number, refusals-alike, init-shape, init-bad-shape, target-one, lead-one, allocate-loads, free-loads, reallocate-loads, store-loads, collect-loads, new-zero, new-beyond, again-kept, again-zero, again-beyond, allocate-sums, free-sums, reallocate-sums, collect-sums, init-none-used, collect-less, free-again, allocate-survey, allocate-short, reallocate-survey, equal-then, store-answer}
+use Rattle.promises.proofs.Observed.{Sums, allocate-number, free-number, reallocate-number, collect-number, store-number, refusals-alike, init-shape, init-bad-shape, target-one, lead-one, allocate-loads, free-loads, reallocate-loads, store-loads, collect-loads, new-zero, new-beyond, again-kept, again-zero, again-beyond, allocate-sums, free-sums, reallocate-sums, collect-sums, init-none-used, collect-less, free-again, allocate-survey, allocate-short, reallocate-survey, equal-then}
 
 -- ---- what is computed
 
@@ -287,35 +285,9 @@ stored-beside = store-loads base h good 2 11 4294967295 (computed .stores) 7 (co
 
 -- ---- calls that are given another t
 
--- after the store a free with a t of 4, which has as many table bytes, an init with the largest t, and with it a file that has a fault: the word is still there
-abbrev turns : List TurnAt
-turns = turnAt 3 (Store base 2 11 4294967295) [] ∷ turnAt 4 (Free base 2) [] ∷ turnAt 18446744073709551615 (Init base) [] ∷ turnAt 18446744073709551615 (OpenImage (2 ∷ 0 ∷ []) 0) [] ∷ turnAt 3 (Load base 2 11) [] ∷ []
-
-pub turns-answers : answersAt turns sampleMemory ≡ onlyRefusal 0 ∷ onlyRefusal 1 ∷ onlyRefusal 1 ∷ onlyRefusal 15 ∷ loaded 4294967295 ∷ []
-unfolding ofT othersAs answers step faultOf fileTests sectionTests firstOf firstTwo
-turns-answers =
-    other-t-is-refused .answers 3 sampleMemory turns (computed .shape .size)
-    ∙ ap (othersAs (λ (c : Call). onlyRefusal (atOtherT c)) 3 turns)
-    (answers-in (planes 3) (on-bytes .planes-faithful 3) (ofT 3 turns) sampleMemory (computed .sound)
-    ∙ ap (λ (a : Answer). a ∷ load base (store base h 2 11 4294967295 .heap) 2 11 .answer ∷ []) (store-answer base h 2 11 4294967295 (computed .stores))
-    ∙ ap (λ (a : Answer). onlyRefusal 0 ∷ a ∷ []) stored-back)
-
--- images with a t of 4 write nothing, and one with the heap's own t between them what it writes alone
-abbrev images : List TurnAt
-images = turnAt 4 (WriteImage base sampleRoots 4096) [] ∷ turnAt 3 (WriteImage base sampleRoots 4096) [] ∷ turnAt 4 (WriteImage base sampleRoots 4096) [] ∷ []
-
-pub turns-filled : filledAt images sampleMemory ≡ [] ∷ perform (planes 3) (WriteImage base sampleRoots 4096) [] sampleMemory .filled ∷ [] ∷ []
-unfolding ofT othersAs filledIn
-turns-filled = other-t-is-refused .filled 3 sampleMemory images (computed .shape .size)
-
--- the two alone leave every byte
-pub turns-bytes : afterAt (turnAt 4 (Free base 2) [] ∷ turnAt 18446744073709551615 (Init base) [] ∷ []) sampleMemory ≡ sampleMemory
-unfolding ofT afterIn
-turns-bytes = other-t-is-refused .bytes 3 sampleMemory (turnAt 4 (Free base 2) [] ∷ turnAt 18446744073709551615 (Init base) [] ∷ []) (computed .shape .size)
-
--- and 1 comes before 4, which a mark stack of 65 entries is: it stays as it is
+-- 1 comes before 4, which a mark stack of 65 entries is: it stays as it is
 pub turns-stack : perform (planes 4) (Collect base sampleRoots) (sampleStack 260) sampleMemory ≡ result (onlyRefusal 1) sampleMemory (sampleStack 260)
-turns-stack = other-t-is-refused .one-call 3 4 (Collect base sampleRoots) (sampleStack 260) sampleMemory (computed .shape .size) (λ e. omega (arith, e))
+turns-stack = one-call 3 4 (Collect base sampleRoots) (sampleStack 260) sampleMemory (computed .shape .size) (λ e. omega (arith, e))
 
 -- ---- survey, and room
 

@@ -7,7 +7,6 @@ use mathlib.Core.List.{List, [], _∷_, _++_}
 use Prim.Native.Nat.{ℕ, _+_, _-_, _*_, _%_, _≤_, _<_}
 use lib.ListN.{length, getD, drop, replicate}
 use Rattle.rules.specs.Bits.{bitOf}
-use Rattle.rules.specs.Entries.{tableOf}
 use Rattle.rules.specs.Tables.{entryAt}
 use Rattle.rules.specs.Outcomes.{Outcome, onlyRefusal}
 use Rattle.rules.specs.Images.{imageOf}
@@ -16,7 +15,6 @@ use Rattle.rules.specs.Runs.{Call, Init, Survey, Load, Store, WriteImage, OpenI
 use Rattle.rules.specs.Forms.{Form, packed}
 use Rattle.laws.specs.Faithful.{Faithful}
 use Rattle.rules.specs.Planes.{planeBytes, entriesIn, spareFree, planes, heapAt}
-use Rattle.laws.specs.Agreement.{HoldSame, FormsAgree, inPlanes, CallInPlanes, RunInPlanes}
 use Rattle.rules.specs.Memory.{Memory, memory, heapIn, lengthsFit, Sound, doneIn, Result, result, withBuffer, AcceptedIn, stackFor, readsTable, faultIn, perform}
 use Rattle.laws.specs.Meaning.{AllBytes, Shape, ShapeInBytes, Accepted}
 use Rattle.promises.specs.Conditions.{First, when}
@@ -97,13 +95,3 @@ pub record OnBytes : Type 0 where
   -- an accepted init leaves a table of zero bytes, the spare bits with them, and the pool
   pub init-zero : (base t : ℕ) (pool table : List ℕ) → AcceptedIn (perform (planes t) (Init base) [] (memory pool table))
       → perform (planes t) (Init base) [] (memory pool table) .memory ≡ memory pool (replicate (length table) 0)
-
--- Two planes say what a packed table says: reading and writing an entry agree, and so do every call and every list of calls, in all that they answer and in the entries that they leave.
-pub record AsPacked : Type 0 where
-  pub planes-agree : (t : ℕ) → FormsAgree packed (planes t)
-  -- each has its counterpart in the other form: a packed table of t bytes, and two planes that are as their form asks
-  pub in-planes : (t : ℕ) (m : Memory) → length (m .table) ≡ t → HoldSame packed (planes t) m (inPlanes t m)
-  pub in-packed : (t : ℕ) (m : Memory) → Sound (planes t) m → HoldSame packed (planes t) (memory (m .pool) (tableOf (entriesIn t (m .table)))) m
-  -- so a call, and a list of calls, on the planes of a packed table gives what it gives on that table, in planes, byte by byte
-  pub call-in-planes : CallInPlanes
-  pub run-in-planes : RunInPlanes

@@ -1,21 +1,19 @@
--- Each call of the heap does what the plain list does, and so do calls in a row: heap and list then answer alike and write the same, and the one still represents the other.
+-- Each call of the heap does what the plain list does: heap and list answer alike and write the same, and the one still represents the other.
 -- An accepted init makes the heap represent the empty list, an accepted opening the file's.
 -- Assumes nothing.
 use mathlib.Core.Path.{_≡_, refl, sym, ap, _∙_}
 use mathlib.Core.Bool.{true}
-use mathlib.Core.List.{List, [], _∷_}
+use mathlib.Core.List.{List, []}
 use Prim.Native.Nat.{ℕ, _*_}
 use lib.ListN.{length, replicate, length-replicate}
 use Rattle.rules.specs.Entries.{FREE}
 use Rattle.rules.specs.Outcomes.{Heap}
-use Rattle.laws.specs.Meaning.{AllBytes}
 use Rattle.rules.specs.Refusals.{goodShape}
 use Rattle.rules.specs.Calls.{init}
-use Rattle.rules.specs.Runs.{Call, Init, Allocate, Free, Reallocate, Collect, Survey, Load, Store, WriteImage, OpenImage, Turn, EveryFile, next, step, answers, fillings as filledOn}
+use Rattle.rules.specs.Runs.{Call, Init, Allocate, Free, Reallocate, Collect, Survey, Load, Store, WriteImage, OpenImage, step}
 use Rattle.laws.proofs.Refusals.{shape-true}
-use Rattle.laws.proofs.Sizes.{step-keeps}
 use Rattle.plain.specs.Objects.{Plain}
-use Rattle.plain.specs.Replies.{reply, replies, fillings}
+use Rattle.plain.specs.Replies.{reply}
 use Rattle.simulation.proofs.Inits.{shape-base, init-accepted, Anew, inits, opened}
 use Rattle.simulation.proofs.Agrees.{Represents, Agrees}
 use Rattle.simulation.proofs.Acts.{empty-laid, init-agrees, survey-agrees, load-agrees, store-agrees}
@@ -38,27 +36,6 @@ step-agrees (Load base k i) stack r = load-agrees r base k i stack
 step-agrees (Store base k i w) stack r = store-agrees r base k i w stack
 step-agrees (WriteImage base roots room) stack r = image-agrees r base roots room stack
 step-agrees (OpenImage image room) stack r = open-agrees image room r stack
-
--- one and those after it
-pub both-same : {A : Type 0} {a b : A} {xs ys : List A} → a ≡ b → xs ≡ ys → a ∷ xs ≡ b ∷ ys
-both-same e f = cc
-
--- calls in a row
-pub all-agree : (ts : List Turn) {p : Plain} {h : Heap} → Represents p h → answers ts h ≡ replies ts p
-unfolding answers replies
-all-agree [] r = refl
-all-agree (t ∷ ts) r =
-    let a = step-agrees (t .call) (t .stack) r in
-    both-same (a .answer) (all-agree ts (a .heap))
-
--- and what they write into buffers, from a pool of bytes on, and with files of bytes
-pub all-filled : (ts : List Turn) {p : Plain} {h : Heap} → Represents p h → AllBytes (h .pool) → EveryFile AllBytes ts → filledOn ts h ≡ fillings ts p
-unfolding filledOn fillings
-all-filled [] r bytes files = refl
-all-filled (t ∷ ts) {h = h} r bytes (next file files) =
-    let a = step-agrees (t .call) (t .stack) r in
-    let still = step-keeps (t .call) (t .stack) h .all-bytes file bytes in
-    both-same (a .filled still) (all-filled ts (a .heap) still files)
 
 -- an init of a good shape, whatever was there before
 first-init : (base : ℕ) (h : Heap) (p : Plain) → goodShape base h ≡ true → p .size ≡ length (h .entries) → Agrees (reply (Init base) [] p) (init base h)

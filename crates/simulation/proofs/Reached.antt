@@ -17,19 +17,16 @@ use Rattle.rules.specs.Tables.{blockCount}
 use Rattle.rules.specs.Pointers.{leadsTo}
 use Rattle.rules.specs.Outcomes.{Heap}
 use Rattle.rules.specs.Reach as table
-use Rattle.rules.specs.Runs.{Turn, after}
 use Rattle.keeping.specs.Keeping.{marking}
 use Rattle.keeping.proofs.Sound.{sound}
 use Rattle.keeping.proofs.Complete.{complete}
-use Rattle.plain.specs.Objects.{Object, Plain, end, find}
+use Rattle.plain.specs.Objects.{Object, end, find}
 use Rattle.plain.specs.Tracing.{View, isIn, addresses, ledTo, trace, among}
 use Rattle.plain.specs.Reaching.{Reachable, root, edge, Keeps}
-use Rattle.plain.specs.Replies.{left}
 use Rattle.simulation.proofs.Laid.{Laid, done, next, laid-unmarked}
 use Rattle.simulation.proofs.Traces.{Known, Led, nowhere, object, leads-agree, Ends, trace-follows}
 use Rattle.simulation.proofs.Agrees.{Represents}
 use Rattle.simulation.proofs.Acts.{empty-laid}
-use Rattle.simulation.proofs.Calls.{step-agrees}
 
 -- ---- members
 
@@ -205,12 +202,7 @@ module _ (base : ℕ) (h : Heap) (os : List Object) (laid : Laid (h .pool) (h .e
             let i : b .found ≡ o = cc in
             rw i at (b .reachable)
 
--- ---- after any calls
-
-pub left-represents : (ts : List Turn) {p : Plain} {h : Heap} → Represents p h → Represents (left ts p) (after ts h)
-unfolding left after
-left-represents [] r = r
-left-represents (t ∷ ts) r = left-represents ts (step-agrees (t .call) (t .stack) r .heap)
+-- ---- an empty heap
 
 -- some pool and table of n blocks
 abbrev pub blank : ℕ → Heap

@@ -1,5 +1,0 @@
-pub mod Requests
-pub mod Unseen
-pub mod AsList
-pub mod Sums
-pub mod Images

@@ -1,1 +1,0 @@
-// What follows from the definitions of the calls is proved here, once: see specs/ and proofs/. There is no code here.
