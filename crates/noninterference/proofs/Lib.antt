@@ -1,0 +1,5 @@
+pub mod Noninterference
+pub mod Conclusions
+pub mod Hypotheses
+pub mod Unseen
+pub mod Samples

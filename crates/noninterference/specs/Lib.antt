@@ -1,0 +1,3 @@
+pub mod Noninterference
+pub mod Unseen
+pub mod Samples
