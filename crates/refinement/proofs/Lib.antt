@@ -1,5 +1,7 @@
+pub mod Balance
+pub mod Changes
+pub mod Keeping
 pub mod Sums
-pub mod Refinement
-pub mod Consequences
-pub mod Samples
-pub mod Planes
+pub mod AsList
+pub mod ListUses
+pub mod ListSamples

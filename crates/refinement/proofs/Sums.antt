@@ -1,135 +1,155 @@
--- Used blocks are the sum of the answered changes: each call answers the change that it makes, a refused one none, and one that starts the sum anew the
--- blocks that are used after it.
+-- Used blocks are the sum of the answered changes: each call adds the change that it answers, each program of the log the sum of its calls' changes, and a service that is given another t nothing.
 -- Assumes nothing.
-use mathlib.Core.Path.{_≡_, refl, sym, ap, _∙_}
+use mathlib.Core.Path.{_≡_, refl, sym, ap, subst, _∙_}
 use mathlib.Core.Bool.{Bool, true, false}
 use mathlib.Core.List.{List, [], _∷_}
-use Prim.Native.Nat.{ℕ, zero, suc}
-use lib.IntN.{ℤ, pos, _+ℤ_, +ℤ-idr}
-use lib.ListN.{length, replicate}
+use Prim.Native.Nat.{ℕ, zero, suc, _*_}
+use native.Mathlib.Decide.{ℕ-discrete}
 use native.Mathlib.Omega.{arith}
-use borrow.Author.Tests.{ne-eqb}
-use Rattle.rules.specs.Tables.{used, isUsed}
-use Rattle.rules.specs.Entries.{FREE}
+use lib.Dec.{eqb}
+use lib.IntN.{ℤ, pos, _+ℤ_, +ℤ-idr, +ℤ-assoc}
+use lib.ListN.{length}
+use Rattle.rules.specs.Tests.{pick, both}
+use Rattle.rules.specs.Tables.{used}
 use Rattle.rules.specs.Forms.{Form}
+use Rattle.rules.specs.Outcomes.{Heap, Answer, Outcome, unlessRefused}
+use Rattle.rules.specs.Planes.{planes, entriesIn}
+use Rattle.rules.specs.Calls.{survey, load, store}
+use Rattle.rules.specs.Runs.{Call, startsAnew, step}
+use Rattle.rules.specs.Memory.{Memory, Result, heapIn, Sound, faultIn, AcceptedIn, perform}
+use Rattle.rules.specs.Lent.{Lent, lent}
 use Rattle.laws.specs.Faithful.{Faithful}
-use Rattle.rules.specs.Outcomes.{Heap, Answer, Outcome, onlyRefusal, changeFrom, unlessRefused}
-use Rattle.rules.specs.Calls.{Way, stay, shrink, grow, move, noWay, placing, allocate, free, along, reallocate, collecting, collect, survey, load, store, writeImage, openImage}
-use Rattle.rules.specs.Runs.{Call, Init, Allocate, Free, Reallocate, Collect, Survey, Load, Store, WriteImage, OpenImage, startsAnew, Turn, step}
-use Rattle.rules.specs.Memory.{Memory, Sound, heapIn, AcceptedIn, stackFor, perform, turnIn, afterIn}
-use Rattle.laws.proofs.Lists.{count-none}
-use Rattle.laws.proofs.Calls.{sub-add}
-use Rattle.laws.proofs.Refusals.{true-not-false, both-false, accepts}
-use Rattle.laws.proofs.Opening.{open-passes}
-use Rattle.laws.proofs.Memory.{Ended, accepted, refused, step-ended, Follows, follows-sound, kept-by, passes-in, follows-accepted}
-use Rattle.refinement.specs.Refines.{usedAtStart, counted, changes, UsedIsSum}
-use Rattle.simulation.proofs.Inits.{init-accepted, Anew, inits, opened, anew}
+use Rattle.laws.proofs.Memory.{follows-sound, follows-accepted, sound-next}
+use Rattle.laws.proofs.Lent.{no-fault}
+use Rattle.laws.proofs.Planes.{planes-faithful}
+use Rattle.laws.proofs.Refusals.{both-false}
+use Rattle.keeping.specs.Keeping.{butRescans}
+use Rattle.promises.proofs.Bytes.{on-bytes, pool-of}
+use Rattle.promises.proofs.OtherT.{pool-kept}
+use Rattle.programs.specs.Programs.{Program, stackAfter, run}
+use Rattle.logs.specs.Log.{Reply}
+use Rattle.services.specs.Services.{toldOtherT, Service, HeapCall, Append, Read, Drop, Response, refusalOf, Asked, asked, servedTo, lentAfter, lentAfterBy}
+use Rattle.refinement.specs.AsList.{countedIn, sumOf, from}
+use Rattle.refinement.proofs.Changes.{counted, Sums, follows-sums, anew-sums}
+use Rattle.services.proofs.Laws.{act-sound, Acted, act, serve-is, act-other-t, act-pool-kept}
+use Rattle.refinement.proofs.Balance.{Quiet, survey as surveys, load as loads, store as stores, quiet-old, Balanced, gives, looks, asks, append-balanced, read-balanced, drop-balanced}
 
 -- ---- one call
 
--- the sum d is the used blocks
-abbrev Sums : Heap → ℤ → Type 0
-Sums h d = d ≡ pos (used (h .entries))
-
--- an outcome answers the change that it makes
-record Accounted (h : Heap) (o : Outcome) : Type 0 where
-  sums : (d : ℤ) → Sums h d → Sums (o .heap) (d +ℤ o .answer .change)
-
-accounted-same : (h : Heap) (o : Outcome) → o .heap .entries ≡ h .entries → o .answer .change ≡ pos 0 → Accounted h o
-accounted-same h o e c = record { sums = λ d s. rw (c, e) (+ℤ-idr d ∙ s) }
-
-accounted-change : (h : Heap) (o : Outcome) → o .answer .change ≡ changeFrom (h .entries) (o .heap .entries) → Accounted h o
-unfolding changeFrom
-accounted-change h o c = record { sums = λ d s. rw (c, s) (sub-add (used (o .heap .entries)) (used (h .entries))) }
-
-accounted-refused : (r : ℕ) (h : Heap) (stack : List ℕ) (acted : Outcome) → Accounted h acted → Accounted h (unlessRefused r h stack acted)
+-- a call that changes no entry answers no change
+unless-none : (n : ℕ) (h : Heap) (stack : List ℕ) (acted : Outcome) → acted .answer .change ≡ pos 0 → unlessRefused n h stack acted .answer .change ≡ pos 0
 unfolding unlessRefused
-accounted-refused zero h stack acted p = p
-accounted-refused (suc r) h stack acted p = accounted-same h (unlessRefused (suc r) h stack acted) refl refl
+unless-none zero h stack acted e = e
+unless-none (suc r) h stack acted e = refl
 
-accounted-along : (w : Way) (h : Heap) (k b c : ℕ) → Accounted h (along w h k b c)
-unfolding along placing
-accounted-along stay h k b c = accounted-change h (along stay h k b c) refl
-accounted-along shrink h k b c = accounted-change h (along shrink h k b c) refl
-accounted-along grow h k b c = accounted-change h (along grow h k b c) refl
-accounted-along (move s) h k b c = accounted-change h (along (move s) h k b c) refl
-accounted-along noWay h k b c = accounted-same h (along noWay h k b c) refl refl
+quiet-none : {c : Call} → Quiet c → (stack : List ℕ) (h : Heap) → step c stack h .answer .change ≡ pos 0
+unfolding step survey load store
+quiet-none (surveys base) stack h = unless-none _ h [] _ refl
+quiet-none (loads base k i) stack h = unless-none _ h [] _ refl
+quiet-none (stores base k i w) stack h = unless-none _ h [] _ refl
 
-none-used : (n : ℕ) → used (replicate n FREE) ≡ 0
-unfolding used
-none-used n = count-none isUsed n FREE refl
+-- one that does not start anew adds its change
+counted-old : (c : Call) (a : Answer) (d : ℤ) → startsAnew c ≡ false → counted c a d ≡ d +ℤ a .change
+unfolding countedIn
+counted-old c a d e = rw e
 
--- a call that does not start the sum anew answers the change that it makes
-step-accounted : (c : Call) (stack : List ℕ) (h : Heap) → startsAnew c ≡ false → Accounted h (step c stack h)
-unfolding step allocate free reallocate collect survey load store writeImage placing collecting
-step-accounted (Init base) stack h e = absurd (true-not-false refl e)
-step-accounted (Allocate base bytes) stack h e = accounted-refused _ h [] _ (accounted-change h _ refl)
-step-accounted (Free base k) stack h e = accounted-refused _ h [] _ (accounted-change h _ refl)
-step-accounted (Reallocate base k bytes) stack h e = accounted-refused _ h [] _ (accounted-along _ h k _ _)
-step-accounted (Collect base roots) stack h e = accounted-refused _ h stack _ (accounted-change h _ refl)
-step-accounted (Survey base) stack h e = accounted-refused _ h [] _ (accounted-same h _ refl refl)
-step-accounted (Load base k i) stack h e = accounted-refused _ h [] _ (accounted-same h _ refl refl)
-step-accounted (Store base k i w) stack h e = accounted-refused _ h [] _ (accounted-same h _ refl refl)
-step-accounted (WriteImage base roots room) stack h e = accounted-refused _ h [] _ (accounted-same h _ refl refl)
-step-accounted (OpenImage image room) stack h e = absurd (true-not-false refl e)
-
--- after an accepted call that starts it anew no block is used, or those of the file
-step-anew : {c : Call} (stack : List ℕ) (h : Heap) → Anew h c → usedAtStart c ≡ used (step c stack h .heap .entries)
-unfolding step openImage
-step-anew stack h (inits base good) = rw (init-accepted base h good) (sym (none-used (length (h .entries))))
-step-anew stack h (opened image room o) = rw (accepts h [] _ (open-passes h image room o))
-
--- the three ways to count an answer: a refused one, one that adds its change, one that starts anew
-module _ (c : Call) (d : ℤ) where
-  counted-refused : (r : ℕ) → counted c (onlyRefusal (suc r)) d ≡ d
-  unfolding counted
-  counted-refused r = rw (ne-eqb (suc r) 0 (λ e. omega arith), both-false _) (+ℤ-idr d)
-
-  counted-change : (a : Answer) → startsAnew c ≡ false → counted c a d ≡ d +ℤ a .change
-  unfolding counted
-  counted-change a e = rw e
-
-  counted-anew : (a : Answer) → startsAnew c ≡ true → a .refusal ≡ 0 → counted c a d ≡ pos (usedAtStart c)
-  unfolding counted
-  counted-anew a e z = rw (e, z)
-
--- each call
-step-sums : (c : Call) (stack : List ℕ) (h : Heap) (d : ℤ) → Sums h d → Sums (step c stack h .heap) (counted c (step c stack h .answer) d)
-step-sums c stack h d s = go (startsAnew c) refl (step-ended c stack h)
-  where
-    go : (b : Bool) → startsAnew c ≡ b → Ended h (stackFor c stack) (step c stack h) → Sums (step c stack h .heap) (counted c (step c stack h .answer) d)
-    go false e x = counted-change c d (step c stack h .answer) e ∙ step-accounted c stack h e .sums d s
-    go true e (accepted z) = counted-anew c d (step c stack h .answer) e z ∙ ap pos (step-anew stack h (anew c stack h e z))
-    go true e (refused r q) = rw q (counted-refused c d r ∙ s)
-
--- ---- calls in a row on lent memory
+-- ---- a call of the log
 
 module _ (f : Form) (faithful : Faithful f) where
-  -- a call that does what the call on the heap does answers its change too
-  follows-sums : (c : Call) (stack : List ℕ) (m : Memory) (d : ℤ) → Follows f (perform f c stack m) (step c stack (heapIn f m)) → Sums (heapIn f m) d
-      → Sums (heapIn f (perform f c stack m .memory)) (counted c (perform f c stack m .answer) d)
-  follows-sums c stack m d x s = rw (ap (λ (h : Heap). h .entries) (x .heap), x .answer) (step-sums c stack (heapIn f m) d s)
+  -- the sum of what its calls answered, and of e before them
+  run-sums : {e : ℤ} {q : Program Reply} → Balanced e q → (stack : List ℕ) (m : Memory) (d : ℤ) → Sound f m → Sums (heapIn f m) (d +ℤ e)
+      → Sums (heapIn f (run f q stack m .memory)) (d +ℤ run f q stack m .reply .change)
+  unfolding run
+  run-sums (gives y same) stack m d sound s = subst (λ (x : ℤ). Sums (heapIn f m) (d +ℤ x)) (sym same) s
+  run-sums {e = e} (looks {c = c} quiet then) stack m d sound s =
+      let r : Result = perform f c stack m in
+      let x = follows-sound f faithful c stack m sound in
+      let none : r .answer .change ≡ pos 0 = ap (λ (a : Answer). a .change) (x .answer) ∙ quiet-none quiet stack (heapIn f m) in
+      let same : counted c (r .answer) (d +ℤ e) ≡ d +ℤ e = counted-old c (r .answer) (d +ℤ e) (quiet-old quiet) ∙ ap (λ (z : ℤ). d +ℤ e +ℤ z) none ∙ +ℤ-idr (d +ℤ e) in
+      run-sums (then (butRescans (r .answer))) (stackAfter c r stack) (r .memory) d (sound-next f faithful c stack m sound)
+      (subst (Sums (heapIn f (r .memory))) same (follows-sums f faithful c stack m (d +ℤ e) x s))
+  run-sums {e = e} (asks {c = c} old then) stack m d sound s =
+      let r : Result = perform f c stack m in
+      let x = follows-sound f faithful c stack m sound in
+      run-sums (then (butRescans (r .answer)) (λ refused. ap (λ (y : Result). y .answer .change) (on-bytes .refused-bytes f c stack m refused))) (stackAfter c r stack) (r .memory) d
+      (sound-next f faithful c stack m sound)
+      (subst (Sums (heapIn f (r .memory))) (counted-old c (r .answer) (d +ℤ e) old ∙ +ℤ-assoc d e (r .answer .change)) (follows-sums f faithful c stack m (d +ℤ e) x s))
 
-  -- an accepted call that starts the sum anew, whatever was counted before
-  anew-sums : (c : Call) (stack : List ℕ) (m : Memory) (d : ℤ) → startsAnew c ≡ true → AcceptedIn (perform f c stack m)
-      → Sums (heapIn f (perform f c stack m .memory)) (counted c (perform f c stack m .answer) d)
-  anew-sums c stack m d e z =
-      let x = follows-accepted f faithful c stack m z in
-      let own = passes-in f c stack m z .own in
-      rw (ap (λ (h : Heap). h .entries) (x .heap), x .answer) (counted-anew c d (step c stack (heapIn f m) .answer) e own ∙ ap pos (step-anew stack (heapIn f m) (anew c stack (heapIn f m) e own)))
+-- ---- services
 
-  all-sums : (ts : List Turn) (m : Memory) (d : ℤ) → Sound f m → Sums (heapIn f m) d → changes f ts m d ≡ pos (used (f .read (afterIn f ts m .table)))
-  unfolding changes afterIn
-  all-sums [] m d sound s = s
-  all-sums (t ∷ ts) m d sound s =
-      let x = follows-sound f faithful (t .call) (t .stack) m sound in
-      all-sums ts (turnIn f t m .memory) (counted (t .call) (turnIn f t m .answer) d) (kept-by (Sound f) f (t .call) (t .stack) m (x .sound) sound)
-      (follows-sums (t .call) (t .stack) m d x s)
+-- the sum d is the blocks that are used in the heap of 4t blocks, whose pool has 64t bytes
+pub record SumsAt (t : ℕ) (l : Lent) (d : ℤ) : Type 0 where
+  pub sound : Sound (planes t) (l .memory)
+  pub long : length (l .memory .pool) ≡ 64 * t
+  pub sums : Sums (heapIn (planes t) (l .memory)) d
 
--- from an accepted init or opening on
-pub used-is-sum : UsedIsSum
-unfolding UsedIsSum changes afterIn
-used-is-sum f faithful c m ts d starts z =
-    let r = perform f c [] m in
-    let x = follows-accepted f faithful c [] m z in
-    all-sums f faithful ts (r .memory) (counted c (r .answer) d) (x .sound z) (anew-sums f faithful c [] m d starts z)
+module _ (f : Form) (faithful : Faithful f) where
+  -- what a service answers is counted
+  abbrev Counts : Service → Acted → ℤ → Type 0
+  Counts s x d = Sums (heapIn f (x .memory)) (countedIn s (x .reply) d)
+
+  log-counts : {q : Program Reply} → Balanced (pos 0) q → (stack : List ℕ) (m : Memory) (d : ℤ) → Sound f m → Sums (heapIn f m) d
+      → Sums (heapIn f (run f q stack m .memory)) (d +ℤ run f q stack m .reply .change)
+  log-counts balanced stack m d sound s = run-sums f faithful balanced stack m d sound (subst (Sums (heapIn f m)) (sym (+ℤ-idr d)) s)
+
+  act-counts : (s : Service) (stack : List ℕ) (m : Memory) (d : ℤ) → Sound f m → Sums (heapIn f m) d → Counts s (act f s stack m) d
+  unfolding act countedIn
+  act-counts (HeapCall c) stack m d sound x = follows-sums f faithful c stack m d (follows-sound f faithful c stack m sound) x
+  act-counts (Append base first time tips roots) stack m d sound x = log-counts (append-balanced base first time tips roots stack) stack m d sound x
+  act-counts (Read base first index) stack m d sound x = log-counts (read-balanced base first index) stack m d sound x
+  act-counts (Drop base first) stack m d sound x = log-counts (drop-balanced base first) stack m d sound x
+
+-- a service that is given another t adds nothing
+other-counts : (s : Service) (d : ℤ) → countedIn s (toldOtherT s) d ≡ d
+unfolding countedIn
+other-counts (HeapCall c) d = rw (not-accepted (eqb (faultIn c) 0) refl, both-false (startsAnew c)) (+ℤ-idr d)
+  where
+    not-accepted : (b : Bool) → eqb (faultIn c) 0 ≡ b → eqb (pick b 1 (faultIn c)) 0 ≡ false
+    not-accepted true e = refl
+    not-accepted false e = e
+other-counts (Append base first time tips roots) d = +ℤ-idr d
+other-counts (Read base first index) d = +ℤ-idr d
+other-counts (Drop base first) d = +ℤ-idr d
+
+served-sums : (t : ℕ) (x : Asked) (l : Lent) (d : ℤ) → SumsAt t l d → SumsAt t (servedTo x l .lent) (countedIn (x .service) (servedTo x l .reply) d)
+served-sums t x l d y = rw (serve-is (planes (x .t)) (x .service) (x .stack) l) (go (ℕ-discrete (x .t) t))
+  where
+    go : Dec (x .t ≡ t)
+        → let z : Acted = act (planes (x .t)) (x .service) (x .stack) (l .memory) in
+        SumsAt t (lent (z .memory) (l .beside)) (countedIn (x .service) (z .reply) d)
+    go (yes e) =
+        rw e
+        (record {
+          sound = act-sound (planes t) (planes-faithful t) (x .service) (x .stack) (l .memory) (y .sound);
+          long = act-pool-kept (planes t) (x .service) (x .stack) (l .memory) (64 * t) (y .long);
+          sums = act-counts (planes t) (planes-faithful t) (x .service) (x .stack) (l .memory) d (y .sound) (y .sums);
+        })
+    go (no other) =
+        let z = act-other-t t (x .t) (x .stack) (l .memory) (y .long) other (x .service) in
+        rw (z .memory, z .reply, other-counts (x .service) d) (record { sound = y .sound; long = y .long; sums = y .sums })
+
+all-sums : (t : ℕ) (xs : List Asked) (l : Lent) (d : ℤ) → SumsAt t l d → sumOf xs l d ≡ pos (used (entriesIn t (lentAfter xs l .memory .table)))
+unfolding sumOf lentAfterBy
+all-sums t [] l d y = y .sums
+all-sums t (x ∷ xs) l d y = all-sums t xs (servedTo x l .lent) (countedIn (x .service) (servedTo x l .reply) d) (served-sums t x l d y)
+
+-- from an accepted init or opening on, whatever was counted before
+pub used-is-sum : (t : ℕ) (c : Call) (l : Lent) (xs : List Asked) (d : ℤ) → startsAnew c ≡ true → refusalOf (servedTo (asked t (HeapCall c) []) l .reply) ≡ 0
+    → sumOf (from t c xs) l d ≡ pos (used (entriesIn t (lentAfter (from t c xs) l .memory .table)))
+unfolding sumOf lentAfterBy act countedIn
+used-is-sum t c l xs d starts z = all-sums t xs (servedTo first l .lent) (countedIn (HeapCall c) (servedTo first l .reply) d) begun
+  where
+    first : Asked
+    first = asked t (HeapCall c) []
+
+    accepted : AcceptedIn (perform (planes t) c [] (l .memory))
+    accepted = rw (serve-is (planes t) (HeapCall c) [] l) at z
+
+    begun : SumsAt t (servedTo first l .lent) (countedIn (HeapCall c) (servedTo first l .reply) d)
+    begun =
+        rw (serve-is (planes t) (HeapCall c) [] l)
+        (record {
+          sound = follows-accepted (planes t) (planes-faithful t) c [] (l .memory) accepted .sound accepted;
+          long = pool-kept (planes t) c [] (l .memory) (64 * t) (pool-of t c [] (l .memory) (no-fault (planes t) c [] (l .memory) accepted) (λ e. omega (arith, e, accepted)));
+          sums = anew-sums (planes t) (planes-faithful t) c [] (l .memory) d starts accepted;
+        })

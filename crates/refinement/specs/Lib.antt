@@ -1,2 +1,2 @@
-pub mod Refines
-pub mod Memories
+pub mod AsList
+pub mod ListSamples

@@ -1,1 +1,1 @@
-// That the heap is a plain list of objects to its callers is a theorem about the rules: see specs/ and proofs/. There is no code here.
+// What follows from the definitions of the calls is proved here, once: see specs/ and proofs/. There is no code here.
