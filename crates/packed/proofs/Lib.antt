@@ -1,0 +1,2 @@
+pub mod AsPacked
+pub mod PackedUses
