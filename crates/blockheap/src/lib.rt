@@ -5,18 +5,17 @@ ghost use mathlib.Core.List.{[]};
 ghost use lib.ListN.{length as lengthOf};
 ghost use Rattle.rules.specs.Outcomes.{onlyRefusal, placement, collection, findings, reading, writing, opening};
 ghost use Rattle.rules.specs.Runs.{Init, Allocate, Free, Reallocate, Collect, Survey, Load, Store, WriteImage, OpenImage};
-ghost use Rattle.rules.specs.Planes.{planes};
-ghost use Rattle.rules.specs.Memory.{memory, result, filling, withBuffer, perform};
-ghost use Rattle.programs.specs.Programs.{ran, run};
-ghost use Rattle.logs.specs.Log.{logged, readout, append, read, drop};
+ghost use Rattle.rules.specs.Lent.{lending, served, intoBuffer};
+ghost use Rattle.logs.specs.Log.{logged, readout};
+ghost use Rattle.services.specs.Services.{HeapCall, Append, Read, Drop, answered, replied, serve};
 use numbers::Address;
 use numbers::Block;
 use numbers::Bytes;
 
 #[no_mangle]
 pub extern "C" fn blockheap_init(base: u64, t: u64, pool: &[u8], table: &mut [u8]) -> u32
-    ensures { λ r. ⌜ result (onlyRefusal r) (memory (now (pool .entry)) (now (table .exit))) []
-        ≡ perform (planes t) (Init base) [] (memory (now (pool .entry)) (now (table .entry))) ⌝ }
+    ensures { λ r. ⌜ served (answered (onlyRefusal r)) (lending (now (pool .entry)) (now (table .exit))) [] []
+        ≡ serve t (HeapCall (Init base)) [] (lending (now (pool .entry)) (now (table .entry))) ⌝ }
 {
     heap::init(Address::of_number(base), numbers::clamped(t), pool, table)
 }
@@ -31,8 +30,8 @@ pub extern "C" fn blockheap_allocate(
     block: &mut u32,
     change: &mut i32,
 ) -> u32
-    ensures { λ r. ⌜ result (placement r (now (block .exit)) (now (change .exit))) (memory (now (pool .exit)) (now (table .exit))) []
-        ≡ perform (planes t) (Allocate base bytes) [] (memory (now (pool .entry)) (now (table .entry))) ⌝ }
+    ensures { λ r. ⌜ served (answered (placement r (now (block .exit)) (now (change .exit)))) (lending (now (pool .exit)) (now (table .exit))) [] []
+        ≡ serve t (HeapCall (Allocate base bytes)) [] (lending (now (pool .entry)) (now (table .entry))) ⌝ }
 {
     let p = allocator::allocate(
         Address::of_number(base),
@@ -56,8 +55,8 @@ pub extern "C" fn blockheap_free(
     block: u64,
     change: &mut i32,
 ) -> u32
-    ensures { λ r. ⌜ result (placement r 0 (now (change .exit))) (memory (now (pool .entry)) (now (table .exit))) []
-        ≡ perform (planes t) (Free base block) [] (memory (now (pool .entry)) (now (table .entry))) ⌝ }
+    ensures { λ r. ⌜ served (answered (placement r 0 (now (change .exit)))) (lending (now (pool .entry)) (now (table .exit))) [] []
+        ≡ serve t (HeapCall (Free base block)) [] (lending (now (pool .entry)) (now (table .entry))) ⌝ }
 {
     let f = allocator::free(
         Address::of_number(base),
@@ -82,8 +81,8 @@ pub extern "C" fn blockheap_reallocate(
     new_block: &mut u32,
     change: &mut i32,
 ) -> u32
-    ensures { λ r. ⌜ result (placement r (now («new_block» .exit)) (now (change .exit))) (memory (now (pool .exit)) (now (table .exit))) []
-        ≡ perform (planes t) (Reallocate base block bytes) [] (memory (now (pool .entry)) (now (table .entry))) ⌝ }
+    ensures { λ r. ⌜ served (answered (placement r (now («new_block» .exit)) (now (change .exit)))) (lending (now (pool .exit)) (now (table .exit))) [] []
+        ≡ serve t (HeapCall (Reallocate base block bytes)) [] (lending (now (pool .entry)) (now (table .entry))) ⌝ }
 {
     let p = allocator::reallocate(
         Address::of_number(base),
@@ -111,8 +110,8 @@ pub extern "C" fn blockheap_collect(
     rescans: &mut u32,
     change: &mut i32,
 ) -> u32
-    ensures { λ r. ⌜ result (collection r (now (kept .exit)) (now (rescans .exit)) (now (change .exit))) (memory (now (pool .entry)) (now (table .exit))) (now (stack .exit))
-        ≡ perform (planes t) (Collect base (now (roots .entry))) (now (stack .entry)) (memory (now (pool .entry)) (now (table .entry))) ⌝ }
+    ensures { λ r. ⌜ served (answered (collection r (now (kept .exit)) (now (rescans .exit)) (now (change .exit)))) (lending (now (pool .entry)) (now (table .exit))) (now (stack .exit)) []
+        ≡ serve t (HeapCall (Collect base (now (roots .entry)))) (now (stack .entry)) (lending (now (pool .entry)) (now (table .entry))) ⌝ }
 {
     let c = collector::collect(
         Address::of_number(base),
@@ -139,8 +138,8 @@ pub extern "C" fn blockheap_survey(
     objects: &mut u32,
     longest: &mut u32,
 ) -> u32
-    ensures { λ r. ⌜ result (findings r (now (used .exit)) (now (objects .exit)) (now (longest .exit))) (memory (now (pool .entry)) (now (table .entry))) []
-        ≡ perform (planes t) (Survey base) [] (memory (now (pool .entry)) (now (table .entry))) ⌝ }
+    ensures { λ r. ⌜ served (answered (findings r (now (used .exit)) (now (objects .exit)) (now (longest .exit)))) (lending (now (pool .entry)) (now (table .entry))) [] []
+        ≡ serve t (HeapCall (Survey base)) [] (lending (now (pool .entry)) (now (table .entry))) ⌝ }
 {
     let s = heap::survey(Address::of_number(base), numbers::clamped(t), pool, table);
     *used = s.used;
@@ -159,8 +158,8 @@ pub extern "C" fn blockheap_load(
     word: u64,
     value: &mut u32,
 ) -> u32
-    ensures { λ r. ⌜ result (reading r (now (value .exit))) (memory (now (pool .entry)) (now (table .entry))) []
-        ≡ perform (planes t) (Load base block word) [] (memory (now (pool .entry)) (now (table .entry))) ⌝ }
+    ensures { λ r. ⌜ served (answered (reading r (now (value .exit)))) (lending (now (pool .entry)) (now (table .entry))) [] []
+        ≡ serve t (HeapCall (Load base block word)) [] (lending (now (pool .entry)) (now (table .entry))) ⌝ }
 {
     let l = heap::load(
         Address::of_number(base),
@@ -184,8 +183,8 @@ pub extern "C" fn blockheap_store(
     word: u64,
     value: u32,
 ) -> u32
-    ensures { λ r. ⌜ result (onlyRefusal r) (memory (now (pool .exit)) (now (table .entry))) []
-        ≡ perform (planes t) (Store base block word value) [] (memory (now (pool .entry)) (now (table .entry))) ⌝ }
+    ensures { λ r. ⌜ served (answered (onlyRefusal r)) (lending (now (pool .exit)) (now (table .entry))) [] []
+        ≡ serve t (HeapCall (Store base block word value)) [] (lending (now (pool .entry)) (now (table .entry))) ⌝ }
 {
     heap::store(
         Address::of_number(base),
@@ -208,9 +207,8 @@ pub extern "C" fn blockheap_write_image(
     image: &mut [u8],
     length: &mut u32,
 ) -> u32
-    ensures { λ r. ⌜ filling (writing r (now (length .exit))) (memory (now (pool .entry)) (now (table .entry))) (now (image .exit))
-        ≡ withBuffer (now (image .entry))
-        (perform (planes t) (WriteImage base (now (roots .entry)) (lengthOf (now (image .entry)))) [] (memory (now (pool .entry)) (now (table .entry)))) ⌝ }
+    ensures { λ r. ⌜ served (answered (writing r (now (length .exit)))) (lending (now (pool .entry)) (now (table .entry))) [] (now (image .exit))
+        ≡ intoBuffer (now (image .entry)) (serve t (HeapCall (WriteImage base (now (roots .entry)) (lengthOf (now (image .entry))))) [] (lending (now (pool .entry)) (now (table .entry)))) ⌝ }
 {
     let w = image::write(
         Address::of_number(base),
@@ -234,9 +232,8 @@ pub extern "C" fn blockheap_open_image(
     base: &mut u32,
     count: &mut u32,
 ) -> u32
-    ensures { λ r. ⌜ filling (opening r (now (base .exit)) (now (count .exit))) (memory (now (pool .exit)) (now (table .exit))) (now (roots .exit))
-        ≡ withBuffer (now (roots .entry))
-        (perform (planes t) (OpenImage (now (image .entry)) (lengthOf (now (roots .entry)))) [] (memory (now (pool .entry)) (now (table .entry)))) ⌝ }
+    ensures { λ r. ⌜ served (answered (opening r (now (base .exit)) (now (count .exit)))) (lending (now (pool .exit)) (now (table .exit))) [] (now (roots .exit))
+        ≡ intoBuffer (now (roots .entry)) (serve t (HeapCall (OpenImage (now (image .entry)) (lengthOf (now (roots .entry))))) [] (lending (now (pool .entry)) (now (table .entry)))) ⌝ }
 {
     let o = opener::open_image(image, numbers::clamped(t), pool, table, roots);
     *base = o.base;
@@ -258,8 +255,8 @@ pub extern "C" fn blockheap_log_append(
     new_first: &mut u32,
     change: &mut i32,
 ) -> u32
-    ensures { λ r. ⌜ ran (logged r (now («new_first» .exit)) (now (change .exit))) (memory (now (pool .exit)) (now (table .exit))) (now (stack .exit))
-        ≡ run (planes t) (append base first time tips (now (roots .entry)) (now (stack .entry))) (now (stack .entry)) (memory (now (pool .entry)) (now (table .entry))) ⌝ }
+    ensures { λ r. ⌜ served (replied (logged r (now («new_first» .exit)) (now (change .exit)))) (lending (now (pool .exit)) (now (table .exit))) (now (stack .exit)) []
+        ≡ serve t (Append base first time tips (now (roots .entry))) (now (stack .entry)) (lending (now (pool .entry)) (now (table .entry))) ⌝ }
 {
     let l = rainlog::append(
         Address::of_number(base),
@@ -289,8 +286,8 @@ pub extern "C" fn blockheap_log_read(
     time: &mut u32,
     tips: &mut u32,
 ) -> u32
-    ensures { λ r. ⌜ ran (readout r (now (time .exit)) (now (tips .exit))) (memory (now (pool .entry)) (now (table .entry))) []
-        ≡ run (planes t) (read base first index) [] (memory (now (pool .entry)) (now (table .entry))) ⌝ }
+    ensures { λ r. ⌜ served (replied (readout r (now (time .exit)) (now (tips .exit)))) (lending (now (pool .entry)) (now (table .entry))) [] []
+        ≡ serve t (Read base first index) [] (lending (now (pool .entry)) (now (table .entry))) ⌝ }
 {
     let e = rainlog::read(
         Address::of_number(base),
@@ -315,8 +312,8 @@ pub extern "C" fn blockheap_log_drop(
     new_first: &mut u32,
     change: &mut i32,
 ) -> u32
-    ensures { λ r. ⌜ ran (logged r (now («new_first» .exit)) (now (change .exit))) (memory (now (pool .entry)) (now (table .exit))) []
-        ≡ run (planes t) (drop base first) [] (memory (now (pool .entry)) (now (table .entry))) ⌝ }
+    ensures { λ r. ⌜ served (replied (logged r (now («new_first» .exit)) (now (change .exit)))) (lending (now (pool .entry)) (now (table .exit))) [] []
+        ≡ serve t (Drop base first) [] (lending (now (pool .entry)) (now (table .entry))) ⌝ }
 {
     let l = rainlog::drop(
         Address::of_number(base),

@@ -7,28 +7,22 @@ use Rattle.rules.specs.PlaneExamples.{plane-examples-hold, plane-examples-numbe
 use Rattle.rules.specs.ImageExamples.{image-examples-hold, image-examples-number}
 use Rattle.rules.specs.FileExamples.{file-examples-hold, file-examples-number, prefixes-cut-short}
 use Rattle.keeping.proofs.Collections.{keeps-exactly, any-stack}
-use Rattle.promises.proofs.Bytes.{on-bytes, as-packed}
+use Rattle.promises.proofs.Bytes.{on-bytes}
 use Rattle.promises.proofs.Images.{image-says-all}
 use Rattle.promises.proofs.RoundTrips.{write-then-open, open-then-write, opens-exactly, one-file}
 use Rattle.promises.proofs.Promised.{promises}
 use Rattle.promises.proofs.Determined.{determined}
 use Rattle.promises.proofs.Whole.{whole}
 use Rattle.promises.proofs.Alignment.{new-objects-aligned, aligned-from-start}
-use Rattle.promises.proofs.OtherT.{other-t-is-refused}
 use Rattle.algebra.proofs.Algebra.{frees-commute, roots-are-a-set, roots-join, collect-idempotent}
-use Rattle.runs.proofs.Noninterference.{noninterference}
-use Rattle.refinement.proofs.Refinement.{answers-as-list, images-as-list, list-keeps-reachable}
-use Rattle.refinement.proofs.Sums.{used-is-sum}
-use Rattle.programs.proofs.Unseen.{programs-unseen}
-use Rattle.programs.proofs.AsList.{programs-as-list}
 use Rattle.logs.proofs.Examples.{accepted-hold, refused-hold, examples-number as log-number}
-use Rattle.loglaws.proofs.Promised.{log-promises, log-reads-as-before}
-use Rattle.loglaws.proofs.Lasting.{log-lasts}
+use Rattle.loglaws.proofs.Promised.{log-promises}
 use Rattle.loglaws.proofs.Cycle.{log-is-list}
-use Rattle.requests.proofs.Unseen.{requests-unseen}
-use Rattle.requests.proofs.AsList.{requests-as-list}
-use Rattle.requests.proofs.Images.{calls-after-requests}
-use Rattle.requests.proofs.Sums.{requests-sum}
+use Rattle.services.proofs.Entries.{on-memory}
+use Rattle.noninterference.proofs.Noninterference.{noninterference}
+use Rattle.refinement.proofs.AsList.{as-list}
+use Rattle.packed.proofs.AsPacked.{as-packed}
+use Rattle.lasting.proofs.Reading.{log-lasts}
 use Rattle.guarantees.specs.Guarantees.{Guarantees}
 use Rattle.guarantees.proofs.EntryPoints.{entry-points}
 
@@ -54,9 +48,9 @@ guarantees = record {
   log-examples-refused = refused-hold;
   log-examples-number = log-number;
   entry-points = entry-points;
+  on-memory = on-memory;
   on-bytes = on-bytes;
   as-packed = as-packed;
-  other-t-is-refused = other-t-is-refused;
   promises = promises;
   determined = determined;
   whole = whole;
@@ -74,18 +68,8 @@ guarantees = record {
   roots-join = roots-join;
   collect-idempotent = collect-idempotent;
   noninterference = noninterference;
-  answers-as-list = answers-as-list;
-  images-as-list = images-as-list;
-  list-keeps-reachable = list-keeps-reachable;
-  used-is-sum = used-is-sum;
-  programs-unseen = programs-unseen;
-  programs-as-list = programs-as-list;
+  as-list = as-list;
   log-promises = log-promises;
   log-lasts = log-lasts;
-  log-reads-as-before = log-reads-as-before;
   log-is-list = log-is-list;
-  requests-unseen = requests-unseen;
-  requests-as-list = requests-as-list;
-  calls-after-requests = calls-after-requests;
-  requests-sum = requests-sum;
 }

@@ -1,4 +1,4 @@
--- What is proved of the code that C calls: each entry point meets its contract, and asks nothing of its caller; and its contract says the equation with the call of the rules, or with the program of the log, that stands here, for every input.
+-- What is proved of the code that C calls: each entry point meets its contract, and asks nothing of its caller; and its contract says the equation with the service that stands here, for every input.
 -- The contracts themselves stand in crates/blockheap/src/lib.rt: with one that says less, or more, this page is not proved.
 -- Assumes nothing.
 use mathlib.Core.Path.{_≡_}
@@ -24,10 +24,9 @@ use denote.Triple.Entry.{Args, Res}
 use denote.Triple.Spec.{Spec, exits}
 use Rattle.rules.specs.Outcomes.{onlyRefusal, placement, collection, findings, reading, writing, opening}
 use Rattle.rules.specs.Runs.{Init, Allocate, Free, Reallocate, Collect, Survey, Load, Store, WriteImage, OpenImage}
-use Rattle.rules.specs.Planes.{planes}
-use Rattle.rules.specs.Memory.{memory, result, filling, withBuffer, perform}
-use Rattle.programs.specs.Programs.{ran, run}
-use Rattle.logs.specs.Log.{logged, readout, append, read, drop}
+use Rattle.rules.specs.Lent.{lending, served, intoBuffer}
+use Rattle.logs.specs.Log.{logged, readout}
+use Rattle.services.specs.Services.{HeapCall, Append, Read, Drop, answered, replied, serve}
 use Rattle.blockheap.proofs.blockheap_init as init
 use Rattle.blockheap.proofs.blockheap_init.Statement as init-statement
 use Rattle.blockheap.proofs.blockheap_allocate as allocate
@@ -83,72 +82,69 @@ Says T c said =
     → c M 𝓤 H A mem run κs a .ensures g r ≡ exits 𝓤 H A (T .signature) (T .kept) κs a (λ e. fact 𝓤 (at-each κs (T .signature .params) (T .kept) (said κs) a e r))
 
 pub record EntryPoints : Type 2 where
-  -- of each function: it meets its contract; the contract asks nothing; and it says that the answer and the lent memory at exit are those of the rules' call
+  -- of each function: it meets its contract; the contract asks nothing; and it says that what is answered and all that was lent at exit are those of the service
   pub init-meets : {M : Type 1} → init-statement.statement M
   pub init-asks-nothing : AsksNothing init.signature (λ M. init.spec {M = M})
   pub init-says : Says init.ended (λ M. init.spec {M = M}) (λ κs base t pool table r.
-      result (onlyRefusal r) (memory (now (pool .entry)) (now (table .exit))) []
-      ≡ perform (planes (t .entry)) (Init (base .entry)) [] (memory (now (pool .entry)) (now (table .entry))))
+      served (answered (onlyRefusal r)) (lending (now (pool .entry)) (now (table .exit))) [] []
+      ≡ serve (t .entry) (HeapCall (Init (base .entry))) [] (lending (now (pool .entry)) (now (table .entry))))
   pub allocate-meets : {M : Type 1} → allocate-statement.statement M
   pub allocate-asks-nothing : AsksNothing allocate.signature (λ M. allocate.spec {M = M})
   pub allocate-says : Says allocate.ended (λ M. allocate.spec {M = M}) (λ κs base t pool table bytes block change r.
-      result (placement r (now (block .exit)) (now (change .exit))) (memory (now (pool .exit)) (now (table .exit))) []
-      ≡ perform (planes (t .entry)) (Allocate (base .entry) (bytes .entry)) [] (memory (now (pool .entry)) (now (table .entry))))
+      served (answered (placement r (now (block .exit)) (now (change .exit)))) (lending (now (pool .exit)) (now (table .exit))) [] []
+      ≡ serve (t .entry) (HeapCall (Allocate (base .entry) (bytes .entry))) [] (lending (now (pool .entry)) (now (table .entry))))
   pub free-meets : {M : Type 1} → free-statement.statement M
   pub free-asks-nothing : AsksNothing free.signature (λ M. free.spec {M = M})
   pub free-says : Says free.ended (λ M. free.spec {M = M}) (λ κs base t pool table block change r.
-      result (placement r 0 (now (change .exit))) (memory (now (pool .entry)) (now (table .exit))) []
-      ≡ perform (planes (t .entry)) (Free (base .entry) (block .entry)) [] (memory (now (pool .entry)) (now (table .entry))))
+      served (answered (placement r 0 (now (change .exit)))) (lending (now (pool .entry)) (now (table .exit))) [] []
+      ≡ serve (t .entry) (HeapCall (Free (base .entry) (block .entry))) [] (lending (now (pool .entry)) (now (table .entry))))
   pub reallocate-meets : {M : Type 1} → reallocate-statement.statement M
   pub reallocate-asks-nothing : AsksNothing reallocate.signature (λ M. reallocate.spec {M = M})
   pub reallocate-says : Says reallocate.ended (λ M. reallocate.spec {M = M}) (λ κs base t pool table block bytes new-block change r.
-      result (placement r (now (new-block .exit)) (now (change .exit))) (memory (now (pool .exit)) (now (table .exit))) []
-      ≡ perform (planes (t .entry)) (Reallocate (base .entry) (block .entry) (bytes .entry)) [] (memory (now (pool .entry)) (now (table .entry))))
+      served (answered (placement r (now (new-block .exit)) (now (change .exit)))) (lending (now (pool .exit)) (now (table .exit))) [] []
+      ≡ serve (t .entry) (HeapCall (Reallocate (base .entry) (block .entry) (bytes .entry))) [] (lending (now (pool .entry)) (now (table .entry))))
   pub collect-meets : {M : Type 1} → collect-statement.statement M
   pub collect-asks-nothing : AsksNothing collect.signature (λ M. collect.spec {M = M})
   pub collect-says : Says collect.ended (λ M. collect.spec {M = M}) (λ κs base t pool table roots stack kept rescans change r.
-      result (collection r (now (kept .exit)) (now (rescans .exit)) (now (change .exit))) (memory (now (pool .entry)) (now (table .exit))) (now (stack .exit))
-      ≡ perform (planes (t .entry)) (Collect (base .entry) (now (roots .entry))) (now (stack .entry)) (memory (now (pool .entry)) (now (table .entry))))
+      served (answered (collection r (now (kept .exit)) (now (rescans .exit)) (now (change .exit)))) (lending (now (pool .entry)) (now (table .exit))) (now (stack .exit)) []
+      ≡ serve (t .entry) (HeapCall (Collect (base .entry) (now (roots .entry)))) (now (stack .entry)) (lending (now (pool .entry)) (now (table .entry))))
   pub survey-meets : {M : Type 1} → survey-statement.statement M
   pub survey-asks-nothing : AsksNothing survey.signature (λ M. survey.spec {M = M})
   pub survey-says : Says survey.ended (λ M. survey.spec {M = M}) (λ κs base t pool table used objects longest r.
-      result (findings r (now (used .exit)) (now (objects .exit)) (now (longest .exit))) (memory (now (pool .entry)) (now (table .entry))) []
-      ≡ perform (planes (t .entry)) (Survey (base .entry)) [] (memory (now (pool .entry)) (now (table .entry))))
+      served (answered (findings r (now (used .exit)) (now (objects .exit)) (now (longest .exit)))) (lending (now (pool .entry)) (now (table .entry))) [] []
+      ≡ serve (t .entry) (HeapCall (Survey (base .entry))) [] (lending (now (pool .entry)) (now (table .entry))))
   pub load-meets : {M : Type 1} → load-statement.statement M
   pub load-asks-nothing : AsksNothing load.signature (λ M. load.spec {M = M})
   pub load-says : Says load.ended (λ M. load.spec {M = M}) (λ κs base t pool table block word value r.
-      result (reading r (now (value .exit))) (memory (now (pool .entry)) (now (table .entry))) []
-      ≡ perform (planes (t .entry)) (Load (base .entry) (block .entry) (word .entry)) [] (memory (now (pool .entry)) (now (table .entry))))
+      served (answered (reading r (now (value .exit)))) (lending (now (pool .entry)) (now (table .entry))) [] []
+      ≡ serve (t .entry) (HeapCall (Load (base .entry) (block .entry) (word .entry))) [] (lending (now (pool .entry)) (now (table .entry))))
   pub store-meets : {M : Type 1} → store-statement.statement M
   pub store-asks-nothing : AsksNothing store.signature (λ M. store.spec {M = M})
   pub store-says : Says store.ended (λ M. store.spec {M = M}) (λ κs base t pool table block word value r.
-      result (onlyRefusal r) (memory (now (pool .exit)) (now (table .entry))) []
-      ≡ perform (planes (t .entry)) (Store (base .entry) (block .entry) (word .entry) (value .entry)) [] (memory (now (pool .entry)) (now (table .entry))))
+      served (answered (onlyRefusal r)) (lending (now (pool .exit)) (now (table .entry))) [] []
+      ≡ serve (t .entry) (HeapCall (Store (base .entry) (block .entry) (word .entry) (value .entry))) [] (lending (now (pool .entry)) (now (table .entry))))
   pub write-image-meets : {M : Type 1} → write-image-statement.statement M
   pub write-image-asks-nothing : AsksNothing write-image.signature (λ M. write-image.spec {M = M})
   pub write-image-says : Says write-image.ended (λ M. write-image.spec {M = M}) (λ κs base t pool table roots image length r.
-      filling (writing r (now (length .exit))) (memory (now (pool .entry)) (now (table .entry))) (now (image .exit))
-      ≡ withBuffer (now (image .entry))
-      (perform (planes (t .entry)) (WriteImage (base .entry) (now (roots .entry)) (lengthOf (now (image .entry)))) [] (memory (now (pool .entry)) (now (table .entry)))))
+      served (answered (writing r (now (length .exit)))) (lending (now (pool .entry)) (now (table .entry))) [] (now (image .exit))
+      ≡ intoBuffer (now (image .entry)) (serve (t .entry) (HeapCall (WriteImage (base .entry) (now (roots .entry)) (lengthOf (now (image .entry))))) [] (lending (now (pool .entry)) (now (table .entry)))))
   pub open-image-meets : {M : Type 1} → open-image-statement.statement M
   pub open-image-asks-nothing : AsksNothing open-image.signature (λ M. open-image.spec {M = M})
   pub open-image-says : Says open-image.ended (λ M. open-image.spec {M = M}) (λ κs image t pool table roots base count r.
-      filling (opening r (now (base .exit)) (now (count .exit))) (memory (now (pool .exit)) (now (table .exit))) (now (roots .exit))
-      ≡ withBuffer (now (roots .entry))
-      (perform (planes (t .entry)) (OpenImage (now (image .entry)) (lengthOf (now (roots .entry)))) [] (memory (now (pool .entry)) (now (table .entry)))))
-  -- of each call of the log: that the answer and the lent memory at exit are what its program of heap calls comes to
+      served (answered (opening r (now (base .exit)) (now (count .exit)))) (lending (now (pool .exit)) (now (table .exit))) [] (now (roots .exit))
+      ≡ intoBuffer (now (roots .entry)) (serve (t .entry) (HeapCall (OpenImage (now (image .entry)) (lengthOf (now (roots .entry))))) [] (lending (now (pool .entry)) (now (table .entry)))))
   pub log-append-meets : {M : Type 1} → log-append-statement.statement M
   pub log-append-asks-nothing : AsksNothing log-append.signature (λ M. log-append.spec {M = M})
   pub log-append-says : Says log-append.ended (λ M. log-append.spec {M = M}) (λ κs base t pool table first time tips roots stack new-first change r.
-      ran (logged r (now (new-first .exit)) (now (change .exit))) (memory (now (pool .exit)) (now (table .exit))) (now (stack .exit))
-      ≡ run (planes (t .entry)) (append (base .entry) (first .entry) (time .entry) (tips .entry) (now (roots .entry)) (now (stack .entry))) (now (stack .entry)) (memory (now (pool .entry)) (now (table .entry))))
+      served (replied (logged r (now (new-first .exit)) (now (change .exit)))) (lending (now (pool .exit)) (now (table .exit))) (now (stack .exit)) []
+      ≡ serve (t .entry) (Append (base .entry) (first .entry) (time .entry) (tips .entry) (now (roots .entry))) (now (stack .entry)) (lending (now (pool .entry)) (now (table .entry))))
   pub log-read-meets : {M : Type 1} → log-read-statement.statement M
   pub log-read-asks-nothing : AsksNothing log-read.signature (λ M. log-read.spec {M = M})
   pub log-read-says : Says log-read.ended (λ M. log-read.spec {M = M}) (λ κs base t pool table first index time tips r.
-      ran (readout r (now (time .exit)) (now (tips .exit))) (memory (now (pool .entry)) (now (table .entry))) []
-      ≡ run (planes (t .entry)) (read (base .entry) (first .entry) (index .entry)) [] (memory (now (pool .entry)) (now (table .entry))))
+      served (replied (readout r (now (time .exit)) (now (tips .exit)))) (lending (now (pool .entry)) (now (table .entry))) [] []
+      ≡ serve (t .entry) (Read (base .entry) (first .entry) (index .entry)) [] (lending (now (pool .entry)) (now (table .entry))))
   pub log-drop-meets : {M : Type 1} → log-drop-statement.statement M
   pub log-drop-asks-nothing : AsksNothing log-drop.signature (λ M. log-drop.spec {M = M})
   pub log-drop-says : Says log-drop.ended (λ M. log-drop.spec {M = M}) (λ κs base t pool table first new-first change r.
-      ran (logged r (now (new-first .exit)) (now (change .exit))) (memory (now (pool .entry)) (now (table .exit))) []
-      ≡ run (planes (t .entry)) (drop (base .entry) (first .entry)) [] (memory (now (pool .entry)) (now (table .entry))))
+      served (replied (logged r (now (new-first .exit)) (now (change .exit)))) (lending (now (pool .entry)) (now (table .exit))) [] []
+      ≡ serve (t .entry) (Drop (base .entry) (first .entry)) [] (lending (now (pool .entry)) (now (table .entry))))

@@ -8,6 +8,7 @@ use mir.ValLaws.{toZ-ofZ}
 use Rattle.rules.specs.Runs.{Allocate}
 use Rattle.laws.proofs.Blocks.{allocated-small}
 use Rattle.laws.proofs.Clamped.{call-clamped}
+use Rattle.services.proofs.Entries.{call-served}
 use Rattle.blockheap.proofs.blockheap_allocate.Statement.{statement}
 use Rattle.blockheap.proofs.blockheap_allocate.Tie as tie
 
@@ -39,7 +40,8 @@ returns : tie.Need-returns
 returns c =
     let a = c .before .before .before .before .before .before .before .before .before .before .before .before .before .before .args in
     rw (c .before .number .ensures, toZ-ofZ w32 (c .before .before .before .before .before .before .allocate .result .change) (search (needs, c .struct-told .given)))
-    ((rw (c .before .before .before .before .before .before .before .before .before .before .before .of-number .ensures, c .before .before .before .before .before .before .before .before .before .before .clamped .ensures, c .before .before .before .before .before .before .before .of-number2 .ensures) at (c .before .before .before .before .before .before .allocate .ensures)) ∙ call-clamped (a .t) (Allocate (a .base) (a .bytes)) [] _)
+    (call-served (a .t) [] _ (Allocate (a .base) (a .bytes)) _
+    ((rw (c .before .before .before .before .before .before .before .before .before .before .before .of-number .ensures, c .before .before .before .before .before .before .before .before .before .before .clamped .ensures, c .before .before .before .before .before .before .before .of-number2 .ensures) at (c .before .before .before .before .before .before .allocate .ensures)) ∙ call-clamped (a .t) (Allocate (a .base) (a .bytes)) [] _))
 
 pub blockheap-allocate-spec : {M : Type 1} → statement M
 blockheap-allocate-spec = tie.close (tie.spec of-number-requires clamped-requires of-number-requires-2 allocate-requires number-requires cast-block same-length same-length-2 returns)

@@ -5,6 +5,7 @@ use mir.Syntax.{w32}
 use mir.ValLaws.{toZ-ofZ}
 use Rattle.programs.proofs.Laws.{run-clamped}
 use Rattle.logs.specs.Log.{append}
+use Rattle.services.proofs.Entries.{append-served}
 use Rattle.blockheap.proofs.blockheap_log_append.Statement.{statement}
 use Rattle.blockheap.proofs.blockheap_log_append.Tie as tie
 
@@ -33,7 +34,8 @@ returns : tie.Need-returns
 returns c =
     let a = c .before .before .before .before .before .before .before .before .before .before .before .before .before .before .before .before .before .before .args in
     rw (toZ-ofZ w32 (c .before .before .before .before .before .before .before .append .result .change) (search (needs, c .struct-told .given)))
-    ((rw (c .before .before .before .before .before .before .before .before .before .before .before .before .before .of-number .ensures, c .before .before .before .before .before .before .before .before .before .before .before .before .clamped .ensures, c .before .before .before .before .before .before .before .before .before .of-number2 .ensures) at (c .before .before .before .before .before .before .before .append .ensures)) ∙ run-clamped (a .t) (append (a .base) (a .first) (a .time) (a .tips) (a .roots .now) (a .stack .now)) (a .stack .now) _)
+    (append-served (a .t) (a .stack .now) _ (a .base) (a .first) (a .time) (a .tips) (a .roots .now) _
+    ((rw (c .before .before .before .before .before .before .before .before .before .before .before .before .before .of-number .ensures, c .before .before .before .before .before .before .before .before .before .before .before .before .clamped .ensures, c .before .before .before .before .before .before .before .before .before .of-number2 .ensures) at (c .before .before .before .before .before .before .before .append .ensures)) ∙ run-clamped (a .t) (append (a .base) (a .first) (a .time) (a .tips) (a .roots .now) (a .stack .now)) (a .stack .now) _))
 
 pub blockheap-log-append-spec : {M : Type 1} → statement M
 blockheap-log-append-spec = tie.close (tie.spec of-number-requires clamped-requires of-number-requires-2 append-requires same-length same-length-2 same-length-3 returns)

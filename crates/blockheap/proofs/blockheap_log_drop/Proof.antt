@@ -6,6 +6,7 @@ use mir.Syntax.{w32}
 use mir.ValLaws.{toZ-ofZ}
 use Rattle.programs.proofs.Laws.{run-clamped}
 use Rattle.logs.specs.Log.{drop}
+use Rattle.services.proofs.Entries.{drop-served}
 use Rattle.blockheap.proofs.blockheap_log_drop.Statement.{statement}
 use Rattle.blockheap.proofs.blockheap_log_drop.Tie as tie
 
@@ -28,7 +29,8 @@ returns : tie.Need-returns
 returns c =
     let a = c .before .before .before .before .before .before .before .before .before .before .args in
     rw (toZ-ofZ w32 (c .before .before .before .drop .result .change) (search (needs, c .struct-told .given)))
-    ((rw (c .before .before .before .before .before .before .before .of-number .ensures, c .before .before .before .before .before .before .clamped .ensures, c .before .before .before .before .of-number2 .ensures) at (c .before .before .before .drop .ensures)) ∙ run-clamped (a .t) (drop (a .base) (a .first)) [] _)
+    (drop-served (a .t) [] _ (a .base) (a .first) _
+    ((rw (c .before .before .before .before .before .before .before .of-number .ensures, c .before .before .before .before .before .before .clamped .ensures, c .before .before .before .before .of-number2 .ensures) at (c .before .before .before .drop .ensures)) ∙ run-clamped (a .t) (drop (a .base) (a .first)) [] _))
 
 pub blockheap-log-drop-spec : {M : Type 1} → statement M
 blockheap-log-drop-spec = tie.close (tie.spec of-number-requires clamped-requires of-number-requires-2 drop-requires same-length returns)

@@ -4,6 +4,7 @@ use mathlib.Core.List.{[]}
 use borrow.Author.Needs.{needs}
 use Rattle.programs.proofs.Laws.{run-clamped}
 use Rattle.logs.specs.Log.{read}
+use Rattle.services.proofs.Entries.{read-served}
 use Rattle.blockheap.proofs.blockheap_log_read.Statement.{statement}
 use Rattle.blockheap.proofs.blockheap_log_read.Tie as tie
 
@@ -22,7 +23,8 @@ read-requires c κs = search needs
 returns : tie.Need-returns
 returns c =
     let a = c .before .before .before .before .before .before .args in
-    (rw (c .before .before .before .of-number .ensures, c .before .before .clamped .ensures, c .before .of-number2 .ensures) at (c .read .ensures)) ∙ run-clamped (a .t) (read (a .base) (a .first) (a .index)) [] _
+    read-served (a .t) [] _ (a .base) (a .first) (a .index) _
+    ((rw (c .before .before .before .of-number .ensures, c .before .before .clamped .ensures, c .before .of-number2 .ensures) at (c .read .ensures)) ∙ run-clamped (a .t) (read (a .base) (a .first) (a .index)) [] _)
 
 pub blockheap-log-read-spec : {M : Type 1} → statement M
 blockheap-log-read-spec = tie.close (tie.spec of-number-requires clamped-requires of-number-requires-2 read-requires returns)

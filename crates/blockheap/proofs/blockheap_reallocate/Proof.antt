@@ -8,6 +8,7 @@ use mir.ValLaws.{toZ-ofZ}
 use Rattle.rules.specs.Runs.{Reallocate}
 use Rattle.laws.proofs.Blocks.{reallocated-small}
 use Rattle.laws.proofs.Clamped.{call-clamped}
+use Rattle.services.proofs.Entries.{call-served}
 use Rattle.blockheap.proofs.blockheap_reallocate.Statement.{statement}
 use Rattle.blockheap.proofs.blockheap_reallocate.Tie as tie
 
@@ -42,7 +43,8 @@ returns : tie.Need-returns
 returns c =
     let a = c .before .before .before .before .before .before .before .before .before .before .before .before .before .before .before .args in
     rw (c .before .number .ensures, toZ-ofZ w32 (c .before .before .before .before .before .before .reallocate .result .change) (search (needs, c .struct-told .given)))
-    ((rw (c .before .before .before .before .before .before .before .before .before .before .before .before .of-number .ensures, c .before .before .before .before .before .before .before .before .before .before .before .clamped .ensures, c .before .before .before .before .before .before .before .before .of-number2 .ensures, c .before .before .before .before .before .before .before .of-number3 .ensures) at (c .before .before .before .before .before .before .reallocate .ensures)) ∙ call-clamped (a .t) (Reallocate (a .base) (a .block) (a .bytes)) [] _)
+    (call-served (a .t) [] _ (Reallocate (a .base) (a .block) (a .bytes)) _
+    ((rw (c .before .before .before .before .before .before .before .before .before .before .before .before .of-number .ensures, c .before .before .before .before .before .before .before .before .before .before .before .clamped .ensures, c .before .before .before .before .before .before .before .before .of-number2 .ensures, c .before .before .before .before .before .before .before .of-number3 .ensures) at (c .before .before .before .before .before .before .reallocate .ensures)) ∙ call-clamped (a .t) (Reallocate (a .base) (a .block) (a .bytes)) [] _))
 
 pub blockheap-reallocate-spec : {M : Type 1} → statement M
 blockheap-reallocate-spec = tie.close (tie.spec of-number-requires clamped-requires of-number-requires-2 of-number-requires-3 reallocate-requires number-requires cast-new-block same-length same-length-2 returns)

@@ -4,6 +4,7 @@ use mathlib.Core.List.{[]}
 use borrow.Author.Needs.{needs}
 use Rattle.rules.specs.Runs.{Store}
 use Rattle.laws.proofs.Clamped.{call-clamped}
+use Rattle.services.proofs.Entries.{call-served}
 use Rattle.blockheap.proofs.blockheap_store.Statement.{statement}
 use Rattle.blockheap.proofs.blockheap_store.Tie as tie
 
@@ -28,7 +29,8 @@ same-length c = search needs
 returns : tie.Need-returns
 returns c =
     let a = c .before .before .before .before .before .before .before .before .before .before .args in
-    (rw (c .before .before .before .before .before .before .before .of-number .ensures, c .before .before .before .before .before .before .clamped .ensures, c .before .before .before .before .of-number2 .ensures, c .before .before .before .clamped2 .ensures) at (c .before .before .store .ensures)) ∙ call-clamped (a .t) (Store (a .base) (a .block) (a .word) (a .value)) [] _
+    call-served (a .t) [] _ (Store (a .base) (a .block) (a .word) (a .value)) _
+    ((rw (c .before .before .before .before .before .before .before .of-number .ensures, c .before .before .before .before .before .before .clamped .ensures, c .before .before .before .before .of-number2 .ensures, c .before .before .before .clamped2 .ensures) at (c .before .before .store .ensures)) ∙ call-clamped (a .t) (Store (a .base) (a .block) (a .word) (a .value)) [] _)
 
 pub blockheap-store-spec : {M : Type 1} → statement M
 blockheap-store-spec = tie.close (tie.spec of-number-requires clamped-requires of-number-requires-2 clamped-requires-2 store-requires same-length returns)

@@ -4,6 +4,7 @@ use mathlib.Core.List.{[]}
 use borrow.Author.Needs.{needs}
 use Rattle.rules.specs.Runs.{Survey}
 use Rattle.laws.proofs.Clamped.{call-clamped}
+use Rattle.services.proofs.Entries.{call-served}
 use Rattle.blockheap.proofs.blockheap_survey.Statement.{statement}
 use Rattle.blockheap.proofs.blockheap_survey.Tie as tie
 
@@ -19,7 +20,8 @@ survey-requires c κs = search needs
 returns : tie.Need-returns
 returns c =
     let a = c .before .before .before .before .before .args in
-    (rw (c .before .before .of-number .ensures, c .before .clamped .ensures) at (c .survey .ensures)) ∙ call-clamped (a .t) (Survey (a .base)) [] _
+    call-served (a .t) [] _ (Survey (a .base)) _
+    ((rw (c .before .before .of-number .ensures, c .before .clamped .ensures) at (c .survey .ensures)) ∙ call-clamped (a .t) (Survey (a .base)) [] _)
 
 pub blockheap-survey-spec : {M : Type 1} → statement M
 blockheap-survey-spec = tie.close (tie.spec of-number-requires clamped-requires survey-requires returns)
