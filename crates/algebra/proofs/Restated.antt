@@ -1,6 +1,6 @@
 -- The laws, used at variables: each is said anew from hypotheses that are written out, down to equations. A law that said less, or asked more, as a base or a number of roots, would not give it.
 -- Assumes nothing.
-use mathlib.Core.Path.{_≡_, ap}
+use mathlib.Core.Path.{_≡_}
 use mathlib.Core.Logic.{_≢_, _↔_, _⊎_}
 use mathlib.Core.List.{List, [], _++_, List·Memᴰ}
 use Prim.Native.Nat.{ℕ, _/_, _%_, _≤_}

@@ -38,7 +38,7 @@ use Rattle.promises.proofs.Bytes.{on-bytes, first-past}
 use Rattle.promises.proofs.Determined.{first-one, start-one}
 use Rattle.programs.specs.Programs.{Ran, ran, run}
 use Rattle.logs.specs.Log.{Reply, logged, declined, append, read, drop}
-use Rattle.loglaws.specs.Chains.{Entry, Chain, ends, leads, Log, heads}
+use Rattle.loglaws.specs.Chains.{Entry, Chain, ends, leads, Log}
 use Rattle.loglaws.specs.Pairs.{Pair, pairs, readPairs}
 use Rattle.loglaws.specs.Lasting.{Spares}
 use Rattle.loglaws.specs.Promises.{surveyIn, collectionIn, ofAppend, NoEntry, ofRead, ofDrop, Declined, LastOf, Longer, Appended, Dropped}

@@ -28,8 +28,8 @@ use Rattle.programs.specs.Programs.{Program, give, ask, Ran, stackAfter, run}
 use Rattle.programs.proofs.Stacks.{still-alike}
 use Rattle.programs.proofs.Laws.{cons-same}
 use Rattle.logs.specs.Log.{Reply, append, read, drop}
-use Rattle.services.specs.Services.{Service, HeapCall, Append, Read, Drop, Response, answered, replied, refusalOf, serveIn, Asked, asked, servedTo, responses, buffers, lentAfter, responsesBy, buffersBy, lentAfterBy}
-use Rattle.noninterference.specs.Noninterference.{Alike, done, next, SameResponse, equal, but-rescans, SameResponses, done, next, SameButPools, Indistinct, Noninterference}
+use Rattle.services.specs.Services.{Service, HeapCall, Append, Read, Drop, Response, answered, replied, refusalOf, serveIn, Asked, asked, servedTo, responsesBy, buffersBy, lentAfterBy}
+use Rattle.noninterference.specs.Noninterference.{Alike, done, next, SameResponse, equal, but-rescans, done, next, Indistinct, Noninterference}
 use Rattle.services.proofs.Laws.{Acted, callActed, logActed, act, serve-is, act-other-t, act-pool-kept}
 
 -- ---- a program on two memories

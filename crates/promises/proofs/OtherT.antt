@@ -3,7 +3,7 @@
 use mathlib.Core.Path.{_≡_, refl, ap, sym, _∙_}
 use mathlib.Core.Logic.{_≢_}
 use mathlib.Core.Bool.{Bool, true, false}
-use mathlib.Core.List.{List, _∷_}
+use mathlib.Core.List.{List}
 use Prim.Native.Nat.{ℕ, _*_}
 use native.Mathlib.Decide.{ℕ-discrete}
 use native.Mathlib.Omega.{arith}
@@ -15,7 +15,7 @@ use Rattle.rules.specs.Outcomes.{onlyRefusal}
 use Rattle.rules.specs.Runs.{Call}
 use Rattle.rules.specs.Forms.{Form}
 use Rattle.rules.specs.Planes.{planes}
-use Rattle.rules.specs.Memory.{Memory, heapIn, Result, result, stackFor, faultIn, perform, turnIn}
+use Rattle.rules.specs.Memory.{Memory, heapIn, Result, result, stackFor, faultIn, perform}
 use Rattle.laws.proofs.Memory.{kept-by}
 use Rattle.laws.proofs.Sizes.{step-keeps}
 use Rattle.promises.specs.OtherT.{atOtherT}

@@ -21,10 +21,9 @@ use Rattle.laws.specs.Meaning.{AllBytes, Lowest, Longest, Points, PointsInto, L
 use Rattle.rules.specs.Outcomes.{Heap, Answer, Outcome, onlyRefusal, loaded, surveyed, leaves, changeFrom, unlessRefused, clearedBlocks}
 use Rattle.rules.specs.Refusals.{firstOf, goodShape, wholeWords}
 use Rattle.rules.specs.Reach.{Reachable, root, edge}
-use Rattle.rules.specs.Files.{faultOf}
 use Rattle.rules.specs.Marking.{pushed, visitTo, visit, walkWords, walk, drainFor, drain, trace, rootTo, markRoot, markRoots, passBlock, passFrom, pass, rescanFor, rescan, markAll, sweptEntry, freeingAfter, sweepFrom, sweep}
 use Rattle.rules.specs.Calls.{blocksFor, taken, placing, init, allocate, freed, free, shrunk, grown, moved, movesTo, wayToGrow, wayTo, along, reallocate, collecting, collect, survey, load, store}
-use Rattle.rules.specs.Runs.{Call, Init, Allocate, Free, Reallocate, Collect, Survey, Load, Store, WriteImage, OpenImage, step, answers}
+use Rattle.rules.specs.Runs.{Call, Init, Allocate, Free, Reallocate, Collect, Survey, step}
 use Rattle.rules.specs.Planes.{planeBytes, entryIn, entriesIn, spare, spareFree, planes}
 use Rattle.rules.specs.Memory.{memory, Sound, result, AcceptedIn, perform}
 use Rattle.laws.proofs.Planes.{length-entriesIn}

@@ -10,11 +10,10 @@ use native.Mathlib.Omega.{arith}
 use lib.IntN.{ℤ, pos}
 use lib.ListN.{length}
 use borrow.Author.Tests.{eq-eqb, ne-eqb}
-use Rattle.rules.specs.Tests.{pick}
 use Rattle.rules.specs.Forms.{Form}
 use Rattle.rules.specs.Outcomes.{Heap, Answer}
 use Rattle.rules.specs.Planes.{planes, entriesIn}
-use Rattle.rules.specs.Runs.{Call, Init, FileIs, startsAnew, step}
+use Rattle.rules.specs.Runs.{Call, FileIs, startsAnew, step}
 use Rattle.rules.specs.Memory.{Memory, Result, heapIn, Sound, AcceptedIn, perform}
 use Rattle.rules.specs.Lent.{Lent, lent, Served}
 use Rattle.laws.specs.Meaning.{AllBytes}
@@ -34,8 +33,8 @@ use Rattle.programs.specs.AsList.{RanList, runList}
 use Rattle.programs.proofs.Stacks.{still-long}
 use Rattle.programs.proofs.AsList.{reply-by-length}
 use Rattle.programs.proofs.Laws.{cons-same}
-use Rattle.logs.specs.Log.{Reply, append, read}
-use Rattle.services.specs.Services.{toldOtherT, Service, HeapCall, Append, Read, Drop, Response, answered, replied, refusalOf, Asked, asked, servedTo, responses, buffers, responsesBy, buffersBy}
+use Rattle.logs.specs.Log.{Reply, read}
+use Rattle.services.specs.Services.{Service, HeapCall, Append, Read, Drop, Response, answered, replied, refusalOf, Asked, asked, servedTo, responses, buffers, responsesBy, buffersBy}
 use Rattle.refinement.specs.AsList.{ServedList, serveList, servedListTo, listResponses, listBuffers, OpensBytes, AllOpenBytes, done, next, from, AsList}
 use Rattle.services.proofs.Laws.{Acted, act, serve-is, act-other-t}
 use Rattle.refinement.proofs.Keeping.{list-keeps-reachable}

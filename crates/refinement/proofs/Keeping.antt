@@ -1,6 +1,5 @@
 -- A plain list is that of some heap, whatever services have made it of an empty one. So its collections keep exactly what is reachable in it.
 -- Assumes nothing.
-use mathlib.Core.Path.{_≡_}
 use mathlib.Core.Bool.{Bool, true, false}
 use mathlib.Core.List.{List, [], _∷_}
 use Prim.Native.Nat.{ℕ, _*_, _≤_}

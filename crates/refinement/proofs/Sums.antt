@@ -9,7 +9,7 @@ use native.Mathlib.Omega.{arith}
 use lib.Dec.{eqb}
 use lib.IntN.{ℤ, pos, _+ℤ_, +ℤ-idr, +ℤ-assoc}
 use lib.ListN.{length}
-use Rattle.rules.specs.Tests.{pick, both}
+use Rattle.rules.specs.Tests.{pick}
 use Rattle.rules.specs.Tables.{used}
 use Rattle.rules.specs.Forms.{Form}
 use Rattle.rules.specs.Outcomes.{Heap, Answer, Outcome, unlessRefused}
@@ -28,7 +28,7 @@ use Rattle.promises.proofs.Bytes.{on-bytes, pool-of}
 use Rattle.promises.proofs.OtherT.{pool-kept}
 use Rattle.programs.specs.Programs.{Program, stackAfter, run}
 use Rattle.logs.specs.Log.{Reply}
-use Rattle.services.specs.Services.{toldOtherT, Service, HeapCall, Append, Read, Drop, Response, refusalOf, Asked, asked, servedTo, lentAfter, lentAfterBy}
+use Rattle.services.specs.Services.{toldOtherT, Service, HeapCall, Append, Read, Drop, refusalOf, Asked, asked, servedTo, lentAfter, lentAfterBy}
 use Rattle.refinement.specs.AsList.{countedIn, sumOf, from}
 use Rattle.refinement.proofs.Changes.{counted, Sums, follows-sums, anew-sums}
 use Rattle.services.proofs.Laws.{act-sound, Acted, act, serve-is, act-other-t, act-pool-kept}
