@@ -198,9 +198,9 @@
 extern "C" {
 #endif
 
-/* The version. As a number: #if BLOCKHEAP_VERSION >= BLOCKHEAP_VERSION_NUMBER(0, 1, 0). */
+/* The version. As a number: #if BLOCKHEAP_VERSION >= BLOCKHEAP_VERSION_NUMBER(0, 2, 0). */
 #define BLOCKHEAP_VERSION_MAJOR 0
-#define BLOCKHEAP_VERSION_MINOR 1
+#define BLOCKHEAP_VERSION_MINOR 2
 #define BLOCKHEAP_VERSION_PATCH 0
 #define BLOCKHEAP_VERSION_NUMBER(major, minor, patch) ((major) * 1000000 + (minor) * 1000 + (patch))
 #define BLOCKHEAP_VERSION \
