@@ -1,4 +1,4 @@
-//! The tool agrees with the header and the README of the repository that it is part of.
+//! The tool agrees with the header, the README and the guide of the repository that it is part of.
 
 mod common;
 
@@ -8,6 +8,7 @@ use std::path::Path;
 
 const HEADER: &str = include_str!("../../../include/blockheap.h");
 const README: &str = include_str!("../../../README.md");
+const GUIDE: &str = include_str!("../../../docs/GUIDE.md");
 
 /// What the tool writes about a file with these bytes, called by this name.
 fn written(name: &str, bytes: &[u8], words: &[&str]) -> String {
@@ -22,11 +23,11 @@ fn written(name: &str, bytes: &[u8], words: &[&str]) -> String {
     text.replace(&file.display().to_string(), name)
 }
 
-/// Holds that the README has this text, each of its lines indented by four.
-fn readme_has(text: &str) {
+/// Holds that the document has this text, each of its lines indented by four.
+fn has(document: &str, text: &str) {
     let indented = |line: &str| if line.is_empty() { line.into() } else { format!("    {line}") };
     let text: Vec<String> = text.lines().map(indented).collect();
-    assert!(README.contains(&text.join("\n")), "README.md has not:\n{}", text.join("\n"));
+    assert!(document.contains(&text.join("\n")), "a document has not:\n{}", text.join("\n"));
 }
 
 #[test]
@@ -39,13 +40,13 @@ fn the_version_is_the_headers() {
 }
 
 #[test]
-fn the_readme_shows_the_demos_image() {
-    readme_has(&written("heap.image", &common::demo(), &["show"]));
+fn the_documents_show_the_demos_image() {
+    has(README, &written("heap.image", &common::demo(), &["show"]));
     let objects = written("heap.image", &common::demo(), &["show", "--objects"]);
-    readme_has(&objects[objects.find("address").expect("the objects")..]);
+    has(GUIDE, &objects[objects.find("address").expect("the objects")..]);
 }
 
 #[test]
-fn the_readme_shows_a_fault() {
-    readme_has(&written("cut.image", &common::demo()[..150], &["check"]));
+fn the_guide_shows_a_fault() {
+    has(GUIDE, &written("cut.image", &common::demo()[..150], &["check"]));
 }
