@@ -63,7 +63,8 @@ find_library() {
         [ -f "$BLOCKHEAP_LIB" ] || die "BLOCKHEAP_LIB names $BLOCKHEAP_LIB, and there is no such file"
         note "BLOCKHEAP_LIB is set: this is another archive than the project's, $BLOCKHEAP_LIB"
     elif ! on_machine rt; then
-        [ -f "$own_library" ] || need rt "prove and build the library"
+        [ -f "$own_library" ] || die "there is no rt on this machine, which proves and builds the library. Without it:" \
+            "hosts/portable/build, and set BLOCKHEAP_LIB to the archive that it names"
         note "there is no rt on this machine: the library is the one built last, and may be older than the crates"
         BLOCKHEAP_LIB=$own_library
     else
