@@ -33,8 +33,8 @@ extern "C" {
  * what is added.
  */
 struct blockheap {
-    uint64_t base;
-    uint64_t t; /* where it is 0, pool_len gives it: bh_t */
+    uint64_t base; /* where it is 0, it is the pool's own address: bh_base */
+    uint64_t t;    /* where it is 0, pool_len gives it: bh_t */
     uint8_t *pool;
     size_t pool_len;
     uint8_t *table;
@@ -65,9 +65,25 @@ struct blockheap {
     static struct blockheap name = BH_OVER(base, name##_pool, name##_table)
 
 /*
+ * As a base: the pool's own address. A heap address is then the address of the
+ * block's bytes, and on a little-endian board a pointer in an object, or in a
+ * list of roots, is a word as it is. For boards whose addresses have 32 bits:
+ * elsewhere the pool's address may be too large, and is then refused as
+ * BAD_SHAPE.
+ */
+#define BH_HERE 0
+
+/*
+ * The same as BH_DEFINE, at the pool's own address. (A board's compiler takes
+ * no address for a number of 64 bits in static memory: hence BH_HERE.)
+ */
+#define BH_DEFINE_HERE(name, pool_bytes) BH_DEFINE(name, BH_HERE, pool_bytes)
+
+/*
  * A heap in one area of memory, as large as it can be: the pool at its front,
  * the table behind it. Large objects lie at multiples of 64 bytes if the area
  * does. One of fewer than 66 bytes is too short: bh_init then answers BAD_SHAPE.
+ * The base may be BH_HERE.
  */
 static inline struct blockheap bh_split(uint64_t base, uint8_t *area, size_t area_len)
 {
@@ -84,6 +100,12 @@ static inline struct blockheap bh_split(uint64_t base, uint8_t *area, size_t are
     heap.table = area + heap.pool_len;
     heap.table_len = BLOCKHEAP_TABLE_BYTES_OF_T(t);
     return heap;
+}
+
+/* The base of a heap: the address of its block 0. */
+static inline uint64_t bh_base(const struct blockheap *heap)
+{
+    return heap->base != BH_HERE ? heap->base : (uintptr_t)heap->pool;
 }
 
 /* The t of a heap. A struct whose fields were set by name may leave it to the pool's length. */
@@ -104,7 +126,7 @@ static inline uint8_t *bh_no_bytes(void)
 /* A list, and a heap, as the arguments that blockheap.h asks for. */
 #define BH_LIST(bytes, len) ((len) ? (bytes) : bh_no_bytes()), (len)
 #define BH_PARTS(heap) \
-    (heap)->base, bh_t(heap), BH_LIST((heap)->pool, (heap)->pool_len), BH_LIST((heap)->table, (heap)->table_len)
+    bh_base(heap), bh_t(heap), BH_LIST((heap)->pool, (heap)->pool_len), BH_LIST((heap)->table, (heap)->table_len)
 
 static inline uint32_t bh_init(const struct blockheap *heap)
 {
@@ -267,14 +289,14 @@ static inline uint32_t bh_blocks(const struct blockheap *heap)
 /* The address of a block, or 0 (nil) if there is no such block. */
 static inline uint32_t bh_address(const struct blockheap *heap, uint32_t block)
 {
-    return block < bh_blocks(heap) ? (uint32_t)(heap->base + BLOCKHEAP_BLOCK_BYTES * (uint64_t)block) : 0;
+    return block < bh_blocks(heap) ? (uint32_t)(bh_base(heap) + BLOCKHEAP_BLOCK_BYTES * (uint64_t)block) : 0;
 }
 
 /* The block that has this address, free or not, or BH_NO_BLOCK: for 0, inside a block, outside the pool. */
 static inline uint32_t bh_block(const struct blockheap *heap, uint32_t address)
 {
-    uint64_t offset = address - heap->base;
-    if (address < heap->base || offset >= heap->pool_len || offset % BLOCKHEAP_BLOCK_BYTES != 0)
+    uint64_t base = bh_base(heap), offset = address - base;
+    if (address < base || offset >= heap->pool_len || offset % BLOCKHEAP_BLOCK_BYTES != 0)
         return BH_NO_BLOCK;
     return (uint32_t)(offset / BLOCKHEAP_BLOCK_BYTES);
 }

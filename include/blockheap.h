@@ -18,9 +18,10 @@
  * - base is the address of block 0, as the words in the pool spell addresses:
  *   block k has the address base + 16 * k. It is a multiple of 16, at least
  *   16, and base + 64 * t is at most 4,294,967,296. On a 32-bit board, lend a
- *   pool aligned to 16 bytes, or to 64 (see below), and give its own address.
- *   Elsewhere choose any such number, 4,096 say, and keep to it: the library
- *   never uses it to find the pool.
+ *   pool aligned to 16 bytes, or to 64 (see below), and give its own address,
+ *   (uintptr_t)pool; in bh.h BH_DEFINE_HERE does both. Elsewhere choose any such
+ *   number, 4,096 say, and keep to it: the library never uses it to find the
+ *   pool.
  * - A run of blocks is aligned if it has at most three blocks, or begins at a
  *   block number divisible by 4. New objects, and those that grow or move, take
  *   aligned runs: large ones, of four blocks or more, begin at a multiple of 64

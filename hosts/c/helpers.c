@@ -79,6 +79,21 @@ static void check_makers(void)
           bh_init(&none) == BLOCKHEAP_BAD_SHAPE && bh_survey(&none, NULL, NULL, NULL) == BLOCKHEAP_BAD_SHAPE);
 }
 
+/* Addresses of this machine may have more than 32 bits: the library then refuses them. */
+static void check_own_address(void)
+{
+    static BH_ALIGNED uint8_t pool[64], table[BLOCKHEAP_TABLE_BYTES(sizeof pool)];
+    static const struct blockheap here = BH_OVER(BH_HERE, pool, table);
+    const uint64_t own = (uintptr_t)pool;
+    const struct blockheap split = bh_split(BH_HERE, pool, sizeof pool);
+    check("a heap may lie at its pool's own address", bh_base(&here) == own && bh_base(&split) == own);
+    check("its blocks have those addresses",
+          bh_address(&here, 3) == (uint32_t)(own + 48) && bh_base(&heap) == BASE
+              && bh_block(&here, (uint32_t)(own + 48)) == (own + 48 <= UINT32_MAX ? 3 : BH_NO_BLOCK));
+    check("it is accepted if they fit 32 bits",
+          bh_init(&here) == (own + 64 <= 0x100000000 ? BLOCKHEAP_OK : BLOCKHEAP_BAD_SHAPE));
+}
+
 static void check_fields(void)
 {
     static uint8_t pool[192], table[BLOCKHEAP_TABLE_BYTES(sizeof pool)];
@@ -318,6 +333,7 @@ int main(void)
 {
     check_lengths();
     check_makers();
+    check_own_address();
     check_fields();
     check_numbers();
     check_highest_heap();
