@@ -55,35 +55,63 @@ struct blockheap {
 #define BH_OVER(base, pool, table) \
     {(base), BLOCKHEAP_T_OF_POOL(sizeof(pool)), (pool), sizeof(pool), (table), sizeof(table)}
 
+/* A rule that is checked when the program is compiled. If it is broken, the words say it; in C99 the name does. */
+#if defined(__cplusplus)
+#define BH_ASSERT(rule, name, words) static_assert(rule, words)
+#elif defined(__STDC_VERSION__) && __STDC_VERSION__ >= 201112L
+#define BH_ASSERT(rule, name, words) _Static_assert(rule, words)
+#else
+#define BH_ASSERT(rule, name, words) extern char name[(rule) ? 1 : -1]
+#endif
+
+/* Addresses have 32 bits. A pool may end here, and not beyond. */
+#define BH_ADDRESSES_END ((uint64_t)1 << 32)
+
+/* The rules for a pool's length, and for its base: declarations, for numbers that the compiler knows. */
+#define BH_ASSERT_POOL(pool_bytes) \
+    BH_ASSERT((pool_bytes) >= 64 && (pool_bytes) <= BLOCKHEAP_MAX_POOL_BYTES && (pool_bytes) % 64 == 0, \
+              bh_pool_has_64_to_65536_bytes_a_multiple_of_64, "a pool has 64 to 65,536 bytes, a multiple of 64")
+#define BH_ASSERT_BASE(base, pool_bytes) \
+    BH_ASSERT((base) >= BLOCKHEAP_MIN_BASE && (base) % BLOCKHEAP_BLOCK_BYTES == 0, \
+              bh_base_is_a_multiple_of_16_at_least_16, "a base is a multiple of 16, and at least 16"); \
+    BH_ASSERT((uint64_t)(base) + (pool_bytes) <= BH_ADDRESSES_END, \
+              bh_base_and_pool_bytes_add_up_to_at_most_2_to_the_32, \
+              "the base and the pool's length add up to at most 4,294,967,296")
+
 /*
  * Defines a heap with static memory of its own, aligned: large objects lie at
- * multiples of 64 bytes. A pool has 64 to 65,536 bytes, a multiple of 64.
+ * multiples of 64 bytes. A pool has 64 to 65,536 bytes, a multiple of 64. What
+ * would be refused as BAD_SHAPE does not compile.
  */
 #define BH_DEFINE(name, base, pool_bytes) \
+    BH_ASSERT_BASE(base, pool_bytes); \
+    BH_DEFINE_MEMORY(name, base, pool_bytes)
+
+/*
+ * The same at the pool's own address, for boards whose addresses have 32 bits. A
+ * heap address is then the address of the block's bytes, and on a little-endian
+ * board a pointer in an object, or in a list of roots, is a word as it is.
+ */
+#define BH_DEFINE_HERE(name, pool_bytes) \
+    BH_ASSERT(UINTPTR_MAX < BH_ADDRESSES_END, bh_define_here_is_for_addresses_of_32_bits, \
+              "BH_DEFINE_HERE is for addresses of 32 bits: give BH_DEFINE a base"); \
+    BH_DEFINE_MEMORY(name, BH_HERE, pool_bytes)
+
+/* As the base of a struct: the pool's own address. (A compiler for 32 bits takes no address for a static uint64_t.) */
+#define BH_HERE 0
+
+#define BH_DEFINE_MEMORY(name, base, pool_bytes) \
+    BH_ASSERT_POOL(pool_bytes); \
     static BH_ALIGNED uint8_t name##_pool[pool_bytes]; \
     static uint8_t name##_table[BLOCKHEAP_TABLE_BYTES(pool_bytes)]; \
     static struct blockheap name = BH_OVER(base, name##_pool, name##_table)
 
 /*
- * As a base: the pool's own address. A heap address is then the address of the
- * block's bytes, and on a little-endian board a pointer in an object, or in a
- * list of roots, is a word as it is. For boards whose addresses have 32 bits:
- * elsewhere the pool's address may be too large, and is then refused as
- * BAD_SHAPE.
- */
-#define BH_HERE 0
-
-/*
- * The same as BH_DEFINE, at the pool's own address. (A board's compiler takes
- * no address for a number of 64 bits in static memory: hence BH_HERE.)
- */
-#define BH_DEFINE_HERE(name, pool_bytes) BH_DEFINE(name, BH_HERE, pool_bytes)
-
-/*
  * A heap in one area of memory, as large as it can be: the pool at its front,
  * the table behind it. Large objects lie at multiples of 64 bytes if the area
  * does. One of fewer than 66 bytes is too short: bh_init then answers BAD_SHAPE.
- * The base may be BH_HERE.
+ * The base may be BH_HERE; if the area's address has more than 32 bits, that is
+ * BAD_SHAPE too.
  */
 static inline struct blockheap bh_split(uint64_t base, uint8_t *area, size_t area_len)
 {
@@ -112,6 +140,35 @@ static inline uint64_t bh_base(const struct blockheap *heap)
 static inline uint64_t bh_t(const struct blockheap *heap)
 {
     return heap->t ? heap->t : BLOCKHEAP_T_OF_POOL(heap->pool_len);
+}
+
+/*
+ * Which rule of BAD_SHAPE is broken, as a text without a capital and a full
+ * stop, or a null pointer if none is. Every call but bh_open_image answers
+ * BAD_SHAPE exactly if one is: roots_len and stack_len are those that it was
+ * handed, 0 where it takes none. For bh_open_image the rules of the base are for
+ * the image's base, and t must be the image's (bh_image_t).
+ */
+static inline const char *bh_shape_fault(const struct blockheap *heap, size_t roots_len, size_t stack_len)
+{
+    uint64_t base = bh_base(heap), t = bh_t(heap);
+    if (t < 1 || t > BLOCKHEAP_MAX_T)
+        return "t is not 1 to 1,024: a pool has 64 to 65,536 bytes";
+    if (heap->pool_len != BLOCKHEAP_POOL_BYTES(t))
+        return "the pool's length is not 64 * t";
+    if (heap->table_len != BLOCKHEAP_TABLE_BYTES_OF_T(t))
+        return "the table's length is not t, rounded up to an even number";
+    if (base < BLOCKHEAP_MIN_BASE)
+        return "the base is below 16";
+    if (base % BLOCKHEAP_BLOCK_BYTES != 0)
+        return "the base is not a multiple of 16";
+    if (base > BH_ADDRESSES_END - heap->pool_len)
+        return "the base and the pool's length add up to more than 4,294,967,296";
+    if (roots_len % BLOCKHEAP_WORD_BYTES != 0)
+        return "the length of the root list is not a multiple of 4";
+    if (stack_len % BLOCKHEAP_WORD_BYTES != 0)
+        return "the length of the mark stack is not a multiple of 4";
+    return NULL;
 }
 
 /* ---- The calls ---- */
