@@ -224,6 +224,48 @@ static inline uint32_t bh_collect(const struct blockheap *heap, const uint8_t *r
                              change ? change : &no_change);
 }
 
+/* What bh_collect refuses of the lengths of its lists, whatever the heap. */
+static inline uint32_t bh_lists_refusal(size_t roots_len, size_t stack_len)
+{
+    if (roots_len % BLOCKHEAP_WORD_BYTES != 0 || stack_len % BLOCKHEAP_WORD_BYTES != 0)
+        return BLOCKHEAP_BAD_SHAPE;
+    if (roots_len > BLOCKHEAP_LIST_BYTES(BLOCKHEAP_MAX_ROOTS))
+        return BLOCKHEAP_TOO_MANY_ROOTS;
+    if (stack_len > BLOCKHEAP_LIST_BYTES(BLOCKHEAP_MAX_STACK_ENTRIES))
+        return BLOCKHEAP_STACK_TOO_LONG;
+    return BLOCKHEAP_OK;
+}
+
+/*
+ * Allocates. If there is no room it collects, and asks once more, as gc_alloc of
+ * MicroPython does. Roots and stack are those of bh_collect; what nothing leads
+ * to from them may be freed. `change` is that of both.
+ * Refusals, in this order: those of bh_collect for the lists, even if there is
+ * room, so that a wrong list shows at once; then those of bh_allocate. After
+ * NO_ROOM the collection stands, as after that of bh_log_append: `change` is the
+ * number of blocks that it freed, negated.
+ */
+static inline uint32_t bh_allocate_collecting(const struct blockheap *heap, uint64_t bytes,
+                                              const uint8_t *roots, size_t roots_len,
+                                              uint8_t *stack, size_t stack_len,
+                                              uint32_t *block, int32_t *change)
+{
+    uint32_t at = 0, refusal = bh_lists_refusal(roots_len, stack_len);
+    int32_t freed = 0, taken = 0;
+    if (!refusal)
+        refusal = bh_allocate(heap, bytes, &at, &taken);
+    if (refusal == BLOCKHEAP_NO_ROOM) {
+        refusal = bh_collect(heap, roots, roots_len, stack, stack_len, NULL, NULL, &freed);
+        if (!refusal)
+            refusal = bh_allocate(heap, bytes, &at, &taken);
+    }
+    if (block)
+        *block = at;
+    if (change)
+        *change = freed + taken;
+    return refusal;
+}
+
 static inline uint32_t bh_survey(const struct blockheap *heap,
                                  uint32_t *used, uint32_t *objects, uint32_t *longest)
 {
@@ -291,10 +333,9 @@ static inline uint32_t bh_open_image(struct blockheap *heap, const uint8_t *imag
  *
  *   struct bh_log log = {0};
  *   refusal = bh_log_append(&heap, &log, time, tips, roots, sizeof roots, stack, sizeof stack, NULL);
- *   for (index = 0; !bh_log_read(&heap, &log, index, &time, &tips); index++)
- *       printf("%u: %u\n", (unsigned)time, (unsigned)tips);
+ *   refusal = bh_log_read(&heap, &log, 0, &time, &tips);
  *
- * log.first must be among the roots of each collection but append's own.
+ * bh_log_next, below, reads one entry after the other. log.first must be among the roots of each collection but append's own.
  */
 struct bh_log {
     uint32_t first;
@@ -411,6 +452,141 @@ static inline uint32_t bh_get_word(const uint8_t *list, size_t index)
 {
     const uint8_t *at = list + BLOCKHEAP_LIST_BYTES(index);
     return at[0] | (uint32_t)at[1] << 8 | (uint32_t)at[2] << 16 | (uint32_t)at[3] << 24;
+}
+
+/* ---- One after the other: objects, free runs, entries of a log ---- */
+
+/* An object: the number of its head, and how many bytes its blocks have. */
+struct bh_object {
+    uint32_t block;
+    uint32_t bytes;
+};
+
+/*
+ * Goes to the next object of a heap, and answers whether there is one. One that
+ * is all 0 lies before the first:
+ *
+ *   struct bh_object object = {0, 0};
+ *   while (bh_walk(&heap, &object))
+ *       printf("%u: %u bytes\n", (unsigned)object.block, (unsigned)object.bytes);
+ *
+ * It only reads the table, of a heap that bh_survey accepts. Between two steps
+ * any calls may be made: the object at hand may be freed, and objects that are
+ * made before it are passed over.
+ */
+static inline int bh_walk(const struct blockheap *heap, struct bh_object *object)
+{
+    uint32_t block = object->block + object->bytes / BLOCKHEAP_BLOCK_BYTES;
+    while (block < bh_blocks(heap) && bh_entry(heap, block) != BLOCKHEAP_HEAD)
+        block++;
+    object->block = block;
+    object->bytes = bh_object_bytes(heap, block);
+    return object->bytes != 0;
+}
+
+/* Free blocks in a row, as many as there are: the number of the first, and how many. */
+struct bh_run {
+    uint32_t block;
+    uint32_t blocks;
+};
+
+/* The same of the runs of free blocks: goes to the next, and answers whether there is one. */
+static inline int bh_free_run(const struct blockheap *heap, struct bh_run *run)
+{
+    uint32_t block = run->block + run->blocks, end;
+    while (block < bh_blocks(heap) && bh_entry(heap, block) != BLOCKHEAP_FREE)
+        block++;
+    end = block;
+    while (end < bh_blocks(heap) && bh_entry(heap, end) == BLOCKHEAP_FREE)
+        end++;
+    run->block = block;
+    run->blocks = end - block;
+    return run->blocks != 0;
+}
+
+/*
+ * Why is there no room? Counts the runs of free blocks by their length:
+ * counts[b] are those of b blocks, and the last count is of all that are as long
+ * or longer. An object of four blocks or more needs an aligned run: where one of
+ * as many blocks is found and there is no room, bh_free_run says where it is.
+ * Refusals: those of bh_survey; all counts are 0 then.
+ *
+ *   uint32_t counts[9];        counts[8]: runs of eight blocks or more
+ *   refusal = bh_free_runs(&heap, counts, 9);
+ */
+static inline uint32_t bh_free_runs(const struct blockheap *heap, uint32_t *counts, size_t length)
+{
+    struct bh_run run = {0, 0};
+    uint32_t refusal = bh_survey(heap, NULL, NULL, NULL);
+    size_t at;
+    for (at = 0; at < length; at++)
+        counts[at] = 0;
+    while (!refusal && length != 0 && bh_free_run(heap, &run))
+        counts[run.blocks < length ? run.blocks : length - 1]++;
+    return refusal;
+}
+
+/* Where a reading of a log is: the address of the entry that was read last, and how many were. */
+struct bh_log_cursor {
+    uint32_t entry;
+    uint32_t count;
+};
+
+/* Whether an address is that of an object as long as an entry of a log. */
+static inline int bh_may_be_entry(const struct blockheap *heap, uint32_t address)
+{
+    return bh_object_bytes(heap, bh_block(heap, address)) == BLOCKHEAP_LOG_ENTRY_BYTES;
+}
+
+/* From the entry that was read last to the next: its address. Refuses as bh_log_read does. */
+static inline uint32_t bh_log_step(const struct blockheap *heap, const struct bh_log_cursor *cursor, uint32_t *next)
+{
+    uint32_t refusal = bh_load(heap, bh_block(heap, cursor->entry), 0, next);
+    if (refusal == BLOCKHEAP_BAD_SHAPE || refusal == BLOCKHEAP_BAD_TABLE)
+        return refusal;
+    if (refusal || !bh_may_be_entry(heap, cursor->entry))
+        return BLOCKHEAP_NO_LOG;
+    if (*next == 0)
+        return BLOCKHEAP_NO_ENTRY;
+    /* So many entries have no room in the heap: they are a ring. */
+    if (!bh_may_be_entry(heap, *next) || cursor->count >= bh_blocks(heap) / 2)
+        return BLOCKHEAP_NO_LOG;
+    return BLOCKHEAP_OK;
+}
+
+/*
+ * Reads a log from its oldest entry on, one entry a call. A cursor that is all 0
+ * stands before the oldest:
+ *
+ *   struct bh_log_cursor at = {0, 0};
+ *   while (!bh_log_next(&heap, &log, &at, &time, &tips))
+ *       printf("%u: %u\n", (unsigned)time, (unsigned)tips);
+ *
+ * Call k, counted from 0, answers what bh_log_read answers for index k, but only
+ * the first goes through the whole log; the others cost the same for each entry.
+ * Behind the last entry it is NO_ENTRY, and the cursor stays: after an append,
+ * the call reads what was appended. Between two calls the log may be appended to
+ * and collected with, and not be changed otherwise. If it is, what is no entry
+ * of a log is refused as NO_LOG when the cursor comes to it, and a ring in the
+ * end.
+ */
+static inline uint32_t bh_log_next(const struct blockheap *heap, const struct bh_log *log,
+                                   struct bh_log_cursor *cursor, uint32_t *time, uint32_t *tips)
+{
+    uint32_t entry = log->first, got_time = 0, got_tips = 0;
+    uint32_t refusal = cursor->count == 0 ? bh_log_read(heap, log, 0, NULL, NULL) : bh_log_step(heap, cursor, &entry);
+    if (!refusal) {
+        const uint8_t *words = bh_pointer(heap, bh_block(heap, entry));
+        got_time = bh_get_word(words, 1);
+        got_tips = bh_get_word(words, 2);
+        cursor->entry = entry;
+        cursor->count++;
+    }
+    if (time)
+        *time = got_time;
+    if (tips)
+        *tips = got_tips;
+    return refusal;
 }
 
 /* ---- Refusals ---- */

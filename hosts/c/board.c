@@ -24,24 +24,13 @@ static struct {
 } held;
 
 enum { MINUTES = 100, KEPT_MINUTES = 10 };
-static unsigned collections;
 
-static void collect(void)
-{
-    uint8_t stack[BLOCKHEAP_LIST_BYTES(16)];
-    must(bh_collect(&heap, (const uint8_t *)&held, sizeof held, stack, sizeof stack, NULL, NULL, NULL));
-    collections++;
-}
-
-/* Memory for an object, all 0. If there is no room it collects, and asks once more. */
+/* Memory for an object, all 0. Makes room by a collection if there is none. */
 static void *allocate(size_t bytes)
 {
-    uint32_t block, refusal = bh_allocate(&heap, bytes, &block, NULL);
-    if (refusal == BLOCKHEAP_NO_ROOM) {
-        collect();
-        refusal = bh_allocate(&heap, bytes, &block, NULL);
-    }
-    must(refusal);
+    uint8_t stack[BLOCKHEAP_LIST_BYTES(16)];
+    uint32_t block;
+    must(bh_allocate_collecting(&heap, bytes, (const uint8_t *)&held, sizeof held, stack, sizeof stack, &block, NULL));
     return bh_pointer(&heap, block);
 }
 
@@ -84,21 +73,35 @@ static bool minutes_are_right(void)
     return right && time == MINUTES - KEPT_MINUTES;
 }
 
+/* What the heap holds, garbage with it, and which room is left. */
+static void show_heap(void)
+{
+    struct bh_object object = {0, 0};
+    uint32_t runs[4];
+    unsigned minutes = 0, messages = 0;
+    while (bh_walk(&heap, &object))
+        if (object.bytes == BLOCKHEAP_BLOCK_BYTES)
+            minutes++;
+        else
+            messages++;
+    must(bh_free_runs(&heap, runs, 4));
+    printf("objects: %u minutes and %u messages\n", minutes, messages);
+    printf("free runs: %u of one block, %u of two, %u of three or more\n", (unsigned)runs[1], (unsigned)runs[2],
+           (unsigned)runs[3]);
+}
+
 int main(void)
 {
-    uint32_t used;
     must(bh_init(&heap));
     for (uint32_t time = 1; time <= MINUTES; time++) {
         note_minute(time, time % 7);
         forget_old_minutes();
         write_message(time);
     }
-    collect();
-    must(bh_survey(&heap, &used, NULL, NULL));
+    show_heap();
 
     bool here = bh_address(&heap, 0) == (uintptr_t)heap.pool, right = minutes_are_right();
     printf("the heap lies at its pool's own address: %s\n", here ? "yes" : "NO");
-    printf("%s, collections %u, used blocks %u\n", held.message, collections, (unsigned)used);
-    printf("the last %u minutes are %s\n", KEPT_MINUTES, right ? "there, and right" : "WRONG");
+    printf("%s: the last %u are %s\n", held.message, KEPT_MINUTES, right ? "there, and right" : "WRONG");
     return !here || !right;
 }

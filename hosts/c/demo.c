@@ -154,14 +154,15 @@ static void start_logger(void)
 /* Whether a log has exactly the entries that it should have. Answers their tips too. */
 static bool log_is_right(const struct blockheap *of, const struct bh_log *log, uint32_t *sum)
 {
-    uint32_t time, tips, index;
+    struct bh_log_cursor at = {0, 0};
+    uint32_t time, tips, minute = oldest;
     bool right = true;
     *sum = 0;
-    for (index = 0; bh_log_read(of, log, index, &time, &tips) == BLOCKHEAP_OK; index++) {
-        right = right && time == 60 * (oldest + index) && tips == tips_in(oldest + index);
+    for (; bh_log_next(of, log, &at, &time, &tips) == BLOCKHEAP_OK; minute++) {
+        right = right && time == 60 * minute && tips == tips_in(minute);
         *sum += tips;
     }
-    return right && index == now - oldest;
+    return right && minute == now;
 }
 
 static void say_log(const struct blockheap *of, const struct bh_log *log)
@@ -276,11 +277,12 @@ static uint8_t opened_roots[BLOCKHEAP_LIST_BYTES(BLOCKHEAP_MAX_ROOTS)];
 /* Reads the station's record, to which the first root leads, and the log, whose first address is the second. */
 static void read_opened(const struct blockheap *opened, const struct bh_log *log)
 {
+    struct bh_log_cursor at = {0, 0};
     uint32_t record = bh_block(opened, bh_get_word(opened_roots, 0)), number, time, tips;
     must(bh_load(opened, record, STATION_NUMBER, &number));
     printf("  station %u, times and tips:", (unsigned)number);
-    for (uint32_t index = 0; bh_log_read(opened, log, index, &time, &tips) == BLOCKHEAP_OK; index++)
-        printf(" %u %u%s", (unsigned)time, (unsigned)tips, index + 1 < now - oldest ? "," : "");
+    while (bh_log_next(opened, log, &at, &time, &tips) == BLOCKHEAP_OK)
+        printf(" %u %u%s", (unsigned)time, (unsigned)tips, at.count < now - oldest ? "," : "");
     putchar('\n');
 }
 
