@@ -3,7 +3,7 @@
 //! This reads the sections anew, for the sake of the explanation alone: whether a file is refused, and by
 //! which number, is the library's to say.
 
-use blockheap::Refusal;
+use blockheap::{Refusal, ShapeFault};
 use blockheap::{BLOCK_BYTES, MAX_ROOTS, MAX_T, MIN_BASE, WORD_BYTES};
 use std::fmt;
 
@@ -168,17 +168,17 @@ impl<'f> Reader<'f> {
 fn check_base(section: &Section, t: usize) -> Result<(), Fault> {
     let base = section.items.iter().rev().fold(0, |word, byte| 256 * word + u64::from(*byte));
     let highest = (1 << 32) - 64 * t as u64;
-    let must_be = if base % BLOCK_BYTES as u64 != 0 {
-        format!("a multiple of {BLOCK_BYTES}")
+    let (fault, must_be) = if base % BLOCK_BYTES as u64 != 0 {
+        (ShapeFault::BaseUnaligned, format!("a multiple of {BLOCK_BYTES}"))
     } else if base < MIN_BASE.word().into() {
-        format!("at least {}", MIN_BASE.word())
+        (ShapeFault::BaseTooLow, format!("at least {}", MIN_BASE.word()))
     } else if base > highest {
-        format!("at most {highest:#010x}, as t is {t}")
+        (ShapeFault::PoolEnd, format!("at most {highest:#010x}, as t is {t}"))
     } else {
         return Ok(());
     };
     let what = format!("the base is {base:#010x}, and must be {must_be}");
-    Err(Fault { refusal: Refusal::BadShape, byte: section.byte_of(0), what })
+    Err(Fault { refusal: Refusal::BadShape(fault), byte: section.byte_of(0), what })
 }
 
 /// The entries of blocks, as the table of an image numbers them.

@@ -1,4 +1,4 @@
-use crate::{raw, Refusal};
+use crate::{raw, Refusal, ShapeFault};
 use core::fmt;
 
 /// An address as words in the pool spell it. [`Heap::address_of`](crate::Heap::address_of) and
@@ -38,7 +38,7 @@ impl Address {
     /// # Errors
     /// [`Refusal::BadShape`] if the number of bytes is not divisible by four.
     pub fn all_in(bytes: &[u8]) -> Result<&[Address], Refusal> {
-        raw::addresses(bytes).ok_or(Refusal::BadShape)
+        raw::addresses(bytes).ok_or(Refusal::BadShape(ShapeFault::ListBytes))
     }
 
     /// The same, to write: a list for the roots of an image.
@@ -46,7 +46,7 @@ impl Address {
     /// # Errors
     /// As [`Address::all_in`].
     pub fn all_in_mut(bytes: &mut [u8]) -> Result<&mut [Address], Refusal> {
-        raw::addresses_mut(bytes).ok_or(Refusal::BadShape)
+        raw::addresses_mut(bytes).ok_or(Refusal::BadShape(ShapeFault::ListBytes))
     }
 }
 

@@ -1,6 +1,6 @@
 use crate::raw::Lent;
 use crate::{image_bytes, BLOCK_BYTES, WORDS_PER_BLOCK};
-use crate::{Address, Block, Collected, MarkEntry, Opened, Placed, Refusal, Survey};
+use crate::{Address, Block, Collected, MarkEntry, Opened, Placed, Refusal, ShapeFault, Survey};
 use core::ops::Range;
 
 /// A heap in lent memory.
@@ -20,11 +20,11 @@ impl<'m> Heap<'m> {
     /// [`table_bytes(t)`](crate::table_bytes). [`Memory`](crate::Memory) has both.
     ///
     /// ```
-    /// # use blockheap::{pool_bytes, table_bytes, Address, Heap, Refusal};
+    /// # use blockheap::{pool_bytes, table_bytes, Address, Heap, Refusal, ShapeFault};
     /// let (mut pool, mut table) = ([0; pool_bytes(3)], [0; table_bytes(3)]);
     /// assert!(Heap::init(Address::from_word(4096), &mut pool, &mut table).is_ok());
     /// let odd = Heap::init(Address::from_word(4097), &mut pool, &mut table);
-    /// assert_eq!(odd.err(), Some(Refusal::BadShape));
+    /// assert_eq!(odd.err(), Some(Refusal::BadShape(ShapeFault::BaseUnaligned)));
     /// ```
     ///
     /// # Errors
@@ -304,7 +304,9 @@ impl<'m> Heap<'m> {
             return Err(Refusal::NoSuchBlock);
         }
         let address = u64::from(self.base().word()) + BLOCK_BYTES as u64 * block.number();
-        u32::try_from(address).map(Address::from_word).map_err(|_| Refusal::BadShape)
+        u32::try_from(address)
+            .map(Address::from_word)
+            .map_err(|_| Refusal::BadShape(ShapeFault::PoolEnd))
     }
 
     /// The block that has this address, used or free. No block has an address outside of the pool or

@@ -13,7 +13,7 @@
 //! A [`Log`] is a list of times and tip counts in a heap, each entry an object of its own.
 //!
 //! All unsafe code is in the module [`raw`]. A call panics only if the archive answers a number that
-//! is no refusal's, as one of another version may.
+//! is no refusal's, or a bad shape where no rule is broken, as one of another version may.
 
 #![no_std]
 #![deny(missing_docs, unsafe_code, clippy::missing_errors_doc)]
@@ -28,6 +28,7 @@ mod memory;
 #[allow(unsafe_code)]
 pub mod raw;
 mod refusal;
+mod shape;
 mod sizes;
 
 pub use address::Address;
@@ -38,4 +39,5 @@ pub use log::{Entry, Log, NotAppended};
 pub use mark_entry::MarkEntry;
 pub use memory::Memory;
 pub use refusal::Refusal;
+pub use shape::ShapeFault;
 pub use sizes::*;

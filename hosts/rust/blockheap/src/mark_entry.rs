@@ -1,4 +1,4 @@
-use crate::{raw, Refusal};
+use crate::{raw, Refusal, ShapeFault};
 
 /// An entry of the mark stack, the working memory of a collection. An array of them is lent to
 /// [`Heap::collect`](crate::Heap::collect).
@@ -21,6 +21,6 @@ impl MarkEntry {
     /// # Errors
     /// [`Refusal::BadShape`] if the number of bytes is not divisible by four.
     pub fn all_in(bytes: &mut [u8]) -> Result<&mut [MarkEntry], Refusal> {
-        raw::mark_entries(bytes).ok_or(Refusal::BadShape)
+        raw::mark_entries(bytes).ok_or(Refusal::BadShape(ShapeFault::ListBytes))
     }
 }

@@ -1,7 +1,19 @@
 use crate::raw::TableBytes;
-use crate::{pool_bytes, Address, Heap, Opened, Refusal};
+use crate::{pool_bytes, Address, Heap, Opened, Refusal, MAX_T};
 
-/// All the memory that a heap of `4 * T` blocks wants, with `T` from 1 to 1,024.
+/// All the memory that a heap of `4 * T` blocks wants, with `T` from 1 to 1,024. Another `T` does not compile:
+///
+/// ```
+/// static HEAP: blockheap::Memory<1024> = blockheap::Memory::new();
+/// ```
+///
+/// ```compile_fail
+/// static HEAP: blockheap::Memory<1025> = blockheap::Memory::new(); // t is not 1 to 1,024
+/// ```
+///
+/// ```compile_fail
+/// static HEAP: blockheap::Memory<0> = blockheap::Memory::new(); // t is not 1 to 1,024
+/// ```
 ///
 /// Who lends a `Memory` need not change when a heap wants more than a pool and a table. The pool lies at a
 /// multiple of 64, and so do the bytes of large objects.
@@ -15,6 +27,7 @@ pub struct Memory<const T: usize> {
 impl<const T: usize> Memory<T> {
     /// Cleared memory.
     pub const fn new() -> Self {
+        const { assert!(1 <= T && T <= MAX_T, "t is not 1 to 1,024") };
         Memory { pool: [[0; pool_bytes(1)]; T], table: TableBytes::ZERO }
     }
 

@@ -3,9 +3,8 @@
 //! # Safety
 //! Each call asks of its caller what the header does under "What the caller ensures".
 
-use crate::refusal::check;
 use crate::{pool_bytes, table_bytes, WORD_BYTES};
-use crate::{Address, Entry, MarkEntry, NotAppended, Refusal};
+use crate::{Address, Entry, MarkEntry, NotAppended, Refusal, ShapeFault};
 use core::slice::{from_raw_parts, from_raw_parts_mut};
 
 /// Declares calls: whether each may write pool and table, then its own arguments and answers.
@@ -119,8 +118,17 @@ macro_rules! hand_over {
         let (pool_len, table_len) = ($lent.pool.len(), $lent.table.len());
         let t = $lent.t() as u64;
         let (pool, table) = (pointer!($pool $lent.pool), pointer!($table $lent.table));
-        check(unsafe { $call(base, t, pool, pool_len, table, table_len $(, $argument)*) })
+        let number = unsafe { $call(base, t, pool, pool_len, table, table_len $(, $argument)*) };
+        check(number, || ShapeFault::of($lent.base, pool_len, table_len))
     }};
+}
+
+/// Turns the library's number into a result; of a bad shape, with its fault.
+fn check(number: u32, fault: impl FnOnce() -> Option<ShapeFault>) -> Result<(), Refusal> {
+    match number {
+        0 => Ok(()),
+        _ => Err(Refusal::of_library(number, fault())),
+    }
 }
 
 impl Lent<'_> {
@@ -244,7 +252,7 @@ impl Lent<'_> {
         let (pool, table) = (self.pool.as_mut_ptr(), self.table.as_mut_ptr());
         let (entries, roots_len) = (roots.as_mut_ptr().cast(), size_of_val(roots));
         // As hand_over does, and the image overlaps nothing that is lent to be written.
-        check(unsafe {
+        let number = unsafe {
             blockheap_open_image(
                 image.as_ptr(),
                 image.len(),
@@ -258,7 +266,8 @@ impl Lent<'_> {
                 &mut base,
                 &mut count,
             )
-        })?;
+        };
+        check(number, || ShapeFault::of_opening(image, pool_len, table_len))?;
         self.base = Address::from_word(base);
         Ok(count)
     }

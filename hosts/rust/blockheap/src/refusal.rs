@@ -1,3 +1,4 @@
+use crate::ShapeFault;
 use core::fmt;
 
 /// Why a call was refused: of several reasons, the one with the lowest number, except by
@@ -8,46 +9,53 @@ use core::fmt;
 #[non_exhaustive]
 pub enum Refusal {
     /// The lengths of pool and table or the base do not fit, each other or an image, or a number of bytes
-    /// is not divisible by four.
-    BadShape = 1,
+    /// is not divisible by four: it has the rule that is broken.
+    BadShape(ShapeFault),
     /// The table has a mark, a tail at block 0 or after a free block, or a spare bit that is 1.
-    BadTable = 2,
+    BadTable,
     /// There are more than 4,096 roots; of an append, more than 4,095.
-    TooManyRoots = 3,
+    TooManyRoots,
     /// The mark stack has more than 64 entries.
-    StackTooLong = 4,
+    StackTooLong,
     /// The request is for 0 bytes.
-    ZeroBytes = 5,
+    ZeroBytes,
     /// The pool has no such block.
-    NoSuchBlock = 6,
+    NoSuchBlock,
     /// The block is free or a tail.
-    NotAHead = 7,
+    NotAHead,
     /// The word is not inside the object.
-    NoSuchWord = 8,
+    NoSuchWord,
     /// No run of free blocks is long enough and aligned: four blocks or more begin at a multiple of four. An
     /// append has collected once.
-    NoRoom = 9,
+    NoRoom,
     /// The buffer for an image is shorter than the image.
-    OutputTooShort = 10,
+    OutputTooShort,
     /// The image ends inside a count or inside a section's items.
-    ImageTruncated = 14,
+    ImageTruncated,
     /// A count in the image is not what it must be.
-    BadCount = 15,
+    BadCount,
     /// Bytes follow behind the image's last section.
-    TrailingBytes = 16,
+    TrailingBytes,
     /// The lent list of roots has fewer entries than the image has roots.
-    RootsTooShort = 17,
+    RootsTooShort,
     /// The first address is not 0, and no chain of head addresses of two-block objects leads from it, without
     /// repetition, to a next word of 0.
-    NoLog = 18,
+    NoLog,
     /// The log has no such entry.
-    NoEntry = 19,
+    NoEntry,
 }
 
 impl Refusal {
-    /// Every refusal, in the order of the numbers.
+    /// Every refusal, in the order of the numbers, [`BadShape`](Refusal::BadShape) with each fault.
     pub const ALL: &'static [Refusal] = &[
-        Refusal::BadShape,
+        Refusal::BadShape(ShapeFault::ListBytes),
+        Refusal::BadShape(ShapeFault::ImageT),
+        Refusal::BadShape(ShapeFault::BaseUnaligned),
+        Refusal::BadShape(ShapeFault::BaseTooLow),
+        Refusal::BadShape(ShapeFault::T),
+        Refusal::BadShape(ShapeFault::PoolBytes),
+        Refusal::BadShape(ShapeFault::TableBytes),
+        Refusal::BadShape(ShapeFault::PoolEnd),
         Refusal::BadTable,
         Refusal::TooManyRoots,
         Refusal::StackTooLong,
@@ -67,54 +75,53 @@ impl Refusal {
 
     /// Its number in `include/blockheap.h`.
     pub const fn number(self) -> u32 {
-        self as u32
+        self.parts().0
     }
 
-    fn reason(self) -> &'static str {
+    /// The refusal that the library means by a number, where the shape has this fault or none.
+    pub(crate) fn of_library(number: u32, fault: Option<ShapeFault>) -> Refusal {
+        let known = match number {
+            BAD_SHAPE => fault.map(Refusal::BadShape),
+            _ => Refusal::ALL.iter().copied().find(|refusal| refusal.number() == number),
+        };
+        known.unwrap_or_else(|| panic!("the library answered {number}, and there is no such fault"))
+    }
+
+    /// Its number and its reason.
+    const fn parts(self) -> (u32, &'static str) {
         match self {
-            Refusal::BadShape => {
-                "the pool must have 64 * t bytes, with t from 1 to 1,024, the table t bytes, rounded up \
-                 to an even number, the base must be a multiple of 16, at least 16, with the pool's \
-                 end at most 4,294,967,296, roots and mark stack must have four bytes to an entry, and \
-                 an image must have the t of the pool"
-            }
-            Refusal::BadTable => {
-                "the table has a mark, a tail at block 0 or after a free block, or a spare bit that is 1"
-            }
+            Refusal::BadShape(fault) => (BAD_SHAPE, fault.reason()),
+            Refusal::BadTable => (
+                2,
+                "the table has a mark, a tail at block 0 or after a free block, or a spare bit that is 1",
+            ),
             Refusal::TooManyRoots => {
-                "there are more than 4,096 root words, a log's first address among them"
+                (3, "there are more than 4,096 root words, a log's first address among them")
             }
-            Refusal::StackTooLong => "the mark stack has more than 64 entries",
-            Refusal::ZeroBytes => "a request must be for at least one byte",
-            Refusal::NoSuchBlock => "the block number lies outside the pool",
-            Refusal::NotAHead => "the block is not the head of an object",
-            Refusal::NoSuchWord => "the word lies outside the object",
-            Refusal::NoRoom => "no aligned run of free blocks is long enough",
-            Refusal::OutputTooShort => "the buffer is shorter than the image",
-            Refusal::ImageTruncated => "the image ends inside a section",
-            Refusal::BadCount => "a count in the image is wrong",
-            Refusal::TrailingBytes => "bytes follow behind the image",
-            Refusal::RootsTooShort => "the list is too short for the image's roots",
-            Refusal::NoLog => "no log begins at the first address",
-            Refusal::NoEntry => "the log has no such entry",
+            Refusal::StackTooLong => (4, "the mark stack has more than 64 entries"),
+            Refusal::ZeroBytes => (5, "a request must be for at least one byte"),
+            Refusal::NoSuchBlock => (6, "the block number lies outside the pool"),
+            Refusal::NotAHead => (7, "the block is not the head of an object"),
+            Refusal::NoSuchWord => (8, "the word lies outside the object"),
+            Refusal::NoRoom => (9, "no aligned run of free blocks is long enough"),
+            Refusal::OutputTooShort => (10, "the buffer is shorter than the image"),
+            Refusal::ImageTruncated => (14, "the image ends inside a section"),
+            Refusal::BadCount => (15, "a count in the image is wrong"),
+            Refusal::TrailingBytes => (16, "bytes follow behind the image"),
+            Refusal::RootsTooShort => (17, "the list is too short for the image's roots"),
+            Refusal::NoLog => (18, "no log begins at the first address"),
+            Refusal::NoEntry => (19, "the log has no such entry"),
         }
     }
 }
 
+const BAD_SHAPE: u32 = 1;
+
 impl fmt::Display for Refusal {
     fn fmt(&self, f: &mut fmt::Formatter<'_>) -> fmt::Result {
-        write!(f, "refused ({}): {}", self.number(), self.reason())
+        let (number, reason) = self.parts();
+        write!(f, "refused ({number}): {reason}")
     }
 }
 
 impl core::error::Error for Refusal {}
-
-/// Turns the library's number into a result.
-pub(crate) fn check(number: u32) -> Result<(), Refusal> {
-    if number == 0 {
-        return Ok(());
-    }
-    let known = Refusal::ALL.iter().find(|refusal| refusal.number() == number);
-    Err(*known
-        .unwrap_or_else(|| panic!("the library answered {number}, which is no refusal number")))
-}

@@ -67,11 +67,18 @@ fn in_capitals(name: &str) -> String {
     letters.collect()
 }
 
+/// The name of a refusal in the header, without what it has beside.
+fn name_of(refusal: &blockheap::Refusal) -> String {
+    let text = format!("{refusal:?}");
+    in_capitals(text.split('(').next().unwrap_or(&text))
+}
+
 #[test]
 fn the_refusals_are_the_headers() {
     let all = blockheap::Refusal::ALL.iter();
-    let named = all.map(|refusal| (in_capitals(&format!("{refusal:?}")), refusal.number()));
-    assert_eq!(named.collect::<Vec<_>>(), refusals());
+    let mut named: Vec<_> = all.map(|refusal| (name_of(refusal), refusal.number())).collect();
+    named.dedup(); // a bad shape has one name, whatever its fault
+    assert_eq!(named, refusals());
 }
 
 #[test]

@@ -2,7 +2,7 @@
 
 use blockheap::{full_image_bytes, image_t, pool_bytes, table_bytes, MAX_LOG_ROOTS, MAX_ROOTS};
 use blockheap::{Address, Block, Heap, MarkEntry, Memory, Placed, Refusal, Survey};
-use blockheap::{Entry, Log, NotAppended};
+use blockheap::{Entry, Log, NotAppended, ShapeFault};
 
 const BASE: Address = Address::from_word(4096);
 
@@ -120,7 +120,10 @@ fn blocks_and_addresses_lead_to_each_other() -> Result<(), Refusal> {
     let heap = memory.resume(BASE);
     assert_eq!(heap.block_at(Address::from_word(4096 + 64)), None);
     let too_high = memory.resume(Address::from_word(0xFFFF_FFF0));
-    assert_eq!(too_high.address_of(Block::from_number(1)), Err(Refusal::BadShape));
+    assert_eq!(
+        too_high.address_of(Block::from_number(1)),
+        Err(Refusal::BadShape(ShapeFault::PoolEnd))
+    );
     Ok(())
 }
 
@@ -135,10 +138,11 @@ fn roots_and_mark_stack_may_be_bytes() -> Result<(), Refusal> {
     Address::all_in_mut(&mut bytes)?[1] = Address::from_word(0x2000_0000);
     assert_eq!(bytes, [0, 16, 0, 0, 0, 0, 0, 32]);
     assert_eq!(MarkEntry::all_in(&mut [0; 8])?, [MarkEntry::EMPTY; 2]);
+    let pieces = Refusal::BadShape(ShapeFault::ListBytes);
     for bytes in 1..4 {
-        assert_eq!(Address::all_in(&[0; 4][..bytes]), Err(Refusal::BadShape));
-        assert_eq!(Address::all_in_mut(&mut [0; 4][..bytes]), Err(Refusal::BadShape));
-        assert_eq!(MarkEntry::all_in(&mut [0; 4][..bytes]), Err(Refusal::BadShape));
+        assert_eq!(Address::all_in(&[0; 4][..bytes]), Err(pieces));
+        assert_eq!(Address::all_in_mut(&mut [0; 4][..bytes]), Err(pieces));
+        assert_eq!(MarkEntry::all_in(&mut [0; 4][..bytes]), Err(pieces));
     }
     Ok(())
 }
@@ -246,7 +250,7 @@ fn what_is_no_image_is_refused_and_changes_nothing() {
         (changed(9, 2), Refusal::BadCount),
         (changed(28, 17), Refusal::TooManyRoots),
         ([&ONE_BLOCK[..], &[0]].concat(), Refusal::TrailingBytes),
-        (changed(2, 1), Refusal::BadShape),
+        (changed(2, 1), Refusal::BadShape(ShapeFault::BaseUnaligned)),
         (changed(8, 2), Refusal::BadTable),
         (changed(8, 3), Refusal::BadTable),
         (ONE_BLOCK.to_vec(), Refusal::RootsTooShort),
@@ -262,9 +266,9 @@ fn what_is_no_image_is_refused_and_changes_nothing() {
 fn an_image_of_another_size_is_refused() {
     let mut roots = [Address::NULL; 1];
     let larger = Memory::<2>::new().open_image(&ONE_BLOCK, &mut roots).err();
-    assert_eq!(larger, Some(Refusal::BadShape));
-    let none = Memory::<0>::new().open_image(&ONE_BLOCK, &mut roots).err();
-    assert_eq!(none, Some(Refusal::BadShape));
+    assert_eq!(larger, Some(Refusal::BadShape(ShapeFault::ImageT)));
+    let none = Heap::open_image(&ONE_BLOCK, &mut [], &mut [], &mut roots).err();
+    assert_eq!(none, Some(Refusal::BadShape(ShapeFault::ImageT)));
     assert_eq!(roots, [Address::NULL]);
 }
 
@@ -431,25 +435,35 @@ fn each_refusal_says_what_is_wrong() {
         assert!(text.starts_with(&format!("refused ({}): ", refusal.number())), "{text}");
         assert!(!texts[..index].contains(text), "{text}");
     }
-    let numbers: Vec<u32> = Refusal::ALL.iter().map(|refusal| refusal.number()).collect();
+    let mut numbers: Vec<u32> = Refusal::ALL.iter().map(|refusal| refusal.number()).collect();
+    numbers.dedup();
     assert_eq!(numbers, (1..=10).chain(14..=19).collect::<Vec<u32>>());
     let no_room = "refused (9): no aligned run of free blocks is long enough";
     assert_eq!(Refusal::NoRoom.to_string(), no_room);
 }
 
 #[test]
-fn heaps_that_do_not_fit_are_refused() {
-    let (mut pool, mut table) = ([0; 64], [0; 2]);
-    let misplaced = Heap::init(Address::from_word(4097), &mut pool, &mut table);
-    assert_eq!(misplaced.err(), Some(Refusal::BadShape));
-    let short = Heap::init(BASE, &mut pool[1..], &mut table);
-    assert_eq!(short.err(), Some(Refusal::BadShape));
-    let short_table = Heap::init(BASE, &mut pool, &mut table[1..]);
-    assert_eq!(short_table.err(), Some(Refusal::BadShape));
-    assert_eq!(Memory::<0>::new().init(BASE).err(), Some(Refusal::BadShape));
-    assert_eq!(Memory::<1025>::new().init(BASE).err(), Some(Refusal::BadShape));
-    for table in [[0x01, 0x01], [0x00, 0x01], [0x11, 0x00], [0x01, 0x80]] {
-        let damaged = Heap::resume(BASE, &mut pool, &mut table.clone()).survey();
+fn each_fault_of_a_shape_names_the_rule() {
+    for (fault, rule) in [
+        (ShapeFault::BaseUnaligned, "base is no multiple of 16"),
+        (ShapeFault::BaseTooLow, "base is below 16"),
+        (ShapeFault::T, "t is not 1 to 1,024"),
+        (ShapeFault::PoolBytes, "pool is not 64 * t bytes"),
+        (ShapeFault::TableBytes, "table is not 2 * ceil(t / 2) bytes"),
+        (ShapeFault::PoolEnd, "pool ends beyond 2^32"),
+        (ShapeFault::ImageT, "image is of another t than the pool"),
+        (ShapeFault::ListBytes, "roots or mark stack are not 4 bytes to an entry"),
+    ] {
+        assert_eq!(fault.to_string(), rule);
+        assert_eq!(Refusal::BadShape(fault).to_string(), format!("refused (1): {rule}"));
+    }
+}
+
+#[test]
+fn damaged_tables_are_refused() {
+    let mut pool = [0; 64];
+    for mut table in [[0x01, 0x01], [0x00, 0x01], [0x11, 0x00], [0x01, 0x80]] {
+        let damaged = Heap::resume(BASE, &mut pool, &mut table).survey();
         assert_eq!(damaged, Err(Refusal::BadTable), "{table:?}");
     }
 }

@@ -2,7 +2,7 @@
 
 use crate::Buffer::{self, Image, Roots, Stack};
 use crate::{Call, Lent, Reply};
-use blockheap::{raw, Address, Block, Heap, Log, MarkEntry, NotAppended};
+use blockheap::{raw, Address, Block, Heap, Log, MarkEntry, NotAppended, ShapeFault};
 use listheap::{Appended, Dropped, Entry, File, ListHeap, Refusal};
 
 /// A heap under test.
@@ -179,11 +179,12 @@ fn log_from(first: u64) -> Log {
 }
 
 fn on_wrapper(call: &Call, lent: &mut Lent) -> Result<Vec<i64>, Refused> {
-    let word = u32::try_from(lent.base).map_err(|_| blockheap::Refusal::BadShape)?;
+    let no_place = blockheap::Refusal::BadShape;
+    let word = u32::try_from(lent.base).map_err(|_| no_place(ShapeFault::PoolEnd))?;
     let (base, at) = (Address::from_word(word), Block::from_number);
     let [pool, table, roots, stack, image] = &mut lent.buffers;
     if lent.t != pool.len() as u64 / 64 {
-        return Err(blockheap::Refusal::BadShape.into());
+        return Err(no_place(ShapeFault::PoolBytes).into());
     }
     let mut heap = Heap::resume(base, pool, table);
     let placed =
