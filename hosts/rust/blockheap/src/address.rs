@@ -8,7 +8,9 @@ use core::fmt;
 ///
 /// ```
 /// # use blockheap::Address;
-/// assert_eq!(Address::from_word(4096).word(), 4096);
+/// let base = Address::from(0x2000_0000);
+/// assert_eq!(base.word(), 0x2000_0000);
+/// assert_eq!(base.to_string(), "0x20000000");
 /// ```
 #[derive(Clone, Copy, PartialEq, Eq, Hash)]
 #[repr(transparent)]
@@ -47,6 +49,20 @@ impl Address {
     /// As [`Address::all_in`].
     pub fn all_in_mut(bytes: &mut [u8]) -> Result<&mut [Address], Refusal> {
         raw::addresses_mut(bytes).ok_or(Refusal::BadShape(ShapeFault::ListBytes))
+    }
+}
+
+impl From<u32> for Address {
+    /// The same as [`Address::from_word`].
+    fn from(word: u32) -> Address {
+        Address::from_word(word)
+    }
+}
+
+impl fmt::Display for Address {
+    /// All eight digits.
+    fn fmt(&self, f: &mut fmt::Formatter<'_>) -> fmt::Result {
+        write!(f, "{:#010x}", self.word())
     }
 }
 

@@ -12,7 +12,7 @@ pub struct Placed {
 
 impl Placed {
     pub(crate) fn new((block, change): (u32, i32)) -> Placed {
-        Placed { block: Block::from_number(block.into()), change }
+        Placed { block: block.into(), change }
     }
 }
 

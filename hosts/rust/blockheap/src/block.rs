@@ -1,9 +1,13 @@
+use core::fmt;
+
 /// The number of a block, counted from 0. An object is named by its head.
 ///
 /// It is only a number: a block that has been freed is refused, or names what is there now.
 ///
 /// ```
-/// assert_eq!(blockheap::Block::from_number(7).number(), 7);
+/// let block = blockheap::Block::from(7);
+/// assert_eq!(block.number(), 7);
+/// assert_eq!(format!("block {block}"), "block 7");
 /// ```
 #[derive(Clone, Copy, Debug, PartialEq, Eq, PartialOrd, Ord, Hash)]
 pub struct Block(u64);
@@ -17,5 +21,18 @@ impl Block {
     /// Its number.
     pub const fn number(self) -> u64 {
         self.0
+    }
+}
+
+impl From<u32> for Block {
+    /// The same as [`Block::from_number`].
+    fn from(number: u32) -> Block {
+        Block(number.into())
+    }
+}
+
+impl fmt::Display for Block {
+    fn fmt(&self, f: &mut fmt::Formatter<'_>) -> fmt::Result {
+        self.0.fmt(f)
     }
 }

@@ -1,7 +1,5 @@
 use crate::raw::Lent;
-use crate::{image_bytes, BLOCK_BYTES, WORDS_PER_BLOCK};
-use crate::{Address, Block, Collected, MarkEntry, Opened, Placed, Refusal, ShapeFault, Survey};
-use core::ops::Range;
+use crate::{Address, Block, Collected, MarkEntry, Opened, Placed, Refusal, Survey, View};
 
 /// A heap in lent memory.
 ///
@@ -209,8 +207,7 @@ impl<'m> Heap<'m> {
     /// # Errors
     /// [`BadShape`](Refusal::BadShape), [`BadTable`](Refusal::BadTable).
     pub fn survey(&self) -> Result<Survey, Refusal> {
-        let (used, objects, longest) = self.lent.survey()?;
-        Ok(Survey { used, objects, longest })
+        self.view().survey()
     }
 
     /// Reads one word of an object.
@@ -220,7 +217,7 @@ impl<'m> Heap<'m> {
     /// [`NoSuchBlock`](Refusal::NoSuchBlock), [`NotAHead`](Refusal::NotAHead),
     /// [`NoSuchWord`](Refusal::NoSuchWord).
     pub fn load(&self, block: Block, word: u64) -> Result<u32, Refusal> {
-        self.lent.load(block.number(), word)
+        self.view().load(block, word)
     }
 
     /// Writes one word of an object.
@@ -262,8 +259,7 @@ impl<'m> Heap<'m> {
         roots: &[Address],
         buffer: &'b mut [u8],
     ) -> Result<&'b [u8], Refusal> {
-        let length = self.lent.write_image(roots, buffer)?;
-        Ok(&buffer[..length as usize])
+        self.view().write_image(roots, buffer)
     }
 
     /// The bytes of the heap's image with so many roots.
@@ -271,7 +267,7 @@ impl<'m> Heap<'m> {
     /// # Errors
     /// [`BadShape`](Refusal::BadShape), [`BadTable`](Refusal::BadTable).
     pub fn image_bytes(&self, roots: usize) -> Result<usize, Refusal> {
-        Ok(image_bytes(self.lent.t(), self.survey()?.used as usize, roots))
+        self.view().image_bytes(roots)
     }
 
     /// All bytes of an object's blocks. They are found by loads, up to two for each binary digit of the
@@ -281,8 +277,7 @@ impl<'m> Heap<'m> {
     /// [`BadShape`](Refusal::BadShape), [`BadTable`](Refusal::BadTable),
     /// [`NoSuchBlock`](Refusal::NoSuchBlock), [`NotAHead`](Refusal::NotAHead).
     pub fn object(&self, block: Block) -> Result<&[u8], Refusal> {
-        let place = self.place_of(block)?;
-        Ok(&self.lent.pool[place])
+        self.view().object(block)
     }
 
     /// All bytes of an object's blocks, to write.
@@ -290,7 +285,7 @@ impl<'m> Heap<'m> {
     /// # Errors
     /// As [`Heap::object`].
     pub fn object_mut(&mut self, block: Block) -> Result<&mut [u8], Refusal> {
-        let place = self.place_of(block)?;
+        let place = self.view().place_of(block)?;
         Ok(&mut self.lent.pool[place])
     }
 
@@ -300,13 +295,7 @@ impl<'m> Heap<'m> {
     /// [`NoSuchBlock`](Refusal::NoSuchBlock), or [`BadShape`](Refusal::BadShape) if the base is so
     /// high that no word spells the address.
     pub fn address_of(&self, block: Block) -> Result<Address, Refusal> {
-        if block.number() >= (self.lent.pool.len() / BLOCK_BYTES) as u64 {
-            return Err(Refusal::NoSuchBlock);
-        }
-        let address = u64::from(self.base().word()) + BLOCK_BYTES as u64 * block.number();
-        u32::try_from(address)
-            .map(Address::from_word)
-            .map_err(|_| Refusal::BadShape(ShapeFault::PoolEnd))
+        self.view().address_of(block)
     }
 
     /// The block that has this address, used or free. No block has an address outside of the pool or
@@ -325,46 +314,31 @@ impl<'m> Heap<'m> {
     /// # }
     /// ```
     pub fn block_at(&self, address: Address) -> Option<Block> {
-        let offset = u64::from(address.word().checked_sub(self.base().word())?);
-        let block = Block::from_number(offset / BLOCK_BYTES as u64);
-        (self.address_of(block) == Ok(address)).then_some(block)
+        self.view().block_at(address)
+    }
+
+    /// The heap, to look at and not to change: a [`View`] may be copied, and several may be held at once.
+    ///
+    /// ```
+    /// # use blockheap::{Address, Memory, View};
+    /// # fn main() -> Result<(), blockheap::Refusal> {
+    /// fn report(heap: View) -> Result<String, blockheap::Refusal> {
+    ///     Ok(format!("{} used blocks from {} on", heap.survey()?.used, heap.base()))
+    /// }
+    ///
+    /// let mut memory = Memory::<4>::new();
+    /// let mut heap = memory.init(Address::from(4096))?;
+    /// heap.allocate(40)?;
+    /// assert_eq!(report(heap.view())?, "3 used blocks from 0x00001000 on");
+    /// # Ok(())
+    /// # }
+    /// ```
+    pub fn view(&self) -> View<'_> {
+        View { shown: self.lent.shown() }
     }
 
     /// The address of block 0.
     pub fn base(&self) -> Address {
         self.lent.base
-    }
-
-    /// Where in the pool an object's bytes are.
-    fn place_of(&self, block: Block) -> Result<Range<usize>, Refusal> {
-        let blocks = self.blocks_of(block)?;
-        let start = block.number() as usize * BLOCK_BYTES;
-        Ok(start..start + blocks * BLOCK_BYTES)
-    }
-
-    /// The number of an object's blocks: doubled until it is too many, then bisected.
-    fn blocks_of(&self, block: Block) -> Result<usize, Refusal> {
-        let (mut some, mut too_many) = (1, 2);
-        while self.has_blocks(block, too_many)? {
-            (some, too_many) = (too_many, 2 * too_many);
-        }
-        while too_many - some > 1 {
-            let middle = some + (too_many - some) / 2;
-            if self.has_blocks(block, middle)? {
-                some = middle;
-            } else {
-                too_many = middle;
-            }
-        }
-        Ok(some)
-    }
-
-    /// Whether an object has at least so many blocks: whether the first word of the last is its own.
-    fn has_blocks(&self, block: Block, blocks: usize) -> Result<bool, Refusal> {
-        match self.load(block, ((blocks - 1) * WORDS_PER_BLOCK) as u64) {
-            Ok(_) => Ok(true),
-            Err(Refusal::NoSuchWord) => Ok(false),
-            Err(refusal) => Err(refusal),
-        }
     }
 }

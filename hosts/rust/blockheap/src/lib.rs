@@ -10,7 +10,8 @@
 #![doc = include_str!("../examples/readme.rs")]
 //! ```
 //!
-//! A [`Log`] is a list of times and tip counts in a heap, each entry an object of its own.
+//! A [`Log`] is a list of times and tip counts in a heap, each entry an object of its own. A [`View`] is a heap
+//! to look at.
 //!
 //! All unsafe code is in the module [`raw`]. A call panics only if the archive answers a number that
 //! is no refusal's, or a bad shape where no rule is broken, as one of another version may.
@@ -30,6 +31,7 @@ pub mod raw;
 mod refusal;
 mod shape;
 mod sizes;
+mod view;
 
 pub use address::Address;
 pub use answers::{Collected, Opened, Placed, Survey};
@@ -41,3 +43,4 @@ pub use memory::Memory;
 pub use refusal::Refusal;
 pub use shape::ShapeFault;
 pub use sizes::*;
+pub use view::View;

@@ -38,7 +38,7 @@ pub struct Entry {
 /// # Ok(())
 /// # }
 /// ```
-#[derive(Debug, PartialEq, Eq)]
+#[derive(Clone, Copy, Debug, PartialEq, Eq)]
 pub struct Log {
     first: Address,
 }
@@ -142,7 +142,7 @@ impl Heap<'_> {
     /// [`BadShape`](Refusal::BadShape), [`BadTable`](Refusal::BadTable), [`NoLog`](Refusal::NoLog),
     /// [`NoEntry`](Refusal::NoEntry).
     pub fn log_read(&self, log: &Log, index: u64) -> Result<Entry, Refusal> {
-        self.lent.log_read(log.first, index)
+        self.view().log_read(log, index)
     }
 
     /// Frees the oldest entry of a log and answers the change in used blocks, -2.

@@ -98,6 +98,14 @@ pub(crate) struct Lent<'m> {
     pub table: &'m mut [u8],
 }
 
+/// The same, for calls that only read.
+#[derive(Clone, Copy, Debug)]
+pub(crate) struct Shown<'m> {
+    pub base: Address,
+    pub pool: &'m [u8],
+    pub table: &'m [u8],
+}
+
 /// A slice's pointer, to read or to write.
 macro_rules! pointer {
     (const $slice:expr) => {
@@ -116,7 +124,7 @@ macro_rules! hand_over {
     ($lent:ident, $call:ident($pool:tt pool, $table:tt table $(, $argument:expr)*)) => {{
         let base = $lent.base.word().into();
         let (pool_len, table_len) = ($lent.pool.len(), $lent.table.len());
-        let t = $lent.t() as u64;
+        let t = t_of(pool_len) as u64;
         let (pool, table) = (pointer!($pool $lent.pool), pointer!($table $lent.table));
         let number = unsafe { $call(base, t, pool, pool_len, table, table_len $(, $argument)*) };
         check(number, || ShapeFault::of($lent.base, pool_len, table_len))
@@ -131,10 +139,15 @@ fn check(number: u32, fault: impl FnOnce() -> Option<ShapeFault>) -> Result<(), 
     }
 }
 
+/// The t of a pool's length.
+pub(crate) const fn t_of(pool: usize) -> usize {
+    pool / pool_bytes(1)
+}
+
 impl Lent<'_> {
-    /// The t of the pool's length.
-    pub fn t(&self) -> usize {
-        self.pool.len() / pool_bytes(1)
+    /// What is lent, to read.
+    pub fn shown(&self) -> Shown<'_> {
+        Shown { base: self.base, pool: self.pool, table: self.table }
     }
 
     pub fn init(&mut self) -> Result<(), Refusal> {
@@ -177,32 +190,8 @@ impl Lent<'_> {
         Ok((kept, rescans, change))
     }
 
-    pub fn survey(&self) -> Result<(u32, u32, u32), Refusal> {
-        let (mut used, mut objects, mut longest) = (0, 0, 0);
-        hand_over!(
-            self,
-            blockheap_survey(const pool, const table, &mut used, &mut objects, &mut longest)
-        )?;
-        Ok((used, objects, longest))
-    }
-
-    pub fn load(&self, block: u64, word: u64) -> Result<u32, Refusal> {
-        let mut value = 0;
-        hand_over!(self, blockheap_load(const pool, const table, block, word, &mut value))?;
-        Ok(value)
-    }
-
     pub fn store(&mut self, block: u64, word: u64, value: u32) -> Result<(), Refusal> {
         hand_over!(self, blockheap_store(mut pool, const table, block, word, value))
-    }
-
-    pub fn write_image(&self, roots: &[Address], image: &mut [u8]) -> Result<u32, Refusal> {
-        let mut length = 0;
-        hand_over!(self, blockheap_write_image(
-            const pool, const table,
-            roots.as_ptr().cast(), size_of_val(roots), image.as_mut_ptr(), image.len(), &mut length
-        ))?;
-        Ok(length)
     }
 
     /// Answers the first address and the change.
@@ -225,15 +214,6 @@ impl Lent<'_> {
         }
     }
 
-    pub fn log_read(&self, first: Address, index: u64) -> Result<Entry, Refusal> {
-        let (first, mut time, mut tips) = (first.word().into(), 0, 0);
-        hand_over!(
-            self,
-            blockheap_log_read(const pool, const table, first, index, &mut time, &mut tips)
-        )?;
-        Ok(Entry { time, tips })
-    }
-
     /// Answers the first address and the change.
     pub fn log_drop(&mut self, first: Address) -> Result<(Address, i32), Refusal> {
         let (first, mut new_first, mut change) = (first.word().into(), 0, 0);
@@ -247,8 +227,8 @@ impl Lent<'_> {
     /// Sets the base too, and answers the number of roots.
     pub fn open_image(&mut self, image: &[u8], roots: &mut [Address]) -> Result<u32, Refusal> {
         let (mut base, mut count) = (0, 0);
-        let t = self.t() as u64;
         let (pool_len, table_len) = (self.pool.len(), self.table.len());
+        let t = t_of(pool_len) as u64;
         let (pool, table) = (self.pool.as_mut_ptr(), self.table.as_mut_ptr());
         let (entries, roots_len) = (roots.as_mut_ptr().cast(), size_of_val(roots));
         // As hand_over does, and the image overlaps nothing that is lent to be written.
@@ -270,6 +250,41 @@ impl Lent<'_> {
         check(number, || ShapeFault::of_opening(image, pool_len, table_len))?;
         self.base = Address::from_word(base);
         Ok(count)
+    }
+}
+
+impl Shown<'_> {
+    pub fn survey(&self) -> Result<(u32, u32, u32), Refusal> {
+        let (mut used, mut objects, mut longest) = (0, 0, 0);
+        hand_over!(
+            self,
+            blockheap_survey(const pool, const table, &mut used, &mut objects, &mut longest)
+        )?;
+        Ok((used, objects, longest))
+    }
+
+    pub fn load(&self, block: u64, word: u64) -> Result<u32, Refusal> {
+        let mut value = 0;
+        hand_over!(self, blockheap_load(const pool, const table, block, word, &mut value))?;
+        Ok(value)
+    }
+
+    pub fn write_image(&self, roots: &[Address], image: &mut [u8]) -> Result<u32, Refusal> {
+        let mut length = 0;
+        hand_over!(self, blockheap_write_image(
+            const pool, const table,
+            roots.as_ptr().cast(), size_of_val(roots), image.as_mut_ptr(), image.len(), &mut length
+        ))?;
+        Ok(length)
+    }
+
+    pub fn log_read(&self, first: Address, index: u64) -> Result<Entry, Refusal> {
+        let (first, mut time, mut tips) = (first.word().into(), 0, 0);
+        hand_over!(
+            self,
+            blockheap_log_read(const pool, const table, first, index, &mut time, &mut tips)
+        )?;
+        Ok(Entry { time, tips })
     }
 }
 

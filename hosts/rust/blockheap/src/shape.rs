@@ -1,3 +1,4 @@
+use crate::raw::t_of;
 use crate::{image_t, pool_bytes, table_bytes, Address, BLOCK_BYTES, MAX_T, MIN_BASE};
 use core::fmt;
 
@@ -46,7 +47,7 @@ impl ShapeFault {
     /// assert_eq!(ShapeFault::of(BASE, 200, 4), Some(ShapeFault::PoolBytes));
     /// ```
     pub const fn of(base: Address, pool: usize, table: usize) -> Option<ShapeFault> {
-        let (base, t) = (base.word(), pool / pool_bytes(1));
+        let (base, t) = (base.word(), t_of(pool));
         if base % BLOCK_BYTES as u32 != 0 {
             Some(ShapeFault::BaseUnaligned)
         } else if base < MIN_BASE.word() {
@@ -66,7 +67,7 @@ impl ShapeFault {
 
     /// The rule that an opening of this image, in a pool and a table of so many bytes, would break.
     pub(crate) fn of_opening(image: &[u8], pool: usize, table: usize) -> Option<ShapeFault> {
-        if image_t(image) != Some(pool / pool_bytes(1)) {
+        if image_t(image) != Some(t_of(pool)) {
             return Some(ShapeFault::ImageT);
         }
         let base = Address::all_in(image.get(2..6)?).ok()?.first()?;

@@ -2,7 +2,7 @@
 
 use blockheap::{full_image_bytes, image_t, pool_bytes, table_bytes, MAX_LOG_ROOTS, MAX_ROOTS};
 use blockheap::{Address, Block, Heap, MarkEntry, Memory, Placed, Refusal, Survey};
-use blockheap::{Entry, Log, NotAppended, ShapeFault};
+use blockheap::{Entry, Log, NotAppended, ShapeFault, View};
 
 const BASE: Address = Address::from_word(4096);
 
@@ -125,6 +125,14 @@ fn blocks_and_addresses_lead_to_each_other() -> Result<(), Refusal> {
         Err(Refusal::BadShape(ShapeFault::PoolEnd))
     );
     Ok(())
+}
+
+#[test]
+fn blocks_and_addresses_are_made_of_numbers_and_written() {
+    assert_eq!((Address::from(4096), Block::from(7)), (BASE, Block::from_number(7)));
+    let addresses = [0, 4096, u32::MAX].map(|word| Address::from(word).to_string());
+    assert_eq!(addresses, ["0x00000000", "0x00001000", "0xffffffff"]);
+    assert_eq!(format!("{}, {:>4}", Block::from(7), Block::from(4095)), "7, 4095");
 }
 
 #[test]
@@ -425,6 +433,44 @@ fn a_log_goes_with_an_image() -> Result<(), Refusal> {
     let opened = visitor.open_image(image, &mut roots)?;
     let log = Log::from_first(opened.roots[0]);
     assert_eq!(entries(&opened.heap, &log)?, [entry(1), entry(2)]);
+    Ok(())
+}
+
+#[test]
+fn a_view_answers_as_the_heap_does() -> Result<(), Refusal> {
+    let (mut pool, mut table) = ([0; 256], [0; 4]);
+    let mut heap = Heap::init(BASE, &mut pool, &mut table)?;
+    let mut log = Log::new();
+    heap.log_append(&mut log, RAIN, &[], &mut [])?;
+    let text = heap.allocate(70)?.block;
+    heap.object_mut(text)?[..4].copy_from_slice(b"rain");
+    let mut images = [[0; full_image_bytes(4, 1)]; 2];
+    let [first, second] = &mut images;
+    let image = heap.write_image(&[log.first()], first)?;
+
+    let (before, copy) = (heap.view(), log);
+    let bytes = { before }.object(text)?; // held longer than this copy of the view
+    assert_eq!(bytes, heap.object(text)?);
+    for view in [before, heap.view()] {
+        assert_eq!(view.base(), BASE);
+        assert_eq!((view.survey()?, view.image_bytes(1)?), (heap.survey()?, image.len()));
+        assert_eq!(view.load(text, 0)?, u32::from_le_bytes(*b"rain"));
+        assert_eq!(view.log_read(&copy, 0)?, RAIN);
+        assert_eq!(view.write_image(&[copy.first()], second)?, image);
+        for number in 0..20 {
+            let block = Block::from_number(number);
+            assert_eq!(view.object(block), heap.object(block));
+            assert_eq!(view.address_of(block), heap.address_of(block));
+        }
+        for word in 0xFF0..0x1120 {
+            assert_eq!(view.block_at(word.into()), heap.block_at(word.into()));
+        }
+    }
+    let shared = View::new(BASE, &pool, &table);
+    assert_eq!(shared.object(text)?[..4], *b"rain");
+    assert_eq!(View::new(BASE, &pool[1..], &table).survey().err(), {
+        Some(Refusal::BadShape(ShapeFault::PoolBytes))
+    });
     Ok(())
 }
 

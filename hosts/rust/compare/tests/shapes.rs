@@ -34,7 +34,7 @@ fn broken_rule(base: u32, pool: usize, table: usize) -> Option<ShapeFault> {
         (base >= 16, ShapeFault::BaseTooLow),
         ((1..=1024).contains(&t), ShapeFault::T),
         (pool % 64 == 0, ShapeFault::PoolBytes),
-        (table == (t + 1) / 2 * 2, ShapeFault::TableBytes),
+        (table == t + t % 2, ShapeFault::TableBytes),
         (u64::from(base) + 64 * t as u64 <= 4_294_967_296, ShapeFault::PoolEnd),
     ];
     rules.into_iter().find(|(kept, _)| !kept).map(|(_, fault)| fault)
