@@ -5,7 +5,7 @@ use mathlib.Core.List.{List}
 use Prim.Native.Nat.{ℕ, _+_, _*_, _<_}
 use lib.Dec.{leb, ltb}
 use Rattle.rules.specs.Tests.{pick, both}
-use Rattle.rules.specs.Bits.{bitOf}
+use Rattle.rules.specs.Bits.{bitOf, bitAt}
 use Rattle.rules.specs.Tables.{entryAt, isFree}
 
 -- `bits` has the bits of byte i of a plane that are of the blocks from a to before b, and no other
@@ -20,6 +20,18 @@ FreeByte es i bits = (j : ℕ) → j < 8 → bitOf bits j ≡ pick (isFree (entr
 abbrev pub lane : ℕ → ℕ → ℕ → ℕ
 lane low high j = bitOf low j + 2 * bitOf high j
 
--- they hold the 64 entries from block 64 * i on
+-- they hold the n entries from block n * i on
+abbrev pub InLanes : ℕ → List ℕ → ℕ → ℕ → ℕ → Type 0
+InLanes n es i low high = (j : ℕ) → j < n → entryAt es (n * i + j) ≡ lane low high j
+
+-- 64 of them
 abbrev pub InGroup : List ℕ → ℕ → ℕ → ℕ → Type 0
-InGroup es i low high = (j : ℕ) → j < 64 → entryAt es (64 * i + j) ≡ lane low high j
+InGroup es i low high = InLanes 64 es i low high
+
+-- the two planes, each by itself, hold the entries es. Past the last they have no bit
+abbrev pub InPlanes : List ℕ → List ℕ → List ℕ → Type 0
+InPlanes es lows highs = (k : ℕ) → entryAt es k ≡ bitAt lows k + 2 * bitAt highs k
+
+-- two numbers hold the 32 entries from block 32 * i on, whatever entries the planes hold
+abbrev pub InWords : List ℕ → List ℕ → ℕ → ℕ → ℕ → Type 0
+InWords lows highs i low high = (es : List ℕ) → InPlanes es lows highs → InLanes 32 es i low high

@@ -11,7 +11,7 @@ ghost use Rattle.rules.specs.Bits.{bitOf};
 ghost use Rattle.rules.specs.Entries.{HEAD as head, MARK as mark};
 ghost use Rattle.rules.specs.Tables.{entryAt, isHead, isTail};
 ghost use Rattle.rules.specs.Planes.{planeBytes, entriesIn, Sized, IsTable, Holds};
-ghost use Rattle.entries.specs.Groups.{Span, FreeByte, InGroup};
+ghost use Rattle.entries.specs.Groups.{Span, FreeByte, InGroup, InWords};
 use numbers::Block;
 
 pub const FREE: u8 = 0;
@@ -194,5 +194,33 @@ pub fn group(t: usize, table: &[u8], i: usize) -> Lanes
     Lanes {
         low: memory::last_bits(table, at, half),
         high: memory::last_bits(table, half + at, 2 * half),
+    }
+}
+
+// The entries of 32 blocks, as `Lanes` has those of 64.
+pub struct Words {
+    pub low: u32,
+    pub high: u32,
+}
+
+// The entries from block 32 * i on. Each plane is a part of its own, cut once for many words: then a bounds check of each is cheap.
+pub fn words_at(lows: &[u8], highs: &[u8], i: usize) -> Words
+    requires { ⌜ (4 * i + 4 ≤ length (now lows)) × (4 * i + 4 ≤ length (now highs)) ⌝ }
+    ensures { λ r. ⌜ InWords (now (lows .entry)) (now (highs .entry)) i (r .low) (r .high) ⌝ }
+{
+    Words {
+        low: memory::four_bits(lows, 4 * i),
+        high: memory::four_bits(highs, 4 * i),
+    }
+}
+
+// The same where the planes end in these blocks. Past the end they are FREE.
+pub fn last_words(lows: &[u8], highs: &[u8], i: usize) -> Words
+    requires { ⌜ (4 * i ≤ length (now lows)) × ((length (now lows) ≤ 4 * i + 4) × (length (now highs) ≡ length (now lows))) ⌝ }
+    ensures { λ r. ⌜ InWords (now (lows .entry)) (now (highs .entry)) i (r .low) (r .high) ⌝ }
+{
+    Words {
+        low: memory::last_four_bits(lows, 4 * i),
+        high: memory::last_four_bits(highs, 4 * i),
     }
 }

@@ -74,6 +74,30 @@ pub fn set_word(bytes: &mut [u8], i: usize, w: u32)
     set_four_bytes(bytes, 4 * i, w);
 }
 
+// The bits of the four bytes from `at` on, those of the first the lowest.
+pub fn four_bits(bytes: &[u8], at: usize) -> u32
+    requires { ⌜ at + 4 ≤ length (now bytes) ⌝ }
+    ensures { λ r. ⌜ BitsFrom (now (bytes .entry)) at 4 r ⌝ }
+{
+    let end = at + 4;
+    let part = &bytes[at..end];
+    from_le_bytes(part[0], part[1], part[2], part[3])
+}
+
+// The same where the bytes end before the four do. Past their end each bit is 0.
+pub fn last_four_bits(bytes: &[u8], at: usize) -> u32
+    requires { ⌜ (at ≤ length (now bytes)) × (length (now bytes) ≤ at + 4) ⌝ }
+    ensures { λ r. ⌜ BitsFrom (now (bytes .entry)) at 4 r ⌝ }
+{
+    let mut bits: u32 = 0;
+    let mut i = bytes.len();
+    while at < i {
+        i -= 1;
+        bits = (bits << 8) | (bytes[i] as u32);
+    }
+    bits
+}
+
 // The bits of the eight bytes from `at` on, those of the first the lowest.
 pub fn bits(bytes: &[u8], at: usize) -> u64
     requires { ⌜ at + 8 ≤ length (now bytes) ⌝ }

@@ -2,7 +2,7 @@
 -- Assumes nothing.
 use mathlib.Core.Path.{_≡_}
 use mathlib.Core.List.{List}
-use Prim.Native.Nat.{ℕ, zero, suc, _+_, _-_, _*_, _≤_, _<_}
+use Prim.Native.Nat.{ℕ, _+_, _-_, _*_, _<_}
 use native.Mathlib.Omega.{arith}
 use lib.ListN.{getD}
 use borrow.Author.Needs.{needs}
@@ -10,8 +10,7 @@ use borrow.Rule.Slice.PartMut.{midOf}
 use Rattle.rules.specs.Words.{number}
 use Rattle.laws.proofs.Widths.{in-slice, as-u64}
 use Rattle.memory.specs.Bits.{BitsFrom}
-use Rattle.memory.proofs.Parts.{part-at}
-use Rattle.memory.proofs.Reading.{no-bytes, one-more}
+use Rattle.memory.proofs.Reading.{numberFrom, number-bits}
 use Rattle.memory.proofs.bits.Statement.{statement}
 use Rattle.memory.proofs.bits.Tie as tie
 
@@ -19,24 +18,13 @@ module _ (bytes : List ℕ) (at : ℕ) (small : (i : ℕ) → getD bytes i 0 < 2
   abbrev part : List ℕ
   part = midOf at (at + 8 - at) bytes
 
-  -- the number of n bytes from place i of the part on
-  abbrev numberFrom : ℕ → ℕ → ℕ
-  numberFrom i zero = 0
-  numberFrom i (suc n) = numberFrom (suc i) n * 256 + getD part i 0
-
-  number-bits : (i n : ℕ) → i + n ≤ 8 → BitsFrom bytes (at + i) n (numberFrom i n)
-  number-bits i zero inside = no-bytes bytes (at + i)
-  number-bits i (suc n) inside =
-      rw (part-at bytes at (at + 8 - at) (at + i) i (omega arith) (omega arith))
-      (one-more bytes (at + i) (at + suc i) n (numberFrom (suc i) n) (omega arith) (small (at + i)) (number-bits (suc i) n (omega arith)))
-
   eight-bytes : (low high : ℕ) → low ≡ number (getD part 0 0) (getD part 1 0) (getD part 2 0) (getD part 3 0)
       → high ≡ number (getD part 4 0) (getD part 5 0) (getD part 6 0) (getD part 7 0) → BitsFrom bytes at 8 (low + 4294967296 * high)
   unfolding number
   eight-bytes low high l h =
       let z : at + 0 ≡ at = omega arith in
-      let e : low + 4294967296 * high ≡ numberFrom 0 8 = omega (arith, l, h) in
-      rw z at (rw (← e) at (number-bits 0 8 (omega arith)))
+      let e : low + 4294967296 * high ≡ numberFrom bytes at (at + 8 - at) small 0 8 = omega (arith, l, h) in
+      rw z at (rw (← e) at (number-bits bytes at (at + 8 - at) small 0 8 (omega arith)))
 
 add-end : tie.Need-add-end
 add-end c = in-slice (c .before .args .bytes .now) (search needs) (search needs)
