@@ -1,5 +1,6 @@
 use crate::raw::Lent;
 use crate::{Address, Block, Collected, MarkEntry, Opened, Placed, Refusal, Survey, View};
+use crate::{FreeRuns, Objects};
 
 /// A heap in lent memory.
 ///
@@ -270,8 +271,8 @@ impl<'m> Heap<'m> {
         self.view().image_bytes(roots)
     }
 
-    /// All bytes of an object's blocks. They are found by loads, up to two for each binary digit of the
-    /// number of its blocks: hold the slice rather than ask for every byte.
+    /// All bytes of an object's blocks. They are found by a load and in the table, block by block: hold the
+    /// slice rather than ask for every byte.
     ///
     /// # Errors
     /// [`BadShape`](Refusal::BadShape), [`BadTable`](Refusal::BadTable),
@@ -287,6 +288,61 @@ impl<'m> Heap<'m> {
     pub fn object_mut(&mut self, block: Block) -> Result<&mut [u8], Refusal> {
         let place = self.view().place_of(block)?;
         Ok(&mut self.lent.pool[place])
+    }
+
+    /// All objects, by rising block numbers, with their addresses and bytes.
+    ///
+    /// ```
+    /// # use blockheap::{Address, Memory};
+    /// # fn main() -> Result<(), blockheap::Refusal> {
+    /// # let mut memory = Memory::<4>::new();
+    /// # let mut heap = memory.init(Address::from(4096))?;
+    /// heap.allocate(20)?;
+    /// heap.allocate(16)?;
+    /// let lines = heap.objects()?.map(|object| format!("{} {}", object.address, object.blocks()));
+    /// assert_eq!(lines.collect::<Vec<_>>(), ["0x00001000 2", "0x00001020 1"]);
+    /// assert_eq!(heap.objects()?.map(|object| object.bytes.len()).max(), Some(32));
+    /// # Ok(())
+    /// # }
+    /// ```
+    ///
+    /// # Errors
+    /// [`BadShape`](Refusal::BadShape), [`BadTable`](Refusal::BadTable).
+    pub fn objects(&self) -> Result<Objects<'_>, Refusal> {
+        self.view().objects()
+    }
+
+    /// All runs of free blocks, by rising block numbers: why there is no room.
+    ///
+    /// ```
+    /// # use blockheap::{Address, Memory, Refusal};
+    /// # fn main() -> Result<(), Refusal> {
+    /// # let mut memory = Memory::<2>::new();
+    /// # let mut heap = memory.init(Address::from(4096))?;
+    /// let (first, _, third) = (heap.allocate(48)?, heap.allocate(16)?, heap.allocate(32)?);
+    /// heap.free(first.block)?;
+    /// heap.free(third.block)?;
+    /// let runs = heap.free_runs()?.map(|run| (run.block.number(), run.blocks));
+    /// assert_eq!(runs.collect::<Vec<_>>(), [(0, 3), (4, 4)]);
+    /// assert_eq!(heap.largest_fit()?, 64); // although seven blocks are free
+    /// assert_eq!(heap.allocate(65), Err(Refusal::NoRoom));
+    /// # Ok(())
+    /// # }
+    /// ```
+    ///
+    /// # Errors
+    /// [`BadShape`](Refusal::BadShape), [`BadTable`](Refusal::BadTable).
+    pub fn free_runs(&self) -> Result<FreeRuns<'_>, Refusal> {
+        self.view().free_runs()
+    }
+
+    /// The bytes of the largest object that has room, aligned as [`Heap::allocate`] does it; 0 if no block is
+    /// free. An allocation of so many bytes is accepted, and one of more is refused for want of room.
+    ///
+    /// # Errors
+    /// [`BadShape`](Refusal::BadShape), [`BadTable`](Refusal::BadTable).
+    pub fn largest_fit(&self) -> Result<u64, Refusal> {
+        self.view().largest_fit()
     }
 
     /// The address of a block, whether it is used or free.

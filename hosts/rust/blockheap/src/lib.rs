@@ -31,6 +31,7 @@ pub mod raw;
 mod refusal;
 mod shape;
 mod sizes;
+mod table;
 mod view;
 
 pub use address::Address;
@@ -43,4 +44,5 @@ pub use memory::Memory;
 pub use refusal::Refusal;
 pub use shape::ShapeFault;
 pub use sizes::*;
+pub use table::{FreeRun, FreeRuns, Object, Objects};
 pub use view::View;

@@ -1,6 +1,7 @@
 use crate::raw::{t_of, Shown};
-use crate::{image_bytes, BLOCK_BYTES, WORDS_PER_BLOCK};
-use crate::{Address, Block, Entry, Log, Refusal, ShapeFault, Survey};
+use crate::table::Pieces;
+use crate::{image_bytes, BLOCK_BYTES};
+use crate::{Address, Block, Entry, FreeRuns, Log, Objects, Refusal, ShapeFault, Survey};
 use core::ops::Range;
 
 /// A heap to look at: what of a [`Heap`](crate::Heap) changes nothing.
@@ -113,36 +114,40 @@ impl<'m> View<'m> {
         self.shown.base
     }
 
-    /// Where in the pool an object's bytes are.
+    /// As [`Heap::objects`](crate::Heap::objects).
+    ///
+    /// # Errors
+    /// As there.
+    pub fn objects(&self) -> Result<Objects<'m>, Refusal> {
+        Ok(Objects { pieces: self.pieces()? })
+    }
+
+    /// As [`Heap::free_runs`](crate::Heap::free_runs).
+    ///
+    /// # Errors
+    /// As there.
+    pub fn free_runs(&self) -> Result<FreeRuns<'m>, Refusal> {
+        Ok(FreeRuns { pieces: self.pieces()? })
+    }
+
+    /// As [`Heap::largest_fit`](crate::Heap::largest_fit).
+    ///
+    /// # Errors
+    /// As there.
+    pub fn largest_fit(&self) -> Result<u64, Refusal> {
+        Ok(self.free_runs()?.map(|run| run.largest_fit()).max().unwrap_or(0))
+    }
+
+    /// All that the table says, if the library accepts it.
+    fn pieces(&self) -> Result<Pieces<'m>, Refusal> {
+        self.survey()?;
+        Ok(Pieces { shown: self.shown, next: 0 })
+    }
+
+    /// Where in the pool an object's bytes are. A load finds out whether the block is its head.
     pub(crate) fn place_of(&self, block: Block) -> Result<Range<usize>, Refusal> {
-        let blocks = self.blocks_of(block)?;
-        let start = block.number() as usize * BLOCK_BYTES;
-        Ok(start..start + blocks * BLOCK_BYTES)
-    }
-
-    /// The number of an object's blocks: doubled until it is too many, then bisected.
-    fn blocks_of(&self, block: Block) -> Result<usize, Refusal> {
-        let (mut some, mut too_many) = (1, 2);
-        while self.has_blocks(block, too_many)? {
-            (some, too_many) = (too_many, 2 * too_many);
-        }
-        while too_many - some > 1 {
-            let middle = some + (too_many - some) / 2;
-            if self.has_blocks(block, middle)? {
-                some = middle;
-            } else {
-                too_many = middle;
-            }
-        }
-        Ok(some)
-    }
-
-    /// Whether an object has at least so many blocks: whether the first word of the last is its own.
-    fn has_blocks(&self, block: Block, blocks: usize) -> Result<bool, Refusal> {
-        match self.load(block, ((blocks - 1) * WORDS_PER_BLOCK) as u64) {
-            Ok(_) => Ok(true),
-            Err(Refusal::NoSuchWord) => Ok(false),
-            Err(refusal) => Err(refusal),
-        }
+        self.load(block, 0)?;
+        let mut pieces = Pieces { shown: self.shown, next: block.number() as usize };
+        pieces.next().map(|object| object.bytes()).ok_or(Refusal::NoSuchBlock)
     }
 }
