@@ -38,7 +38,7 @@ pub use address::Address;
 pub use answers::{Collected, Opened, Placed, Survey};
 pub use block::Block;
 pub use heap::Heap;
-pub use log::{Entry, Log, NotAppended};
+pub use log::{Entry, Log, LogEntries, NotAppended};
 pub use mark_entry::MarkEntry;
 pub use memory::Memory;
 pub use refusal::Refusal;

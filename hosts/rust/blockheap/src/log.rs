@@ -1,5 +1,6 @@
-use crate::{Address, Heap, MarkEntry, Refusal};
+use crate::{Address, Heap, MarkEntry, Refusal, View, BLOCK_BYTES, WORD_BYTES};
 use core::fmt;
+use core::iter::FusedIterator;
 
 /// An entry of a [`Log`].
 #[derive(Clone, Copy, Debug, PartialEq, Eq, Hash)]
@@ -97,6 +98,55 @@ impl From<NotAppended> for Refusal {
     }
 }
 
+/// The entries of a log, the oldest first: see [`Heap::log_entries`].
+#[derive(Clone, Debug)]
+pub struct LogEntries<'m> {
+    /// A heap in which a log begins at the next address.
+    heap: View<'m>,
+    next: Address,
+}
+
+impl Iterator for LogEntries<'_> {
+    type Item = Entry;
+
+    fn next(&mut self) -> Option<Entry> {
+        let &[next, time, tips] = self.heap.first_words(self.next)?;
+        self.next = next;
+        Some(Entry { time: time.word(), tips: tips.word() })
+    }
+}
+
+impl FusedIterator for LogEntries<'_> {}
+
+impl<'m> View<'m> {
+    /// As [`Heap::log_read`].
+    ///
+    /// # Errors
+    /// As there.
+    pub fn log_read(&self, log: &Log, index: u64) -> Result<Entry, Refusal> {
+        self.shown.log_read(log.first, index)
+    }
+
+    /// As [`Heap::log_entries`].
+    ///
+    /// # Errors
+    /// As there.
+    pub fn log_entries(&self, log: &Log) -> Result<LogEntries<'m>, Refusal> {
+        // No log has an entry of that index. What is no log has none at all, and is refused for that.
+        match self.log_read(log, u64::MAX) {
+            Ok(_) | Err(Refusal::NoEntry) => Ok(LogEntries { heap: *self, next: log.first }),
+            Err(refusal) => Err(refusal),
+        }
+    }
+
+    /// The first three words of the block that has this address. No block has the address 0.
+    fn first_words(&self, address: Address) -> Option<&'m [Address; 3]> {
+        let start = self.block_at(address)?.number() as usize * BLOCK_BYTES;
+        let words = self.shown.pool.get(start..start + 3 * WORD_BYTES)?;
+        Address::all_in(words).ok()?.first_chunk()
+    }
+}
+
 impl Heap<'_> {
     /// Adds an entry behind the last one of a log and answers the change in used blocks.
     ///
@@ -143,6 +193,29 @@ impl Heap<'_> {
     /// [`NoEntry`](Refusal::NoEntry).
     pub fn log_read(&self, log: &Log, index: u64) -> Result<Entry, Refusal> {
         self.view().log_read(log, index)
+    }
+
+    /// All entries of a log, the oldest first. The library goes through the log once, and refuses what is none;
+    /// then each entry costs one step, where [`Heap::log_read`] goes through the whole log for each.
+    ///
+    /// ```
+    /// # use blockheap::{Address, Entry, Log, Memory};
+    /// # fn main() -> Result<(), blockheap::Refusal> {
+    /// # let mut memory = Memory::<16>::new();
+    /// # let mut heap = memory.init(Address::from(4096))?;
+    /// let mut log = Log::new();
+    /// heap.log_append(&mut log, Entry { time: 600, tips: 3 }, &[], &mut [])?;
+    /// heap.log_append(&mut log, Entry { time: 1200, tips: 7 }, &[], &mut [])?;
+    /// assert_eq!(heap.log_entries(&log)?.map(|entry| entry.tips).sum::<u32>(), 10);
+    /// # Ok(())
+    /// # }
+    /// ```
+    ///
+    /// # Errors
+    /// [`BadShape`](Refusal::BadShape), [`BadTable`](Refusal::BadTable), [`NoLog`](Refusal::NoLog): as a read of
+    /// any entry.
+    pub fn log_entries(&self, log: &Log) -> Result<LogEntries<'_>, Refusal> {
+        self.view().log_entries(log)
     }
 
     /// Frees the oldest entry of a log and answers the change in used blocks, -2.

@@ -1,7 +1,7 @@
 use crate::raw::{t_of, Shown};
 use crate::table::Pieces;
 use crate::{image_bytes, BLOCK_BYTES};
-use crate::{Address, Block, Entry, FreeRuns, Log, Objects, Refusal, ShapeFault, Survey};
+use crate::{Address, Block, FreeRuns, Objects, Refusal, ShapeFault, Survey};
 use core::ops::Range;
 
 /// A heap to look at: what of a [`Heap`](crate::Heap) changes nothing.
@@ -49,14 +49,6 @@ impl<'m> View<'m> {
     /// As there.
     pub fn load(&self, block: Block, word: u64) -> Result<u32, Refusal> {
         self.shown.load(block.number(), word)
-    }
-
-    /// As [`Heap::log_read`](crate::Heap::log_read).
-    ///
-    /// # Errors
-    /// As there.
-    pub fn log_read(&self, log: &Log, index: u64) -> Result<Entry, Refusal> {
-        self.shown.log_read(log.first(), index)
     }
 
     /// As [`Heap::write_image`](crate::Heap::write_image).

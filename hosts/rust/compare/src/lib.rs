@@ -17,7 +17,7 @@ pub mod image;
 pub mod lasting;
 pub mod laws;
 mod lent;
-mod logs;
+pub mod logs;
 mod pages;
 mod pairs;
 pub mod places;
