@@ -41,14 +41,40 @@ library_is_up_to_date() {
         [ "$(<"$library_mark")" = "$source $(sha256sum <"$own_library")" ]
 }
 
-# Proves and builds the project's own library. Of what rt says, only the crates that it proves are shown while all goes well.
+# How many crates the library is made of: blockheap, and all that it leads to in crates.txt.
+count_library_crates() {
+    awk -F: 'function reach(name, names, many, at) {
+            if (name in reached || !(name in needs)) return
+            reached[name]
+            count++
+            many = split(needs[name], names, " ")
+            for (at = 1; at <= many; at++) reach(names[at])
+        }
+        /^[^#]/ { needs[$1] = $2 }
+        END { reach("blockheap"); print count + 0 }' "$top/crates.txt"
+}
+
+# Of what rt says, shows each crate that it has proved, with its number among all. Those that have not changed are only counted. Of
+# blockheap itself, which comes last, rt says nothing.
+show_progress() { # CRATES
+    local line count=0
+    while read -r line; do
+        [[ $line =~ ^rt:\ ([^ ]+)\ proved\ \((.*)\)$ ]] || continue
+        count=$((count + 1))
+        [[ ${BASH_REMATCH[2]} == unchanged* ]] || echo "$count of $1: ${BASH_REMATCH[1]} is proved (${BASH_REMATCH[2]})"
+        [ "$count" -ne $(($1 - 1)) ] || echo "$1 of $1: blockheap, the library itself"
+    done
+}
+
+# Proves and builds the project's own library. What rt says is shown if it fails.
 build_library() {
-    local log=$out/library.log source
+    local log=$out/library.log source crates
     mkdir -p "$out"
-    echo "proving and building the library (crates that have not changed take no time)" >&2
+    crates=$(count_library_crates)
+    echo "proving and building the library: $crates crates, of which those that have not changed take no time" >&2
     rm -f "$library_mark"
     source=$(library_source) || die "'rt version' does not say which toolchain this is"
-    if ! (cd "$top" && rt staticlib blockheap) 2>&1 | tee "$log" | sed -un '/^rt: [^ ]* proved ([0-9]/p' >&2; then
+    if ! (cd "$top" && rt staticlib blockheap) 2>&1 | tee "$log" | show_progress "$crates" >&2; then
         cat "$log" >&2
         die "the library could not be built"
     fi
