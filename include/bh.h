@@ -616,7 +616,7 @@ static inline const char *bh_refusal_name(uint32_t refusal)
     }
 }
 
-/* The same as a sentence, without a capital and a full stop. */
+/* The same as a sentence, without a capital and a full stop. Of BAD_SHAPE, bh_shape_fault says more. */
 static inline const char *bh_refusal_text(uint32_t refusal)
 {
     switch (refusal) {

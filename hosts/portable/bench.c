@@ -274,6 +274,15 @@ static void read_last_entry(void)
     must(COUNTED(bh_log_read(&heap, &rain, t - 1, &time, &tips)));
 }
 
+/* From the first entry, which is read before, to the second. */
+static void read_next_entry(void)
+{
+    struct bh_log_cursor cursor = {0, 0};
+    uint32_t time, tips;
+    must(bh_log_next(&heap, &rain, &cursor, NULL, NULL));
+    must(COUNTED(bh_log_next(&heap, &rain, &cursor, &time, &tips)));
+}
+
 static void write_image(void)
 {
     must(COUNTED(bh_write_image(&heap, roots, roots_len, image, sizeof image, &image_length)));
@@ -308,6 +317,7 @@ static const struct work {
     {"log append, empty log", "append the first entry, in an empty heap", nothing, append, 1},
     {"log append, t entries", "append to a log of t entries, which has half of the blocks", log_of_t, append, 1},
     {"log read, last of t", "read the last entry of such a log", log_of_t, read_last_entry, 1},
+    {"log next, one of t", "go on from one entry of such a log to the next, by bh_log_next", log_of_t, read_next_entry, 1},
     {"image out, half full", "write the image of a heap half in use, without roots", half_full, write_image, 1},
     {"image in, half full", "open that image", half_full_image, open_image, 1},
 };
