@@ -565,10 +565,10 @@ static inline uint32_t bh_log_step(const struct blockheap *heap, const struct bh
  * Call k, counted from 0, answers what bh_log_read answers for index k, but only
  * the first goes through the whole log; the others cost the same for each entry.
  * Behind the last entry it is NO_ENTRY, and the cursor stays: after an append,
- * the call reads what was appended. Between two calls the log may be appended to
- * and collected with, and not be changed otherwise. If it is, what is no entry
- * of a log is refused as NO_LOG when the cursor comes to it, and a ring in the
- * end.
+ * the call reads what was appended. Between two calls the log may be appended
+ * to, and collections may run that keep it. If it is changed otherwise, what is
+ * no entry of a log is refused as NO_LOG when the cursor comes to it, and a ring
+ * in the end.
  */
 static inline uint32_t bh_log_next(const struct blockheap *heap, const struct bh_log *log,
                                    struct bh_log_cursor *cursor, uint32_t *time, uint32_t *tips)

@@ -306,7 +306,8 @@ uint32_t blockheap_init(uint64_t base, uint64_t t, const uint8_t *pool, size_t p
  * aligned run of as many free blocks, and sets all bytes of its blocks to 0.
  * `block` is the number of its head, `change` the blocks it takes.
  * Refusals: BAD_SHAPE, BAD_TABLE, ZERO_BYTES, NO_ROOM (exactly if there is no
- * aligned run of as many free blocks; nothing is collected to make room).
+ * aligned run of as many free blocks; nothing is collected to make room, but
+ * bh_allocate_collecting in bh.h does).
  */
 BLOCKHEAP_NONNULL
 uint32_t blockheap_allocate(uint64_t base, uint64_t t, uint8_t *pool, size_t pool_len,
@@ -500,7 +501,8 @@ uint32_t blockheap_log_append(uint64_t base, uint64_t t, uint8_t *pool, size_t p
                               uint32_t *new_first, int32_t *change);
 
 /*
- * Reads an entry of a log.
+ * Reads an entry of a log. (To read one after the other, bh_log_next in bh.h goes
+ * through the whole log only once.)
  * - first: the log's first address; 0 is the empty log.
  * - index: which entry, counted from 0, the oldest.
  * - time, tips: its words 1 and 2.
