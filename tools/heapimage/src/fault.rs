@@ -168,10 +168,10 @@ impl<'f> Reader<'f> {
 fn check_base(section: &Section, t: usize) -> Result<(), Fault> {
     let base = section.items.iter().rev().fold(0, |word, byte| 256 * word + u64::from(*byte));
     let highest = (1 << 32) - 64 * t as u64;
-    let (fault, must_be) = if base % BLOCK_BYTES as u64 != 0 {
-        (ShapeFault::BaseUnaligned, format!("a multiple of {BLOCK_BYTES}"))
-    } else if base < MIN_BASE.word().into() {
+    let (fault, must_be) = if base < MIN_BASE.word().into() {
         (ShapeFault::BaseTooLow, format!("at least {}", MIN_BASE.word()))
+    } else if base % BLOCK_BYTES as u64 != 0 {
+        (ShapeFault::BaseUnaligned, format!("a multiple of {BLOCK_BYTES}"))
     } else if base > highest {
         (ShapeFault::PoolEnd, format!("at most {highest:#010x}, as t is {t}"))
     } else {

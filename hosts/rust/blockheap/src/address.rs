@@ -40,7 +40,7 @@ impl Address {
     /// # Errors
     /// [`Refusal::BadShape`] if the number of bytes is not divisible by four.
     pub fn all_in(bytes: &[u8]) -> Result<&[Address], Refusal> {
-        raw::addresses(bytes).ok_or(Refusal::BadShape(ShapeFault::ListBytes))
+        raw::addresses(bytes).ok_or(Refusal::BadShape(ShapeFault::RootsBytes))
     }
 
     /// The same, to write: a list for the roots of an image.
@@ -48,7 +48,7 @@ impl Address {
     /// # Errors
     /// As [`Address::all_in`].
     pub fn all_in_mut(bytes: &mut [u8]) -> Result<&mut [Address], Refusal> {
-        raw::addresses_mut(bytes).ok_or(Refusal::BadShape(ShapeFault::ListBytes))
+        raw::addresses_mut(bytes).ok_or(Refusal::BadShape(ShapeFault::RootsBytes))
     }
 }
 

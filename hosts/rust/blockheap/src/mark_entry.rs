@@ -21,6 +21,6 @@ impl MarkEntry {
     /// # Errors
     /// [`Refusal::BadShape`] if the number of bytes is not divisible by four.
     pub fn all_in(bytes: &mut [u8]) -> Result<&mut [MarkEntry], Refusal> {
-        raw::mark_entries(bytes).ok_or(Refusal::BadShape(ShapeFault::ListBytes))
+        raw::mark_entries(bytes).ok_or(Refusal::BadShape(ShapeFault::StackBytes))
     }
 }

@@ -48,14 +48,15 @@ pub enum Refusal {
 impl Refusal {
     /// Every refusal, in the order of the numbers, [`BadShape`](Refusal::BadShape) with each fault.
     pub const ALL: &'static [Refusal] = &[
-        Refusal::BadShape(ShapeFault::ListBytes),
         Refusal::BadShape(ShapeFault::ImageT),
-        Refusal::BadShape(ShapeFault::BaseUnaligned),
-        Refusal::BadShape(ShapeFault::BaseTooLow),
         Refusal::BadShape(ShapeFault::T),
         Refusal::BadShape(ShapeFault::PoolBytes),
         Refusal::BadShape(ShapeFault::TableBytes),
+        Refusal::BadShape(ShapeFault::BaseTooLow),
+        Refusal::BadShape(ShapeFault::BaseUnaligned),
         Refusal::BadShape(ShapeFault::PoolEnd),
+        Refusal::BadShape(ShapeFault::RootsBytes),
+        Refusal::BadShape(ShapeFault::StackBytes),
         Refusal::BadTable,
         Refusal::TooManyRoots,
         Refusal::StackTooLong,

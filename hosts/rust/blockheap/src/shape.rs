@@ -10,27 +10,30 @@ use core::fmt;
 /// let (mut pool, mut table) = ([0; 64], [0; 1]);
 /// let refusal = Heap::init(Address::from_word(4096), &mut pool, &mut table).unwrap_err();
 /// assert_eq!(refusal, Refusal::BadShape(ShapeFault::TableBytes));
-/// assert_eq!(refusal.to_string(), "refused (1): table is not 2 * ceil(t / 2) bytes");
+/// let text = "refused (1): the table's length is not t, rounded up to an even number";
+/// assert_eq!(refusal.to_string(), text);
 /// ```
 #[derive(Clone, Copy, Debug, PartialEq, Eq, Hash)]
 #[non_exhaustive]
 pub enum ShapeFault {
-    /// The number of bytes of a list, roots or mark stack, is not divisible by four.
-    ListBytes,
-    /// The pool has another `t` than the image.
+    /// Of an opening: the pool has another `t` than the image.
     ImageT,
-    /// The base is no multiple of 16.
-    BaseUnaligned,
-    /// The base is below 16.
-    BaseTooLow,
     /// `t`, the pool's length divided by 64, is not 1 to 1,024.
     T,
-    /// The pool is not `64 * t` bytes.
+    /// The pool's length is not `64 * t`.
     PoolBytes,
-    /// The table is not `2 * ceil(t / 2)` bytes.
+    /// The table's length is not `t`, rounded up to an even number.
     TableBytes,
-    /// The pool ends beyond 2^32.
+    /// The base is below 16.
+    BaseTooLow,
+    /// The base is not a multiple of 16.
+    BaseUnaligned,
+    /// The base and the pool's length add up to more than 4,294,967,296.
     PoolEnd,
+    /// The length of the root list, in bytes, is not a multiple of 4.
+    RootsBytes,
+    /// The length of the mark stack, in bytes, is not a multiple of 4.
+    StackBytes,
 }
 
 impl ShapeFault {
@@ -48,16 +51,16 @@ impl ShapeFault {
     /// ```
     pub const fn of(base: Address, pool: usize, table: usize) -> Option<ShapeFault> {
         let (base, t) = (base.word(), t_of(pool));
-        if base % BLOCK_BYTES as u32 != 0 {
-            Some(ShapeFault::BaseUnaligned)
-        } else if base < MIN_BASE.word() {
-            Some(ShapeFault::BaseTooLow)
-        } else if t < 1 || t > MAX_T {
+        if t < 1 || t > MAX_T {
             Some(ShapeFault::T)
         } else if pool != pool_bytes(t) {
             Some(ShapeFault::PoolBytes)
         } else if table != table_bytes(t) {
             Some(ShapeFault::TableBytes)
+        } else if base < MIN_BASE.word() {
+            Some(ShapeFault::BaseTooLow)
+        } else if base % BLOCK_BYTES as u32 != 0 {
+            Some(ShapeFault::BaseUnaligned)
         } else if base as u64 + pool as u64 > 1 << 32 {
             Some(ShapeFault::PoolEnd)
         } else {
@@ -74,17 +77,20 @@ impl ShapeFault {
         ShapeFault::of(*base, pool, table)
     }
 
-    /// The rule, in words that `include/bh.h` has too.
+    /// The rule, in the words of `bh_shape_fault`.
     pub(crate) const fn reason(self) -> &'static str {
         match self {
-            ShapeFault::ListBytes => "roots or mark stack are not 4 bytes to an entry",
-            ShapeFault::ImageT => "image is of another t than the pool",
-            ShapeFault::BaseUnaligned => "base is no multiple of 16",
-            ShapeFault::BaseTooLow => "base is below 16",
-            ShapeFault::T => "t is not 1 to 1,024",
-            ShapeFault::PoolBytes => "pool is not 64 * t bytes",
-            ShapeFault::TableBytes => "table is not 2 * ceil(t / 2) bytes",
-            ShapeFault::PoolEnd => "pool ends beyond 2^32",
+            ShapeFault::ImageT => "t is not the image's",
+            ShapeFault::T => "t is not 1 to 1,024: a pool has 64 to 65,536 bytes",
+            ShapeFault::PoolBytes => "the pool's length is not 64 * t",
+            ShapeFault::TableBytes => "the table's length is not t, rounded up to an even number",
+            ShapeFault::BaseTooLow => "the base is below 16",
+            ShapeFault::BaseUnaligned => "the base is not a multiple of 16",
+            ShapeFault::PoolEnd => {
+                "the base and the pool's length add up to more than 4,294,967,296"
+            }
+            ShapeFault::RootsBytes => "the length of the root list is not a multiple of 4",
+            ShapeFault::StackBytes => "the length of the mark stack is not a multiple of 4",
         }
     }
 }

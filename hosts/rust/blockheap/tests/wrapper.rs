@@ -146,11 +146,11 @@ fn roots_and_mark_stack_may_be_bytes() -> Result<(), Refusal> {
     Address::all_in_mut(&mut bytes)?[1] = Address::from_word(0x2000_0000);
     assert_eq!(bytes, [0, 16, 0, 0, 0, 0, 0, 32]);
     assert_eq!(MarkEntry::all_in(&mut [0; 8])?, [MarkEntry::EMPTY; 2]);
-    let pieces = Refusal::BadShape(ShapeFault::ListBytes);
+    let [roots, stack] = [ShapeFault::RootsBytes, ShapeFault::StackBytes].map(Refusal::BadShape);
     for bytes in 1..4 {
-        assert_eq!(Address::all_in(&[0; 4][..bytes]), Err(pieces));
-        assert_eq!(Address::all_in_mut(&mut [0; 4][..bytes]), Err(pieces));
-        assert_eq!(MarkEntry::all_in(&mut [0; 4][..bytes]), Err(pieces));
+        assert_eq!(Address::all_in(&[0; 4][..bytes]), Err(roots));
+        assert_eq!(Address::all_in_mut(&mut [0; 4][..bytes]), Err(roots));
+        assert_eq!(MarkEntry::all_in(&mut [0; 4][..bytes]), Err(stack));
     }
     Ok(())
 }
@@ -491,14 +491,15 @@ fn each_refusal_says_what_is_wrong() {
 #[test]
 fn each_fault_of_a_shape_names_the_rule() {
     for (fault, rule) in [
-        (ShapeFault::BaseUnaligned, "base is no multiple of 16"),
-        (ShapeFault::BaseTooLow, "base is below 16"),
-        (ShapeFault::T, "t is not 1 to 1,024"),
-        (ShapeFault::PoolBytes, "pool is not 64 * t bytes"),
-        (ShapeFault::TableBytes, "table is not 2 * ceil(t / 2) bytes"),
-        (ShapeFault::PoolEnd, "pool ends beyond 2^32"),
-        (ShapeFault::ImageT, "image is of another t than the pool"),
-        (ShapeFault::ListBytes, "roots or mark stack are not 4 bytes to an entry"),
+        (ShapeFault::ImageT, "t is not the image's"),
+        (ShapeFault::T, "t is not 1 to 1,024: a pool has 64 to 65,536 bytes"),
+        (ShapeFault::PoolBytes, "the pool's length is not 64 * t"),
+        (ShapeFault::TableBytes, "the table's length is not t, rounded up to an even number"),
+        (ShapeFault::BaseTooLow, "the base is below 16"),
+        (ShapeFault::BaseUnaligned, "the base is not a multiple of 16"),
+        (ShapeFault::PoolEnd, "the base and the pool's length add up to more than 4,294,967,296"),
+        (ShapeFault::RootsBytes, "the length of the root list is not a multiple of 4"),
+        (ShapeFault::StackBytes, "the length of the mark stack is not a multiple of 4"),
     ] {
         assert_eq!(fault.to_string(), rule);
         assert_eq!(Refusal::BadShape(fault).to_string(), format!("refused (1): {rule}"));

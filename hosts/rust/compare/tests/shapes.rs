@@ -30,11 +30,11 @@ fn bases(pool: usize) -> impl Iterator<Item = u32> {
 fn broken_rule(base: u32, pool: usize, table: usize) -> Option<ShapeFault> {
     let t = pool / 64;
     let rules = [
-        (base % 16 == 0, ShapeFault::BaseUnaligned),
-        (base >= 16, ShapeFault::BaseTooLow),
         ((1..=1024).contains(&t), ShapeFault::T),
         (pool % 64 == 0, ShapeFault::PoolBytes),
         (table == t + t % 2, ShapeFault::TableBytes),
+        (base >= 16, ShapeFault::BaseTooLow),
+        (base % 16 == 0, ShapeFault::BaseUnaligned),
         (u64::from(base) + 64 * t as u64 <= 4_294_967_296, ShapeFault::PoolEnd),
     ];
     rules.into_iter().find(|(kept, _)| !kept).map(|(_, fault)| fault)
