@@ -1,6 +1,6 @@
 use crate::raw::Lent;
 use crate::{Address, Block, Collected, MarkEntry, Opened, Placed, Refusal, Survey, View};
-use crate::{FreeRuns, Objects};
+use crate::{FreeRuns, NotPlaced, Objects, MAX_ROOTS, MAX_STACK_ENTRIES};
 
 /// A heap in lent memory.
 ///
@@ -108,9 +108,58 @@ impl<'m> Heap<'m> {
     /// # Errors
     /// [`BadShape`](Refusal::BadShape), [`BadTable`](Refusal::BadTable),
     /// [`ZeroBytes`](Refusal::ZeroBytes), and [`NoRoom`](Refusal::NoRoom) exactly if there is no aligned
-    /// run of as many free blocks: nothing is collected to make room.
+    /// run of as many free blocks: nothing is collected to make room, as [`Heap::allocate_collecting`] does.
     pub fn allocate(&mut self, bytes: u64) -> Result<Placed, Refusal> {
         self.lent.allocate(bytes).map(Placed::new)
+    }
+
+    /// [`Heap::allocate`]s, and where there is no room [`Heap::collect`]s and asks once more, as `gc_alloc` of
+    /// MicroPython does.
+    ///
+    /// What nothing leads to from these roots may be freed. The change is that of both, and the mark stack is
+    /// not touched without a collection. Roots and stack are looked at even where there is room, so that a list
+    /// that is too long shows at once.
+    ///
+    /// ```
+    /// # use blockheap::{Address, MarkEntry, Memory, Refusal};
+    /// # fn main() -> Result<(), Refusal> {
+    /// let mut memory = Memory::<1>::new(); // four blocks
+    /// let mut heap = memory.init(Address::from(4096))?;
+    /// let mut stack = [MarkEntry::EMPTY; 8];
+    /// heap.allocate(48)?; // garbage
+    /// let placed = heap.allocate_collecting(32, &[], &mut stack)?;
+    /// assert_eq!(placed.change, -3 + 2);
+    ///
+    /// let roots = [heap.address_of(placed.block)?];
+    /// let full = heap.allocate_collecting(48, &roots, &mut stack).unwrap_err();
+    /// assert_eq!((full.refusal, full.change), (Refusal::NoRoom, 0));
+    /// # Ok(())
+    /// # }
+    /// ```
+    ///
+    /// # Errors
+    /// [`BadShape`](Refusal::BadShape), [`BadTable`](Refusal::BadTable),
+    /// [`TooManyRoots`](Refusal::TooManyRoots), [`StackTooLong`](Refusal::StackTooLong),
+    /// [`ZeroBytes`](Refusal::ZeroBytes), and [`NoRoom`](Refusal::NoRoom) if there is none even after the
+    /// collection, which then stands.
+    pub fn allocate_collecting(
+        &mut self,
+        bytes: u64,
+        roots: &[Address],
+        stack: &mut [MarkEntry],
+    ) -> Result<Placed, NotPlaced> {
+        if roots.len() > MAX_ROOTS || stack.len() > MAX_STACK_ENTRIES {
+            self.collect(roots, stack)?; // which is refused
+        }
+        match self.allocate(bytes) {
+            Err(Refusal::NoRoom) => {}
+            placed => return Ok(placed?),
+        }
+        let change = self.collect(roots, stack)?.change;
+        match self.allocate(bytes) {
+            Ok(placed) => Ok(Placed { change: change + placed.change, ..placed }),
+            Err(refusal) => Err(NotPlaced { refusal, change }),
+        }
     }
 
     /// Makes all blocks of an object free and answers the change in used blocks. The bytes stay.

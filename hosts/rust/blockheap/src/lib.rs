@@ -4,7 +4,7 @@
 //! of an object or a tail of one, in the two bit planes that `include/blockheap.h` draws. The library
 //! keeps nothing of its own: a [`Heap`] holds what is lent, and every call hands all of it over. Any
 //! content may be lent and any number passed: what does not fit is refused with a [`Refusal`], and then
-//! nothing has changed, but for what [`NotAppended`] says.
+//! nothing has changed, but for what [`NotPlaced`] says.
 //!
 //! ```
 #![doc = include_str!("../examples/readme.rs")]
@@ -38,10 +38,10 @@ pub use address::Address;
 pub use answers::{Collected, Opened, Placed, Survey};
 pub use block::Block;
 pub use heap::Heap;
-pub use log::{Entry, Log, LogEntries, NotAppended};
+pub use log::{Entry, Log, LogEntries};
 pub use mark_entry::MarkEntry;
 pub use memory::Memory;
-pub use refusal::Refusal;
+pub use refusal::{NotPlaced, Refusal};
 pub use shape::ShapeFault;
 pub use sizes::*;
 pub use table::{FreeRun, FreeRuns, Object, Objects};

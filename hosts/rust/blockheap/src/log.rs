@@ -1,5 +1,4 @@
-use crate::{Address, Heap, MarkEntry, Refusal, View, BLOCK_BYTES, WORD_BYTES};
-use core::fmt;
+use crate::{Address, Heap, MarkEntry, NotPlaced, Refusal, View, BLOCK_BYTES, WORD_BYTES};
 use core::iter::FusedIterator;
 
 /// An entry of a [`Log`].
@@ -71,30 +70,6 @@ impl Log {
 impl Default for Log {
     fn default() -> Self {
         Log::new()
-    }
-}
-
-/// Why an entry was not appended. The log is as it was, and [`Refusal::NoRoom`] alone leaves a collection.
-#[derive(Clone, Copy, Debug, PartialEq, Eq)]
-#[non_exhaustive]
-pub struct NotAppended {
-    /// Why.
-    pub refusal: Refusal,
-    /// The change in used blocks: that of the collection, which stands. 0 beside any other refusal.
-    pub change: i32,
-}
-
-impl fmt::Display for NotAppended {
-    fn fmt(&self, f: &mut fmt::Formatter<'_>) -> fmt::Result {
-        self.refusal.fmt(f)
-    }
-}
-
-impl core::error::Error for NotAppended {}
-
-impl From<NotAppended> for Refusal {
-    fn from(not_appended: NotAppended) -> Refusal {
-        not_appended.refusal
     }
 }
 
@@ -180,7 +155,7 @@ impl Heap<'_> {
         entry: Entry,
         roots: &[Address],
         stack: &mut [MarkEntry],
-    ) -> Result<i32, NotAppended> {
+    ) -> Result<i32, NotPlaced> {
         let (first, change) = self.lent.log_append(log.first, entry, roots, stack)?;
         log.first = first;
         Ok(change)

@@ -4,7 +4,7 @@
 //! Each call asks of its caller what the header does under "What the caller ensures".
 
 use crate::{pool_bytes, table_bytes, WORD_BYTES};
-use crate::{Address, Entry, MarkEntry, NotAppended, Refusal, ShapeFault};
+use crate::{Address, Entry, MarkEntry, NotPlaced, Refusal, ShapeFault};
 use core::slice::{from_raw_parts, from_raw_parts_mut};
 
 /// Declares calls: whether each may write pool and table, then its own arguments and answers.
@@ -201,7 +201,7 @@ impl Lent<'_> {
         Entry { time, tips }: Entry,
         roots: &[Address],
         stack: &mut [MarkEntry],
-    ) -> Result<(Address, i32), NotAppended> {
+    ) -> Result<(Address, i32), NotPlaced> {
         let (mut new_first, mut change) = (0, 0);
         let appended = hand_over!(self, blockheap_log_append(
             mut pool, mut table, first.word().into(), time, tips,
@@ -210,7 +210,7 @@ impl Lent<'_> {
         ));
         match appended {
             Ok(()) => Ok((Address::from_word(new_first), change)),
-            Err(refusal) => Err(NotAppended { refusal, change }),
+            Err(refusal) => Err(NotPlaced { refusal, change }),
         }
     }
 

@@ -4,7 +4,7 @@ use core::fmt;
 /// Why a call was refused: of several reasons, the one with the lowest number, except by
 /// [`Heap::open_image`](crate::Heap::open_image), which reads a file from its front, and by
 /// [`Heap::log_append`](crate::Heap::log_append), which asks for room last. After a refusal all that is lent
-/// holds what it held before, except that a collection stands which made too little room for an append.
+/// holds what it held before, except that a collection stands which made too little room: see [`NotPlaced`].
 #[derive(Clone, Copy, Debug, PartialEq, Eq, Hash)]
 #[non_exhaustive]
 pub enum Refusal {
@@ -126,3 +126,38 @@ impl fmt::Display for Refusal {
 }
 
 impl core::error::Error for Refusal {}
+
+/// Why an object or an entry of a log was not placed by a call that may collect: [`Heap::allocate_collecting`] or
+/// [`Heap::log_append`]. [`Refusal::NoRoom`] alone leaves a collection.
+///
+/// [`Heap::allocate_collecting`]: crate::Heap::allocate_collecting
+/// [`Heap::log_append`]: crate::Heap::log_append
+#[derive(Clone, Copy, Debug, PartialEq, Eq)]
+#[non_exhaustive]
+pub struct NotPlaced {
+    /// Why.
+    pub refusal: Refusal,
+    /// The change in used blocks: that of the collection, which stands. 0 beside any other refusal.
+    pub change: i32,
+}
+
+impl fmt::Display for NotPlaced {
+    fn fmt(&self, f: &mut fmt::Formatter<'_>) -> fmt::Result {
+        self.refusal.fmt(f)
+    }
+}
+
+impl core::error::Error for NotPlaced {}
+
+impl From<Refusal> for NotPlaced {
+    /// Refused before anything was collected.
+    fn from(refusal: Refusal) -> NotPlaced {
+        NotPlaced { refusal, change: 0 }
+    }
+}
+
+impl From<NotPlaced> for Refusal {
+    fn from(not_placed: NotPlaced) -> Refusal {
+        not_placed.refusal
+    }
+}

@@ -2,7 +2,7 @@
 
 use blockheap::{full_image_bytes, image_t, pool_bytes, table_bytes, MAX_LOG_ROOTS, MAX_ROOTS};
 use blockheap::{Address, Block, Heap, MarkEntry, Memory, Placed, Refusal, Survey};
-use blockheap::{Entry, Log, NotAppended, ShapeFault, View};
+use blockheap::{Entry, Log, NotPlaced, ShapeFault, View};
 
 const BASE: Address = Address::from_word(4096);
 
@@ -300,9 +300,9 @@ fn entries(heap: &Heap, log: &Log) -> Result<Vec<Entry>, Refusal> {
 }
 
 /// The refusal and the change of an append that is refused.
-fn not_appended(outcome: Result<i32, NotAppended>) -> (Refusal, i32) {
-    let not_appended = outcome.expect_err("a refused append");
-    (not_appended.refusal, not_appended.change)
+fn not_placed(outcome: Result<i32, NotPlaced>) -> (Refusal, i32) {
+    let not_placed = outcome.expect_err("a refused append");
+    (not_placed.refusal, not_placed.change)
 }
 
 #[test]
@@ -369,13 +369,13 @@ fn a_collection_stands_after_an_append_without_room() -> Result<(), Refusal> {
     let roots = [heap.address_of(held)?];
     for change in [-1, 0] {
         let refused = heap.log_append(&mut log, RAIN, &roots, &mut []);
-        assert_eq!(not_appended(refused), (Refusal::NoRoom, change));
+        assert_eq!(not_placed(refused), (Refusal::NoRoom, change));
         assert_eq!((log.first(), entries(&heap, &log)?), (BASE, vec![RAIN]));
         assert_eq!(counts(heap.survey()?), [3, 2, 1]);
     }
-    let not_appended = heap.log_append(&mut log, RAIN, &roots, &mut []).unwrap_err();
-    assert_eq!(not_appended.to_string(), Refusal::NoRoom.to_string());
-    assert_eq!(Refusal::from(not_appended), Refusal::NoRoom);
+    let not_placed = heap.log_append(&mut log, RAIN, &roots, &mut []).unwrap_err();
+    assert_eq!(not_placed.to_string(), Refusal::NoRoom.to_string());
+    assert_eq!(Refusal::from(not_placed), Refusal::NoRoom);
     Ok(())
 }
 
@@ -395,7 +395,7 @@ fn what_is_no_log_is_refused_and_stays() -> Result<(), Refusal> {
         heap.store(Block::from_number(2), 0, next)?;
         let mut log = Log::from_first(BASE);
         let refused = heap.log_append(&mut log, RAIN, &[], &mut []);
-        assert_eq!(not_appended(refused), (Refusal::NoLog, 0), "{next:#x}");
+        assert_eq!(not_placed(refused), (Refusal::NoLog, 0), "{next:#x}");
         assert_eq!(heap.log_read(&log, 0), Err(Refusal::NoLog), "{next:#x}");
         assert_eq!(heap.log_drop(&mut log), Err(Refusal::NoLog), "{next:#x}");
         assert_eq!(log.first(), BASE);
@@ -410,10 +410,10 @@ fn an_append_takes_one_root_less_than_a_collection() -> Result<(), Refusal> {
     let mut log = Log::new();
     let roots = [Address::NULL; MAX_LOG_ROOTS + 1];
     let refused = heap.log_append(&mut log, RAIN, &roots, &mut []);
-    assert_eq!(not_appended(refused), (Refusal::TooManyRoots, 0));
+    assert_eq!(not_placed(refused), (Refusal::TooManyRoots, 0));
     let mut stack = [MarkEntry::EMPTY; 65];
     let refused = heap.log_append(&mut log, RAIN, &roots[1..], &mut stack);
-    assert_eq!(not_appended(refused), (Refusal::StackTooLong, 0));
+    assert_eq!(not_placed(refused), (Refusal::StackTooLong, 0));
     assert_eq!(heap.log_append(&mut log, RAIN, &roots[1..], &mut stack[1..])?, 2);
     Ok(())
 }

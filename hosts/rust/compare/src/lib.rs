@@ -35,7 +35,7 @@ mod wanted;
 pub use call::{Access, Call, Description};
 pub use check::compare;
 pub use coverage::Coverage;
-pub use draw::{call as draw_call, heap as draw_heap, noise};
+pub use draw::{call as draw_call, good_roots, good_stack, heap as draw_heap, noise};
 pub use guarded::Guarded;
 pub use lent::{Buffer, Lent};
 pub use pairs::{run_pairs, PairCounts};

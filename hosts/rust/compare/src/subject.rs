@@ -2,7 +2,7 @@
 
 use crate::Buffer::{self, Image, Roots, Stack};
 use crate::{Call, Lent, Reply};
-use blockheap::{raw, Address, Block, Heap, Log, MarkEntry, NotAppended, ShapeFault};
+use blockheap::{raw, Address, Block, Heap, Log, MarkEntry, NotPlaced, ShapeFault};
 use listheap::{Appended, Dropped, Entry, File, ListHeap, Refusal};
 
 /// A heap under test.
@@ -142,8 +142,8 @@ impl From<blockheap::Refusal> for Refused {
     }
 }
 
-impl From<NotAppended> for Refused {
-    fn from(NotAppended { refusal, change, .. }: NotAppended) -> Refused {
+impl From<NotPlaced> for Refused {
+    fn from(NotPlaced { refusal, change, .. }: NotPlaced) -> Refused {
         Refused { number: refusal.number(), change: change.into() }
     }
 }
