@@ -9,7 +9,8 @@ const CALLS: u64 = 30_000;
 
 fn main() -> Result<(), String> {
     let is_name = |word: &std::ffi::OsString| !word.to_string_lossy().starts_with('-');
-    let path = std::env::args_os().nth(1).filter(is_name).ok_or("usage: record FILE")?;
+    let name = std::env::args_os().nth(1).filter(is_name).ok_or("usage: record FILE")?;
+    let path = std::path::PathBuf::from(name);
     let (record, coverage) = recording::record(wanted("BLOCKHEAP_CALLS", CALLS))?;
     let file = record.file();
     std::fs::write(&path, &file).map_err(|error| format!("{}: {error}", path.display()))?;
