@@ -1,5 +1,5 @@
-//! Links the static library: the archive that BLOCKHEAP_LIB names, or else the one in the repository
-//! that this crate is part of.
+//! Links the static library: the archive that BLOCKHEAP_LIB names, or else that of cargo's target in the
+//! repository that this crate is part of.
 
 use std::env;
 use std::path::{Path, PathBuf};
@@ -28,21 +28,61 @@ fn archive() -> Result<PathBuf, String> {
         Some(path) => file_at(Path::new(&path)).map_err(|error| {
             format!("BLOCKHEAP_LIB must be the full path of an archive, and it is not: {error}")
         }),
-        None => archive_of_repository(),
+        None => {
+            let folder = variable("CARGO_MANIFEST_DIR");
+            let top = Path::new(&folder).join("../../..").canonicalize();
+            Target::of_cargo().archive_in(&top.expect("the repository's top"))
+        }
     }
 }
 
-fn archive_of_repository() -> Result<PathBuf, String> {
-    let manifest = env::var_os("CARGO_MANIFEST_DIR").expect("cargo names the manifest's folder");
-    let top = Path::new(&manifest).join("../../..").canonicalize().expect("the repository's top");
-    file_at(&top.join("target/staticlib/libblockheap.a")).map_err(|error| {
-        format!(
-            "The library is not built: {error}\n\
-             Build it:   cd {} && rt staticlib blockheap\n\
-             or name another archive by its full path in BLOCKHEAP_LIB.",
-            top.display()
-        )
-    })
+/// What cargo builds for.
+pub struct Target {
+    pub name: String,
+    pub arch: String,
+    pub os: String,
+    pub pointer_width: String,
+}
+
+impl Target {
+    fn of_cargo() -> Target {
+        Target {
+            name: variable("TARGET"),
+            arch: variable("CARGO_CFG_TARGET_ARCH"),
+            os: variable("CARGO_CFG_TARGET_OS"),
+            pointer_width: variable("CARGO_CFG_TARGET_POINTER_WIDTH"),
+        }
+    }
+
+    /// Whether the proved archive can be linked: it is for x86-64 Linux.
+    fn is_of_proof(&self) -> bool {
+        (&*self.arch, &*self.os, &*self.pointer_width) == ("x86_64", "linux", "64")
+    }
+
+    /// The archive of the repository for this target, or how to build it.
+    pub fn archive_in(&self, top: &Path) -> Result<PathBuf, String> {
+        let (folder, command) = if self.is_of_proof() {
+            ("target/staticlib".into(), "rt staticlib blockheap".into())
+        } else {
+            (
+                format!("target/portable/{}", self.name),
+                format!("hosts/portable/build {}", self.name),
+            )
+        };
+        file_at(&top.join(folder).join("libblockheap.a")).map_err(|error| {
+            format!(
+                "The library is not built for {}: {error}\n\
+                 Build it:   cd {} && {command}\n\
+                 or name another archive by its full path in BLOCKHEAP_LIB.",
+                self.name,
+                top.display()
+            )
+        })
+    }
+}
+
+fn variable(name: &str) -> String {
+    env::var(name).unwrap_or_else(|error| panic!("{name}, which cargo sets: {error}"))
 }
 
 fn file_at(path: &Path) -> Result<PathBuf, String> {
