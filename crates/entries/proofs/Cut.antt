@@ -1,6 +1,6 @@
 -- The planes of a table, each cut out as a part: they hold its entries, and their words 32 of them.
 -- Assumes nothing.
-use mathlib.Core.Path.{_≡_, refl}
+use mathlib.Core.Path.{_≡_, refl, _∙_}
 use mathlib.Core.List.{List}
 use Prim.Native.Nat.{ℕ, _+_, _-_, _*_, _/_, _%_, _≤_, _<_}
 use native.Mathlib.Decide.{decLt}
@@ -8,10 +8,12 @@ use native.Mathlib.Omega.{arith}
 use lib.ListN.{length, getD, List·getD-eq-default}
 use borrow.Author.Tests.{lt-ltb}
 use borrow.Rule.Slice.PartMut.{midOf}
+use Rattle.rules.specs.Tests.{tabulate}
 use Rattle.rules.specs.Bits.{bitOf, bitAt}
 use Rattle.rules.specs.Entries.{FREE}
 use Rattle.rules.specs.Tables.{entryAt}
 use Rattle.rules.specs.Planes.{planeBytes, entryIn, entriesIn, IsTable}
+use Rattle.laws.proofs.Lists.{length-tabulate, getD-tabulate}
 use Rattle.laws.proofs.Bits.{bitOf-zero}
 use Rattle.laws.proofs.Planes.{length-entriesIn, room-entries, entry-clean}
 use Rattle.memory.specs.Bits.{BitsFrom}
@@ -58,6 +60,25 @@ module _ (t half : ℕ) (table : List ℕ) (is : IsTable t table) (is-half : hal
       let low = part-length table 0 (half - 0) (omega (arith, is .sized .long, is-half)) in
       let high = part-length table half (2 * half - half) (omega (arith, is .sized .long, is-half)) in
       (omega (arith, low), omega (arith, high))
+
+-- ---- n bytes of each plane
+
+module _ (es lows highs : List ℕ) (at n : ℕ) where
+  -- the entries in them
+  abbrev pub entriesOf : List ℕ
+  entriesOf = tabulate (8 * n) (λ (k : ℕ). entryAt es (8 * at + k))
+
+  pub entry-of : (k : ℕ) → k < 8 * n → entryAt entriesOf k ≡ entryAt es (8 * at + k)
+  entry-of k h = getD-tabulate (8 * n) (λ (k : ℕ). entryAt es (8 * at + k)) k FREE h
+
+  pub part-planes : at + n ≤ length lows → at + n ≤ length highs → InPlanes es lows highs → InPlanes entriesOf (midOf at n lows) (midOf at n highs)
+  part-planes room room′ planes k = go (decLt k (8 * n))
+    where
+      go : Dec (k < 8 * n) → entryAt entriesOf k ≡ bitAt (midOf at n lows) k + 2 * bitAt (midOf at n highs) k
+      go (yes l) = entry-of k l ∙ rw (part-bit lows at n k l, part-bit highs at n k l) (planes (8 * at + k))
+      go (no l) =
+          rw (part-past lows at n room k (omega arith), part-past highs at n room′ k (omega arith))
+          (List·getD-eq-default entriesOf FREE (omega (arith, length-tabulate (8 * n) (λ (k : ℕ). entryAt es (8 * at + k)))))
 
 -- ---- a word of each
 

@@ -6,6 +6,7 @@ ghost use lib.ListN.{length};
 ghost use Rattle.rules.specs.Tables.{used, objects, wellFormed};
 ghost use Rattle.rules.specs.Marking.{sweep as sweepOf};
 ghost use Rattle.rules.specs.Planes.{entriesIn, spareFree, Sized, IsTable, Holds};
+ghost use Rattle.whole.specs.Shapes.{BadBits, TestsOn};
 ghost use Rattle.whole.specs.Sweeps.{SweptBits, SweepsOn};
 
 // Whether no spare bit is set: of the last byte of each plane the upper half, if t is odd.
@@ -20,22 +21,74 @@ pub fn spare_free(t: usize, table: &[u8]) -> bool
     (table[half - 1] | table[2 * half - 1]) < 16
 }
 
+// A bit for each of 32 entries that may not stand after the one before it: a MARK, or a TAIL after a FREE. `before` is 1 if the block before them is used, else 0.
+fn bad_bits(low: u32, high: u32, before: u32) -> u32
+    requires { ⌜ before < 2 ⌝ }
+    ensures { λ r. ⌜ BadBits low high before r ⌝ }
+{
+    high & (low | !(((low | high) << 1) | before))
+}
+
+// What is found in some blocks: `bad` is 0 if each entry may stand after the one before it, and `before` is 1 if the last block is used, else 0.
+struct Tested {
+    bad: u32,
+    before: u32,
+}
+
+// The entries of eight bytes of both planes from byte `at` of each are tested, two words of each.
+fn test_eight(lows: &[u8], highs: &[u8], at: usize, before: u32) -> Tested
+    requires { ⌜ (before < 2) × ((at + 8 ≤ length (now lows)) × (at + 8 ≤ length (now highs))) ⌝ }
+    ensures { λ r. ⌜ TestsOn (now (lows .entry)) (now (highs .entry)) at 8 before (r .bad) (r .before) ⌝ }
+{
+    let end = at + 8;
+    let low_part = &lows[at..end];
+    let high_part = &highs[at..end];
+    let a = entries::words_at(low_part, high_part, 0);
+    let b = entries::words_at(low_part, high_part, 1);
+    let bad = bad_bits(a.low, a.high, before);
+    Tested {
+        bad: bad | bad_bits(b.low, b.high, (a.low | a.high) >> 31),
+        before: (b.low | b.high) >> 31,
+    }
+}
+
+// The same of byte `at` of both planes.
+fn test_one(lows: &[u8], highs: &[u8], at: usize, before: u32) -> Tested
+    requires { ⌜ (before < 2) × ((at < length (now lows)) × (at < length (now highs))) ⌝ }
+    ensures { λ r. ⌜ TestsOn (now (lows .entry)) (now (highs .entry)) at 1 before (r .bad) (r .before) ⌝ }
+{
+    let low = lows[at] as u32;
+    let high = highs[at] as u32;
+    Tested {
+        bad: bad_bits(low, high, before),
+        before: (low | high) >> 7,
+    }
+}
+
 // Whether there is no MARK, block 0 is no TAIL, and no TAIL follows a FREE.
 pub fn well_formed(t: usize, table: &[u8]) -> bool
     requires { ⌜ IsTable t (now table) ⌝ }
     ensures { λ r. ⌜ r ≡ wellFormed (entriesIn t (now (table .entry))) ⌝ }
 {
     let half = entries::plane_bytes(t);
-    let mut bad: u8 = 0;
-    let mut before: u8 = 0;
+    let lows = &table[0..half];
+    let highs = &table[half..2 * half];
+    let groups = half / 8;
+    let mut bad: u32 = 0;
+    let mut before: u32 = 0;
     let mut i = 0;
-    while i < half {
-        let low = table[i];
-        let high = table[half + i];
-        let used = low | high;
-        bad = bad | (low & high) | (high & !((used << 1) | before));
-        before = used >> 7;
+    while i < groups {
+        let r = test_eight(lows, highs, 8 * i, before);
+        bad = bad | r.bad;
+        before = r.before;
         i += 1;
+    }
+    let mut j = 8 * groups;
+    while j < half {
+        let r = test_one(lows, highs, j, before);
+        bad = bad | r.bad;
+        before = r.before;
+        j += 1;
     }
     bad == 0
 }
