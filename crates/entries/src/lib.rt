@@ -1,15 +1,16 @@
 // The allocation table: two bit planes for 4t blocks, the low bits of all entries and then their high bits, eight blocks to a byte.
 // Only this crate, `whole` and `packing` know where an entry's bits lie.
 ghost use mathlib.Core.Path.{_≡_};
+ghost use mathlib.Core.Bool.{true};
 ghost use mathlib.Core.List.{List};
 ghost use Prim.Native.Nat.{ℕ, _+_, _*_, _≤_, _<_};
 ghost use lib.Dec.{eqb, leb, ltb};
 ghost use lib.ListN.{length, set, replicate};
 ghost use lib.Seq.{sets};
-ghost use Rattle.rules.specs.Tests.{pick};
-ghost use Rattle.rules.specs.Bits.{bitOf};
+ghost use Rattle.rules.specs.Tests.{pick, both};
+ghost use Rattle.rules.specs.Bits.{bitOf, bitAt};
 ghost use Rattle.rules.specs.Entries.{HEAD as head, MARK as mark};
-ghost use Rattle.rules.specs.Tables.{entryAt, isHead, isTail};
+ghost use Rattle.rules.specs.Tables.{entryAt, isHead, isTail, wellFormed, blockCount};
 ghost use Rattle.rules.specs.Planes.{planeBytes, entriesIn, Sized, IsTable, Holds};
 ghost use Rattle.entries.specs.Groups.{Span, FreeByte, InGroup, InWords};
 use numbers::Block;
@@ -88,6 +89,35 @@ pub fn is_tail(t: usize, table: &[u8], k: Block) -> bool
     }
     let high = plane_bytes(t) + i / 8;
     bit(table[high], i % 8) != 0
+}
+
+// Bit i of a plane. Past its end it is 0.
+fn plane_bit(plane: &[u8], i: usize) -> u8
+    ensures { λ r. ⌜ r ≡ bitAt (now (plane .entry)) i ⌝ }
+{
+    let at = i / 8;
+    if at < plane.len() {
+        return bit(plane[at], i % 8);
+    }
+    0
+}
+
+// Whether block k is the head of an object of two blocks. There is no MARK: so a low bit is a HEAD's, and a high bit a TAIL's.
+pub fn is_pair(t: usize, table: &[u8], k: Block) -> bool
+    requires { ⌜ IsTable t (now table) × ((k .0 < length (entriesIn t (now table))) × (wellFormed (entriesIn t (now table)) ≡ true)) ⌝ }
+    ensures { λ r. ⌜ r ≡ both (isHead (entryAt (entriesIn t (now (table .entry))) (k .0))) (eqb (blockCount (entriesIn t (now (table .entry))) (k .0)) 2) ⌝ }
+{
+    let half = plane_bytes(t);
+    let lows = &table[0..half];
+    let highs = &table[half..2 * half];
+    let i = k.index();
+    if plane_bit(lows, i) == 0 {
+        return false;
+    }
+    if plane_bit(highs, i + 1) == 0 {
+        return false;
+    }
+    plane_bit(highs, i + 2) == 0
 }
 
 // Block k, a HEAD, becomes MARK: its high bit is set.
