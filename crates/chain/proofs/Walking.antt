@@ -10,26 +10,16 @@ use native.Mathlib.Decide.{ℕ-discrete, decLt}
 use lib.Dec.{eqb, ltb}
 use lib.ListN.{length}
 use borrow.Author.Tests.{eq-eqb, ne-eqb, lt-ltb, le-ltb}
-use Rattle.rules.specs.Tests.{pick, orElse}
+use Rattle.rules.specs.Tests.{pick, both, orElse}
 use Rattle.rules.specs.Pointers.{targetOf}
-use Rattle.rules.specs.Runs.{Load}
-use Rattle.rules.specs.Planes.{planes}
-use Rattle.rules.specs.Memory.{Result, memory, perform}
 use Rattle.laws.proofs.Refusals.{true-not-false}
-use Rattle.logs.specs.Log.{Link, linkIn, prepended, lastOf, atIndex}
+use Rattle.logs.specs.Log.{Link, isAccepted, linkIn, prepended, lastOf, atIndex}
 use Rattle.logs.specs.Heads.{Loads, linkFrom, headsFrom}
-use Rattle.chain.specs.Walks.{loadsIn, Passed, passedBy, pass, Steps, ends, goes, Walked, broken, whole}
+use Rattle.heap.specs.Answers.{nextBy}
+use Rattle.chain.specs.Walks.{Passed, passedBy, pass, Steps, ends, goes, Walked, broken, whole}
 use Rattle.chain.specs.declared.Walk.{Walk}
 
 -- ---- one step, by what the loads answer
-
--- what a load answers, by its result
-module _ (base t k i : ℕ) (pool table : List ℕ) {x : Result} (e : x ≡ perform (planes t) (Load base k i) [] (memory pool table)) where
-  pub refusal-is : x .answer .refusal ≡ loadsIn base t pool table k i .refusal
-  refusal-is = ap (λ (y : Result). y .answer .refusal) e
-
-  pub value-is : x .answer .value ≡ loadsIn base t pool table k i .value
-  value-is = ap (λ (y : Result). y .answer .value) e
 
 module _ (load : Loads) (base index : ℕ) (w r : Walk) where
   abbrev link : Option Link
@@ -41,21 +31,23 @@ module _ (load : Loads) (base index : ℕ) (w r : Walk) where
   steps-nowhere e q = rw (← e) (ends q)
 
   module _ (k : ℕ) (at : some k ≡ targetOf base 4096 (w .at .0)) where
-    -- its object has fewer than eight words, or there is none
-    pub steps-short : {a : ℕ} → a ≡ load k 7 .refusal → (a ≡ 0 → ⊥) → r .whole ≡ false → Steps index w link r
-    unfolding linkFrom linkIn
-    steps-short e ne q = rw (← at, ne-eqb (load k 7 .refusal) 0 (λ z. ne (e ∙ z))) (ends q)
+    -- its object has not two blocks, or there is none
+    pub steps-other : none ≡ nextBy (load k) → r .whole ≡ false → Steps index w link r
+    unfolding linkFrom linkIn nextBy
+    steps-other e q = rw (← at) (go (both (isAccepted (load k 7)) (eqb (load k 8 .refusal) 8)) e)
+      where
+        go : (b : Bool) → none ≡ pick b (some (load k 0 .value)) none → Steps index w (pick b (some (record { head = k; next = load k 0 .value })) none) r
+        go true same = absurd (Option·none-ne-some _ same)
+        go false same = ends q
 
-    -- it has more
-    pub steps-long : {a b : ℕ} → a ≡ load k 7 .refusal → a ≡ 0 → b ≡ load k 8 .refusal → (b ≡ 8 → ⊥) → r .whole ≡ false → Steps index w link r
-    unfolding linkFrom linkIn
-    steps-long e z g ne q = rw (← at, eq-eqb (load k 7 .refusal) 0 (sym e ∙ z), ne-eqb (load k 8 .refusal) 8 (λ y. ne (g ∙ y))) (ends q)
-
-    -- it has eight
-    pub steps-on : {a b : ℕ} → a ≡ load k 7 .refusal → a ≡ 0 → b ≡ load k 8 .refusal → b ≡ 8 → r .whole ≡ true → r .at .0 ≡ load k 0 .value
-        → passedBy r ≡ pass index (passedBy w) k → Steps index w link r
-    unfolding linkFrom linkIn
-    steps-on e z g y q next by = rw (← at, eq-eqb (load k 7 .refusal) 0 (sym e ∙ z), eq-eqb (load k 8 .refusal) 8 (sym g ∙ y)) (goes q next by)
+    -- it has
+    pub steps-on : {n : ℕ} → some n ≡ nextBy (load k) → r .whole ≡ true → r .at .0 ≡ n → passedBy r ≡ pass index (passedBy w) k → Steps index w link r
+    unfolding linkFrom linkIn nextBy
+    steps-on {n} e q next by = rw (← at) (go (both (isAccepted (load k 7)) (eqb (load k 8 .refusal) 8)) e)
+      where
+        go : (b : Bool) → some n ≡ pick b (some (load k 0 .value)) none → Steps index w (pick b (some (record { head = k; next = load k 0 .value })) none) r
+        go true same = goes q (next ∙ Option·some-injective _ _ same) by
+        go false same = absurd (Option·none-ne-some _ (sym same))
 
 -- ---- what has been passed at the end
 

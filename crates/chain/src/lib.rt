@@ -11,6 +11,7 @@ ghost use Rattle.rules.specs.Planes.{planes};
 ghost use Rattle.rules.specs.Memory.{memory, AcceptedIn, perform};
 ghost use Rattle.logs.specs.Heads.{linkFrom, headsFrom};
 ghost use Rattle.chain.specs.Walks.{loadsIn, Steps, Walked};
+use heap::Link;
 use numbers::Address;
 use numbers::Block;
 use numbers::Found;
@@ -45,7 +46,7 @@ fn wanted(w: Walk, k: Block, index: u64) -> Block
     if w.count as u64 == index { k } else { w.wanted }
 }
 
-// Passes the entry where the walk stands, if there is one: the address of a head whose object has two blocks, so that its word 7 can be read and word 8 is refused with 8.
+// Passes the entry where the walk stands, if there is one: the address of a head whose object has two blocks.
 fn advance(base: Address, t: usize, pool: &[u8], table: &[u8], w: Walk, index: u64) -> Walk
     requires { ⌜ AcceptedIn (perform (planes t) (Survey (base .0)) [] (memory (now pool) (now table))) × (w .count < 4096) ⌝ }
     ensures { λ r. ⌜ Steps index w (linkFrom (loadsIn (base .0) t (now (pool .entry)) (now (table .entry))) (targetOf (base .0) 4096 (w .at .0))) r ⌝ }
@@ -54,13 +55,10 @@ fn advance(base: Address, t: usize, pool: &[u8], table: &[u8], w: Walk, index: u
     let Found::At(k) = there else {
         return broken();
     };
-    if heap::load_checked(base, t, pool, table, k, 7).refusal != 0 {
+    let link = heap::load_link(base, t, pool, table, k);
+    let Link::Next(next) = link else {
         return broken();
-    }
-    if heap::load_checked(base, t, pool, table, k, 8).refusal != refusals::NO_SUCH_WORD {
-        return broken();
-    }
-    let next = heap::load_checked(base, t, pool, table, k, 0).value;
+    };
     let passed = w.count + 1;
     Walk {
         whole: true,

@@ -1,11 +1,12 @@
 // The calls on a heap as a whole and on the words of its objects: init, survey, load and store. Each checks its arguments first
-// and then acts: a refused call has written nothing. `check` and then `load_checked` are a load in two steps.
+// and then acts: a refused call has written nothing. `check` and then `load_checked` or `load_link` are a load in two steps.
 ghost use mathlib.Core.Path.{_≡_};
 ghost use mathlib.Core.List.{[]};
+ghost use Prim.Native.Nat.{ℕ};
 ghost use Rattle.rules.specs.Planes.{planes};
 ghost use Rattle.rules.specs.Runs.{Init, Survey, Load, Store};
 ghost use Rattle.rules.specs.Memory.{memory, AcceptedIn, perform};
-ghost use Rattle.heap.specs.Answers.{status, surveyed, loaded};
+ghost use Rattle.heap.specs.Answers.{status, surveyed, loaded, linked, nextBy};
 use numbers::Address;
 use numbers::Block;
 
@@ -21,6 +22,12 @@ pub struct Surveyed {
 pub struct Loaded {
     pub refusal: u32,
     pub value: u32,
+}
+
+// The first word of an object of two blocks, or none.
+pub enum Link {
+    Next(u32),
+    None,
 }
 
 // Every block becomes FREE, and every spare bit zero. The pool is not touched.
@@ -100,6 +107,20 @@ pub fn load_checked(
         refusal: 0,
         value: memory::word(pool, k.first_word() + i),
     }
+}
+
+// Word 0 of the object with head k, if it has two blocks, on a heap that `check` has passed: one test in place of three loads.
+pub fn load_link(base: Address, t: usize, pool: &[u8], table: &[u8], k: Block) -> Link
+    requires { ⌜ AcceptedIn (perform (planes t) (Survey (base .0)) [] (memory (now pool) (now table))) ⌝ }
+    ensures { λ r. ⌜ linked r ≡ nextBy (λ (i : ℕ). perform (planes t) (Load (base .0) (k .0) i) [] (memory (now (pool .entry)) (now (table .entry))) .answer) ⌝ }
+{
+    if !k.is_below(entries::blocks(t)) {
+        return Link::None;
+    }
+    if !entries::is_pair(t, table, k) {
+        return Link::None;
+    }
+    Link::Next(memory::word(pool, k.first_word()))
 }
 
 // w becomes word i of the object with head k.

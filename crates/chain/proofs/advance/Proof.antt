@@ -1,15 +1,16 @@
--- The four ends: an address of no block, an object that is too short, one that is too long, and an entry that is passed.
+-- The three ends: an address of no block, an object that has not two blocks, and an entry that is passed.
 -- Assumes nothing.
 use mathlib.Core.Path.{_≡_, refl, sym, ap, _∙_}
 use mathlib.Core.Option.{some}
+use Prim.Native.Nat.{suc, _+_}
 use native.Mathlib.Omega.{arith}
 use borrow.Author.Needs.{needs}
 use Rattle.numbers.specs.Places.{found}
+use Rattle.heap.specs.Answers.{linked}
 use Rattle.rules.specs.Pointers.{targetOf}
 use Rattle.laws.proofs.Widths.{in-32-bits}
-use Prim.Native.Nat.{suc, _+_}
 use Rattle.chain.specs.Walks.{passedBy, pass, loadsIn}
-use Rattle.chain.proofs.Walking.{refusal-is, value-is, steps-nowhere, steps-short, steps-long, steps-on}
+use Rattle.chain.proofs.Walking.{steps-nowhere, steps-other, steps-on}
 use Rattle.chain.proofs.advance.Statement.{statement}
 use Rattle.chain.proofs.advance.Tie as tie
 
@@ -34,8 +35,14 @@ returns c =
 at : (c : tie.After-there) → some (c .there .given .0 .0 .0) ≡ targetOf (c .before .before .before .before .before .args .base .0) 4096 (c .before .before .before .before .before .args .w .at .0)
 at c = sym (ap found (c .there .given .1)) ∙ c .before .before .block-at .ensures
 
-load-checked-requires : tie.Need-load-checked-requires
-load-checked-requires c κs = search needs
+load-link-requires : tie.Need-load-link-requires
+load-link-requires c κs = search needs
+
+enum-known-link : tie.Need-enum-known-link
+enum-known-link c = search needs
+
+enum-told-2 : tie.Need-enum-told-2
+enum-told-2 c = search needs
 
 broken-requires-2 : tie.Need-broken-requires-2
 broken-requires-2 c κs = search needs
@@ -43,25 +50,10 @@ broken-requires-2 c κs = search needs
 returns-2 : tie.Need-returns-2
 returns-2 c =
     let a = c .before .before .before .before .before .before .before .before .before .before .args in
-    steps-short (loadsIn (a .base .0) (a .t) (a .pool .now) (a .table .now)) _ _ _ _ _ (at (c .before .before .before .before .before)) (refusal-is _ _ _ _ _ _ (c .before .before .before .load-checked .ensures)) (c .before .if1 .taken) (c .broken2 .ensures)
-
-load-checked-requires-2 : tie.Need-load-checked-requires-2
-load-checked-requires-2 c κs = search needs
-
-broken-requires-3 : tie.Need-broken-requires-3
-broken-requires-3 c κs = search needs
-
-returns-3 : tie.Need-returns-3
-returns-3 c =
-    let a = c .before .before .before .before .before .before .before .before .before .before .before .before .before .args in
-    steps-long (loadsIn (a .base .0) (a .t) (a .pool .now) (a .table .now)) _ _ _ _ _ (at (c .before .before .before .before .before .before .before .before)) (refusal-is _ _ _ _ _ _ (c .before .before .before .before .before .before .load-checked .ensures)) (c .before .before .before .before .if1 .left)
-    (refusal-is _ _ _ _ _ _ (c .before .before .before .load-checked2 .ensures)) (c .before .if2 .taken) (c .broken3 .ensures)
-
-load-checked-requires-3 : tie.Need-load-checked-requires-3
-load-checked-requires-3 c κs = search needs
+    steps-other (loadsIn (a .base .0) (a .t) (a .pool .now) (a .table .now)) _ _ _ _ _ (at (c .before .before .before .before .before)) (sym (ap linked (c .before .enum-told2 .given .1)) ∙ c .before .before .before .load-link .ensures) (c .broken2 .ensures)
 
 add-passed : tie.Need-add-passed
-add-passed c = in-32-bits (record { fits = omega (arith, c .before .before .before .before .before .before .before .before .before .before .before .before .before .before .pre .1) })
+add-passed c = in-32-bits (record { fits = omega (arith, c .before .before .before .before .before .before .before .before .before .before .before .pre .1) })
 
 of-word-requires : tie.Need-of-word-requires
 of-word-requires c κs = search needs
@@ -69,15 +61,13 @@ of-word-requires c κs = search needs
 wanted-requires : tie.Need-wanted-requires
 wanted-requires c κs = search needs
 
-returns-4 : tie.Need-returns-4
-returns-4 c =
-    let a = c .before .before .before .before .before .before .before .before .before .before .before .before .before .before .before .before .args in
-    let k = c .before .before .before .before .before .before .before .before .before .before .before .there .given .0 .0 .0 in
+returns-3 : tie.Need-returns-3
+returns-3 c =
+    let a = c .before .before .before .before .before .before .before .before .before .before .before .before .before .args in
+    let k = c .before .before .before .before .before .before .before .before .there .given .0 .0 .0 in
     let n : a .w .count + 1 ≡ suc (a .w .count) = omega arith in
     let by : record { count = a .w .count + 1; last = k; wanted = c .wanted .result .0 } ≡ pass (a .index) (passedBy (a .w)) k = rw (n, c .wanted .ensures) in
-    steps-on (loadsIn (a .base .0) (a .t) (a .pool .now) (a .table .now)) _ _ _ _ k (at (c .before .before .before .before .before .before .before .before .before .before .before)) (refusal-is _ _ _ _ _ _ (c .before .before .before .before .before .before .before .before .before .load-checked .ensures)) (c .before .before .before .before .before .before .before .if1 .left)
-    (refusal-is _ _ _ _ _ _ (c .before .before .before .before .before .before .load-checked2 .ensures)) (c .before .before .before .before .if2 .left) refl
-    (c .before .of-word .ensures ∙ value-is _ _ _ _ _ _ (c .before .before .before .load-checked3 .ensures)) by
+    steps-on (loadsIn (a .base .0) (a .t) (a .pool .now) (a .table .now)) _ _ _ _ k (at (c .before .before .before .before .before .before .before .before)) (sym (ap linked (c .before .before .before .before .link .given .1)) ∙ c .before .before .before .before .before .before .load-link .ensures) refl (c .before .of-word .ensures) by
 
 pub advance-spec : {M : Type 1} → statement M
 advance-spec =
@@ -88,14 +78,12 @@ advance-spec =
     enum-told
     broken-requires
     returns
-    load-checked-requires
+    load-link-requires
+    enum-known-link
+    enum-told-2
     broken-requires-2
     returns-2
-    load-checked-requires-2
-    broken-requires-3
-    returns-3
-    load-checked-requires-3
     add-passed
     of-word-requires
     wanted-requires
-    returns-4)
+    returns-3)
