@@ -1,11 +1,12 @@
-// A new entry of a rain log: room for it, with a collection where there is none, and its place behind the last entry.
+// A new entry of a rain log: room for it, with a collection where there is none, and its place behind the last entry. The heap has been checked.
 ghost use mathlib.Core.Path.{_≡_};
-ghost use mathlib.Core.List.{List};
+ghost use mathlib.Core.List.{List, []};
 ghost use Prim.Native.Nat.{ℕ, _/_, _<_, _^_};
 ghost use lib.ListN.{length};
 ghost use Rattle.rules.specs.Pointers.{addressOf};
 ghost use Rattle.rules.specs.Planes.{planes};
-ghost use Rattle.rules.specs.Memory.{memory};
+ghost use Rattle.rules.specs.Runs.{Survey};
+ghost use Rattle.rules.specs.Memory.{memory, AcceptedIn, perform};
 ghost use Rattle.programs.specs.Programs.{run};
 ghost use Rattle.logs.specs.Log.{lastOf, enter as enterProgram, appendTo};
 ghost use Rattle.chain.specs.Walks.{lastBy};
@@ -35,13 +36,13 @@ fn enter(
     k: Block,
     change: i32,
 ) -> Logged
-    requires { ⌜ addressOf (base .0) (k .0) < 2 ^ 32 ⌝ }
+    requires { ⌜ (addressOf (base .0) (k .0) < 2 ^ 32) × AcceptedIn (perform (planes t) (Survey (base .0)) [] (memory (now pool) (now table))) ⌝ }
     ensures { λ r. ⌜ ((ks stack : List ℕ) → lastOf ks ≡ lastBy w → logs r (now (pool .exit)) (now (table .entry)) stack
         ≡ run (planes t) (enterProgram (base .0) first time tips ks (k .0) change) stack (memory (now (pool .entry)) (now (table .entry)))) ⌝ }
 {
     let own = base.of_block(k).to_word();
-    heap::store(base, t, &mut *pool, table, k, 1, time);
-    heap::store(base, t, &mut *pool, table, k, 2, tips);
+    heap::store_checked(base, t, &mut *pool, table, k, 1, time);
+    heap::store_checked(base, t, &mut *pool, table, k, 2, tips);
     if w.count == 0 {
         return Logged {
             refusal: 0,
@@ -49,7 +50,7 @@ fn enter(
             change,
         };
     }
-    heap::store(base, t, &mut *pool, table, w.last, 0, own);
+    heap::store_checked(base, t, &mut *pool, table, w.last, 0, own);
     Logged {
         refusal: 0,
         first,
@@ -70,7 +71,7 @@ fn add_again(
     stack: &mut [u8],
     w: Walk,
 ) -> Logged
-    requires { ⌜ length (now roots) / 4 < 4096 ⌝ }
+    requires { ⌜ (length (now roots) / 4 < 4096) × AcceptedIn (perform (planes t) (Survey (base .0)) [] (memory (now pool) (now table))) ⌝ }
     ensures { λ r. ⌜ ((ks : List ℕ) → lastOf ks ≡ lastBy w → logs r (now (pool .exit)) (now (table .exit)) (now (stack .exit))
         ≡ run (planes t) (againTo (base .0) first time tips (now (roots .entry)) ks) (now (stack .entry)) (memory (now (pool .entry)) (now (table .entry)))) ⌝ }
 {
@@ -111,7 +112,7 @@ pub fn add(
     stack: &mut [u8],
     w: Walk,
 ) -> Logged
-    requires { ⌜ length (now roots) / 4 < 4096 ⌝ }
+    requires { ⌜ (length (now roots) / 4 < 4096) × AcceptedIn (perform (planes t) (Survey (base .0)) [] (memory (now pool) (now table))) ⌝ }
     ensures { λ r. ⌜ ((ks : List ℕ) → lastOf ks ≡ lastBy w → logs r (now (pool .exit)) (now (table .exit)) (now (stack .exit))
         ≡ run (planes t) (appendTo (base .0) first time tips (now (roots .entry)) ks) (now (stack .entry)) (memory (now (pool .entry)) (now (table .entry)))) ⌝ }
 {

@@ -7,7 +7,7 @@ ghost use Rattle.rules.specs.Tests.{both};
 ghost use Rattle.rules.specs.Tables.{wellFormed};
 ghost use Rattle.rules.specs.Planes.{entriesIn, spareFree, planes, Sized, IsTable, heapAt};
 ghost use Rattle.rules.specs.Outcomes.{Heap};
-ghost use Rattle.rules.specs.Refusals.{firstOf, goodShape, heapTests, requestTests, nameTests, noWord, objectTests, resizeTests, wordTests, rootTests, collectionTests};
+ghost use Rattle.rules.specs.Refusals.{firstOf, goodShape, heapTests, requestTests, nameTests, noWord, objectTests, resizeTests, rootTests, collectionTests};
 ghost use Rattle.checks.specs.Refusal.{refusalBy};
 use numbers::Address;
 use numbers::Block;
@@ -120,17 +120,6 @@ pub fn object_word(t: usize, table: &[u8], k: Block, i: usize) -> u32
         return refusals::NO_SUCH_WORD;
     }
     0
-}
-
-// Refusals 1, 2, 6, 7 and 8, of a word of an object.
-pub fn word(base: Address, t: usize, pool: &[u8], table: &[u8], k: Block, i: usize) -> u32
-    ensures { λ r. ⌜ r ≡ refusalBy t (now (pool .entry)) (now (table .entry)) (λ (h : Heap). wordTests (base .0) h (k .0) i) ⌝ }
-{
-    let r = heap(base, t, pool, table);
-    if r != 0 {
-        return r;
-    }
-    object_word(t, table, k, i)
 }
 
 // Refusals 1, 2 and 3, of a root list of so many bytes: the tests depend on its length alone.

@@ -1,5 +1,5 @@
 // The calls on a heap as a whole and on the words of its objects: init, survey, load and store. Each checks its arguments first
-// and then acts: a refused call has written nothing. `check` and then `load_checked` or `load_link` are a load in two steps.
+// and then acts: a refused call has written nothing. `check` and then `load_checked`, `load_link` or `store_checked` are a call in two steps.
 ghost use mathlib.Core.Path.{_≡_};
 ghost use mathlib.Core.List.{[]};
 ghost use Prim.Native.Nat.{ℕ};
@@ -135,9 +135,29 @@ pub fn store(
 ) -> u32
     ensures { λ r. ⌜ status r (now (pool .exit)) (now (table .entry)) ≡ perform (planes t) (Store (base .0) (k .0) i w) [] (memory (now (pool .entry)) (now (table .entry))) ⌝ }
 {
-    let r = checks::word(base, t, &*pool, table, k, i);
+    let r = checks::heap(base, t, &*pool, table);
     if r != 0 {
         return r;
+    }
+    store_checked(base, t, pool, table, k, i, w)
+}
+
+// A store to a heap that `check` has passed.
+pub fn store_checked(
+    base: Address,
+    t: usize,
+    pool: &mut [u8],
+    table: &[u8],
+    k: Block,
+    i: usize,
+    w: u32,
+) -> u32
+    requires { ⌜ AcceptedIn (perform (planes t) (Survey (base .0)) [] (memory (now pool) (now table))) ⌝ }
+    ensures { λ r. ⌜ status r (now (pool .exit)) (now (table .entry)) ≡ perform (planes t) (Store (base .0) (k .0) i w) [] (memory (now (pool .entry)) (now (table .entry))) ⌝ }
+{
+    let refusal = checks::object_word(t, table, k, i);
+    if refusal != 0 {
+        return refusal;
     }
     memory::set_word(pool, k.first_word() + i, w);
     0

@@ -8,6 +8,7 @@ use Rattle.rules.specs.Planes.{planes}
 use Rattle.rules.specs.Runs.{Allocate}
 use Rattle.rules.specs.Memory.{memory, perform}
 use Rattle.allocator.specs.Answers.{placed}
+use Rattle.appender.proofs.Asking.{stays-checked}
 use Rattle.appender.proofs.Bounds.{entry-address}
 use Rattle.appender.proofs.Replies.{adds, adds-again}
 use Rattle.appender.proofs.add.Statement.{statement}
@@ -19,8 +20,14 @@ of-blocks-requires c κs = search needs
 allocate-requires : tie.Need-allocate-requires
 allocate-requires c κs = search needs
 
+-- what the request came to
+asked : (c : tie.After-allocate) →
+    let a = c .before .before .before .before .before .before .before .before .args in
+    placed (c .allocate .result) (c .allocate .last .1 .1 .0) (c .allocate .last .1 .1 .1 .0) ≡ perform (planes (a .t)) (Allocate (a .base .0) 32) [] (memory (a .pool .now) (a .table .now))
+asked c = rw (c .before .of-blocks .ensures) at (c .allocate .ensures)
+
 add-again-requires : tie.Need-add-again-requires
-add-again-requires c κs = search needs
+add-again-requires c κs = (c .before .before .before .before .before .before .before .before .before .before .before .before .before .before .before .before .before .pre .0, stays-checked _ _ _ [] _ (asked (c .before .before .before .before .before .before .before .before .before)) (c .before .before .before .before .before .before .before .before .before .before .before .before .before .before .before .before .before .pre .1))
 
 same-length : tie.Need-same-length
 same-length c = search needs
@@ -31,12 +38,6 @@ same-length-2 c = search needs
 same-length-3 : tie.Need-same-length-3
 same-length-3 c = search needs
 
--- what the request came to
-asked : (c : tie.After-allocate) →
-    let a = c .before .before .before .before .before .before .before .before .args in
-    placed (c .allocate .result) (c .allocate .last .1 .1 .0) (c .allocate .last .1 .1 .1 .0) ≡ perform (planes (a .t)) (Allocate (a .base .0) 32) [] (memory (a .pool .now) (a .table .now))
-asked c = rw (c .before .of-blocks .ensures) at (c .allocate .ensures)
-
 returns : tie.Need-returns
 returns c ks last =
     let got = c .before .before .before .before .before .before .before .before .before .before .before .before .before .before .before .before in
@@ -45,7 +46,7 @@ returns c ks last =
     (c .before .before .before .before .before .before .add-again .ensures ks last)
 
 enter-requires : tie.Need-enter-requires
-enter-requires c κs = entry-address _ _ _ (asked (c .before .before .before .before .before .before .before .before .before)) (c .before .before .before .if1 .left)
+enter-requires c κs = (entry-address _ _ _ (asked (c .before .before .before .before .before .before .before .before .before)) (c .before .before .before .if1 .left), stays-checked _ _ _ [] _ (asked (c .before .before .before .before .before .before .before .before .before)) (c .before .before .before .before .before .before .before .before .before .before .before .before .before .before .before .before .before .pre .1))
 
 same-length-4 : tie.Need-same-length-4
 same-length-4 c = search needs

@@ -1,17 +1,19 @@
 -- After the collection the entry is made, or there is still no room. Assumes nothing.
 use mathlib.Core.Path.{_∙_}
+use mathlib.Core.List.{[]}
 use Prim.Native.Nat.{_≤_}
 use lib.IntN.{natAbs}
 use borrow.Author.Needs.{needs}
 use Rattle.rules.specs.Memory.{memory}
 use Rattle.laws.proofs.Widths.{as-i32}
+use Rattle.appender.proofs.Asking.{stays-checked}
 use Rattle.appender.proofs.Bounds.{read-back, changes-fit, changes-sum, allocate-change, collect-change, entry-address}
 use Rattle.appender.proofs.Replies.{again-adds, again-full}
 use Rattle.appender.proofs.add_again.Statement.{statement}
 use Rattle.appender.proofs.add_again.Tie as tie
 
 collect-with-requires : tie.Need-collect-with-requires
-collect-with-requires c κs = search needs
+collect-with-requires c κs = c .before .before .before .before .before .before .before .pre .0
 
 of-blocks-requires : tie.Need-of-blocks-requires
 of-blocks-requires c κs = search needs
@@ -57,7 +59,10 @@ enter-requires : tie.Need-enter-requires
 enter-requires c κs =
     let got = c .before .before .before .before .before .before .before .before .before .before .before .before in
     let a = got .before .before .before .before .before .before .before .before .before .before .before .before .before .before .before .before .args in
-    entry-address (a .t) (a .base .0) _ (rw (got .before .of-blocks .ensures) at (got .allocate .ensures)) (c .before .before .before .before .before .before .if1 .left)
+    let made = got .before .before .before .before .before .before .before .before in (
+      entry-address (a .t) (a .base .0) _ (rw (got .before .of-blocks .ensures) at (got .allocate .ensures)) (c .before .before .before .before .before .before .if1 .left),
+      stays-checked _ _ _ [] _ (got .allocate .ensures) (stays-checked _ _ _ _ _ (made .collect-with .ensures) (made .before .before .before .before .before .before .before .before .pre .1)),
+    )
 
 same-length-4 : tie.Need-same-length-4
 same-length-4 c = search needs

@@ -79,7 +79,10 @@ to-word-requires c κs =
     first-small (a .t) (a .base .0) (a .pool .now) (a .table .now) (c .before .before .before .before .before .before .before .before .check .ensures .accepts (c .before .before .before .before .before .before .before .if1 .left)) _ _ (the-log (c .before .before .before .before .follow .ensures) (not-false _ (c .before .before .if2 .left)) .are)
 
 add-requires : tie.Need-add-requires
-add-requires c κs = few-roots _ _ _ _ _ (c .before .before .before .before .before .before .before .before .before .before .check .ensures) (c .before .before .before .before .before .before .before .before .before .if1 .left)
+add-requires c κs =
+    let check = c .before .before .before .before .before .before .before .before .before .before .check .ensures in
+    let passes = c .before .before .before .before .before .before .before .before .before .if1 .left in
+    (few-roots _ _ _ _ _ check passes, check .accepts passes)
 
 same-length-7 : tie.Need-same-length-7
 same-length-7 c = search needs
