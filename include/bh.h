@@ -224,35 +224,30 @@ static inline uint32_t bh_collect(const struct blockheap *heap, const uint8_t *r
                              change ? change : &no_change);
 }
 
-/* What bh_collect refuses of the lengths of its lists, whatever the heap. */
-static inline uint32_t bh_lists_refusal(size_t roots_len, size_t stack_len)
+/* Whether bh_collect takes lists of these lengths. */
+static inline int bh_lists_fit(size_t roots_len, size_t stack_len)
 {
-    if (roots_len % BLOCKHEAP_WORD_BYTES != 0 || stack_len % BLOCKHEAP_WORD_BYTES != 0)
-        return BLOCKHEAP_BAD_SHAPE;
-    if (roots_len > BLOCKHEAP_LIST_BYTES(BLOCKHEAP_MAX_ROOTS))
-        return BLOCKHEAP_TOO_MANY_ROOTS;
-    if (stack_len > BLOCKHEAP_LIST_BYTES(BLOCKHEAP_MAX_STACK_ENTRIES))
-        return BLOCKHEAP_STACK_TOO_LONG;
-    return BLOCKHEAP_OK;
+    return roots_len % BLOCKHEAP_WORD_BYTES == 0 && roots_len <= BLOCKHEAP_LIST_BYTES(BLOCKHEAP_MAX_ROOTS)
+        && stack_len % BLOCKHEAP_WORD_BYTES == 0 && stack_len <= BLOCKHEAP_LIST_BYTES(BLOCKHEAP_MAX_STACK_ENTRIES);
 }
 
 /*
  * Allocates. If there is no room it collects, and asks once more, as gc_alloc of
  * MicroPython does. Roots and stack are those of bh_collect; what nothing leads
  * to from them may be freed. `change` is that of both.
- * Refusals, in this order: those of bh_collect for the lists, even if there is
- * room, so that a wrong list shows at once; then those of bh_allocate. After
- * NO_ROOM the collection stands, as after that of bh_log_append: `change` is the
- * number of blocks that it freed, negated.
+ * Refusals: those of bh_collect, even if there is room, so that a wrong list
+ * shows at once; then those of bh_allocate. After NO_ROOM the collection stands,
+ * as after that of bh_log_append: `change` is the number of blocks that it
+ * freed, negated.
  */
 static inline uint32_t bh_allocate_collecting(const struct blockheap *heap, uint64_t bytes,
                                               const uint8_t *roots, size_t roots_len,
                                               uint8_t *stack, size_t stack_len,
                                               uint32_t *block, int32_t *change)
 {
-    uint32_t at = 0, refusal = bh_lists_refusal(roots_len, stack_len);
+    uint32_t at = 0, refusal = BLOCKHEAP_NO_ROOM;
     int32_t freed = 0, taken = 0;
-    if (!refusal)
+    if (bh_lists_fit(roots_len, stack_len))
         refusal = bh_allocate(heap, bytes, &at, &taken);
     if (refusal == BLOCKHEAP_NO_ROOM) {
         refusal = bh_collect(heap, roots, roots_len, stack, stack_len, NULL, NULL, &freed);
