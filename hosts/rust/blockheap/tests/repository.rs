@@ -1,6 +1,7 @@
-//! The crate agrees with the header and the README of the repository that it is part of.
+//! The crate agrees with the headers and the README of the repository that it is part of.
 
 const HEADER: &str = include_str!("../../../../include/blockheap.h");
+const HELPERS: &str = include_str!("../../../../include/bh.h");
 const README: &str = include_str!("../../../../README.md");
 const PROGRAM: &str = include_str!("../examples/readme.rs");
 
@@ -79,6 +80,17 @@ fn the_refusals_are_the_headers() {
     let mut named: Vec<_> = all.map(|refusal| (name_of(refusal), refusal.number())).collect();
     named.dedup(); // a bad shape has one name, whatever its fault
     assert_eq!(named, refusals());
+}
+
+#[test]
+fn the_rules_of_a_shape_are_told_in_the_words_of_the_header() {
+    use blockheap::{Refusal, ShapeFault};
+    for refusal in Refusal::ALL {
+        if let Refusal::BadShape(fault) = refusal {
+            let told = HELPERS.contains(&format!("return \"{fault}\";"));
+            assert_eq!(told, *fault != ShapeFault::ImageT, "{fault}");
+        }
+    }
 }
 
 #[test]
