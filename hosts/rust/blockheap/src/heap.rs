@@ -113,12 +113,12 @@ impl<'m> Heap<'m> {
         self.lent.allocate(bytes).map(Placed::new)
     }
 
-    /// [`Heap::allocate`]s, and where there is no room [`Heap::collect`]s and asks once more, as `gc_alloc` of
-    /// MicroPython does.
+    /// Makes an object as [`Heap::allocate`] does. Where there is no room it collects, as [`Heap::collect`] does,
+    /// and asks once more: so does `gc_alloc` of MicroPython.
     ///
     /// What nothing leads to from these roots may be freed. The change is that of both, and the mark stack is
-    /// not touched without a collection. Roots and stack are looked at even where there is room, so that a list
-    /// that is too long shows at once.
+    /// not touched without a collection. A list that is too long is refused even where there is room, so that it
+    /// shows at once.
     ///
     /// ```
     /// # use blockheap::{Address, MarkEntry, Memory, Refusal};
