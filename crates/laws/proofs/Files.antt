@@ -150,6 +150,6 @@ unfolding poolOf
 pool-bytes [] bs all = λ i. omega arith
 pool-bytes (e ∷ es) bs all = go (pool-bytes es bs all) (pool-bytes es (drop 16 bs) (bounded-drop 16 bs all)) (isFree e)
   where
-    go : AllBytes (poolOf es bs) → AllBytes (poolOf es (drop 16 bs)) → (b : Bool) → AllBytes (pick b (replicate 16 0 ++ poolOf es bs) (take 16 bs ++ poolOf es (drop 16 bs)))
+    go : AllBytes (poolOf es bs) → AllBytes (poolOf es (drop 16 bs)) → (b : Bool) → AllBytes (pick b (replicate 16 0) (take 16 bs) ++ poolOf es (pick b bs (drop 16 bs)))
     go same later true = bounded-append (replicate 16 0) (poolOf es bs) (bounded-replicate 16 0 (omega arith)) same
     go same later false = bounded-append (take 16 bs) (poolOf es (drop 16 bs)) (bounded-take 16 bs all) later

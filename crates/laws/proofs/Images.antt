@@ -9,7 +9,7 @@ use native.Mathlib.Omega.{arith}
 use lib.ListN.{length, getD, set, take, drop, replicate, length-append, length-take, length-drop, List·getD-append}
 use lib.Seq.{ext-getD, getD-take, getD-drop, length-take-le, getD-append-add, drop-drop, take-add, take-append-seam, drop-append-seam}
 use borrow.Author.Tests.{eq-eqb, ne-eqb, eqb-false}
-use Rattle.rules.specs.Tests.{pick, count}
+use Rattle.rules.specs.Tests.{pick, moreIf, count}
 use Rattle.rules.specs.Words.{bytesOf, twoBytesOf}
 use Rattle.rules.specs.Entries.{FREE, tableOf}
 use Rattle.rules.specs.Tables.{entryAt, isFree, used}
@@ -91,7 +91,7 @@ used-before [] i u = absurd (u refl)
 used-before (e ∷ es) zero u = rw (ne-eqb e FREE u) (omega arith)
 used-before (e ∷ es) (suc i) u = go (used-before es i u) (isFree e)
   where
-    go : used (take i es) < used es → (b : Bool) → pick (not b) (suc (used (take i es))) (used (take i es)) < pick (not b) (suc (used es)) (used es)
+    go : used (take i es) < used es → (b : Bool) → moreIf (not b) (used (take i es)) < moreIf (not b) (used es)
     go rest true = rest
     go rest false = omega arith
 

@@ -8,7 +8,7 @@ use native.Mathlib.Decide.{ℕ-discrete, decLt}
 use native.Mathlib.Omega.{arith}
 use lib.ListN.{length, getD, set, take, drop, replicate, length-set}
 use lib.Seq.{sets, sets-eq, set-set, set-comm, getD-set-same, getD-set-other, set-out, drop-cons, drop-length, getD-drop}
-use Rattle.rules.specs.Tests.{pick, count, leading, tabulate}
+use Rattle.rules.specs.Tests.{pick, moreIf, count, leading, tabulate}
 
 -- ---- a run of stores
 
@@ -152,7 +152,7 @@ unfolding count
 count-le f [] = omega arith
 count-le f (x ∷ xs) = go (f x) (count-le f xs)
   where
-    go : (b : Bool) → count f xs ≤ length xs → pick b (suc (count f xs)) (count f xs) ≤ suc (length xs)
+    go : (b : Bool) → count f xs ≤ length xs → moreIf b (count f xs) ≤ suc (length xs)
     go true h = omega arith
     go false h = omega arith
 
@@ -160,7 +160,7 @@ pub count-cons : (f : ℕ → Bool) (x : ℕ) (xs : List ℕ) → count f (x ∷
 unfolding count
 count-cons f x xs = go (f x)
   where
-    go : (b : Bool) → pick b (suc (count f xs)) (count f xs) ≡ one b + count f xs
+    go : (b : Bool) → moreIf b (count f xs) ≡ one b + count f xs
     go true = omega arith
     go false = omega arith
 

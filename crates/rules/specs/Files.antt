@@ -101,7 +101,7 @@ faultOf image = firstOf (fileTests image)
 -- the pool of these entries: each used block has the next 16 of the bytes, and every other byte is zero
 unfoldable pub poolOf : List ℕ → List ℕ → List ℕ
 poolOf [] bytes = []
-poolOf (e ∷ es) bytes = pick (isFree e) (replicate 16 0 ++ poolOf es bytes) (take 16 bytes ++ poolOf es (drop 16 bytes))
+poolOf (e ∷ es) bytes = pick (isFree e) (replicate 16 0) (take 16 bytes) ++ poolOf es (pick (isFree e) bytes (drop 16 bytes))
 
 -- what a file says: the base, the heap and the roots
 abbrev pub baseOf : File → ℕ

@@ -5,7 +5,7 @@ use mathlib.Core.List.{List, [], _∷_}
 use mathlib.Core.Option.{Option, some, none}
 use Prim.Native.Nat.{ℕ, zero, suc}
 
--- the first value if the test holds, else the second
+-- The first value if the test holds, else the second. Both are computed: a definition that went on in each would take twice as long for each element
 abbrev pub pick : {A : Type 0} → Bool → A → A → A
 pick true a b = a
 pick false a b = b
@@ -27,10 +27,15 @@ abbrev pub orElse : {A : Type 0} → Option A → A → A
 orElse none b = b
 orElse (some a) b = a
 
+-- one more if the test holds
+abbrev pub moreIf : Bool → ℕ → ℕ
+moreIf true n = suc n
+moreIf false n = n
+
 -- how many elements pass the test
 unfoldable pub count : (ℕ → Bool) → List ℕ → ℕ
 count f [] = 0
-count f (x ∷ xs) = pick (f x) (suc (count f xs)) (count f xs)
+count f (x ∷ xs) = moreIf (f x) (count f xs)
 
 -- how many elements at the front pass the test, up to the first that does not
 unfoldable pub leading : (ℕ → Bool) → List ℕ → ℕ
