@@ -4,8 +4,8 @@ use Rattle.rules.specs.Examples.{examples-hold, examples-number, words-hold}
 use Rattle.rules.specs.Limits.{limits-hold, limits-number, lengths-hold}
 use Rattle.rules.specs.Orders.{orders-hold, orders-number}
 use Rattle.rules.specs.PlaneExamples.{plane-examples-hold, plane-examples-number, plane-refusals}
-use Rattle.rules.specs.ImageExamples.{image-examples-hold, image-examples-number}
-use Rattle.rules.specs.FileExamples.{file-examples-hold, file-examples-number, prefixes-cut-short}
+use Rattle.rules.specs.ImageExamples.{image-examples-hold, image-examples-number, many-roots}
+use Rattle.rules.specs.FileExamples.{file-examples-hold, file-examples-number, long-list, prefixes-cut-short}
 use Rattle.keeping.proofs.Collections.{keeps-exactly, any-stack}
 use Rattle.promises.proofs.Bytes.{on-bytes}
 use Rattle.promises.proofs.Images.{image-says-all}
@@ -41,8 +41,10 @@ guarantees = record {
   plane-refusals = plane-refusals;
   image-examples-hold = image-examples-hold;
   image-examples-number = image-examples-number;
+  many-roots = many-roots;
   file-examples-hold = file-examples-hold;
   file-examples-number = file-examples-number;
+  long-list = long-list;
   prefixes-cut-short = prefixes-cut-short;
   log-examples-accepted = accepted-hold;
   log-examples-refused = refused-hold;

@@ -9,8 +9,8 @@ use Rattle.rules.specs.Examples.{Example, examples}
 use Rattle.rules.specs.Limits.{limits, Lengths}
 use Rattle.rules.specs.Orders.{orders}
 use Rattle.rules.specs.PlaneExamples.{PlaneExample, planeExamples, PlaneRefusals}
-use Rattle.rules.specs.ImageExamples.{ImageExample, imageExamples}
-use Rattle.rules.specs.FileExamples.{FileExample, fileExamples, PrefixesCutShort}
+use Rattle.rules.specs.ImageExamples.{ImageExample, imageExamples, ManyRoots}
+use Rattle.rules.specs.FileExamples.{FileExample, fileExamples, LongList, PrefixesCutShort}
 use Rattle.keeping.specs.Keeping.{KeepsExactly, AnyStack}
 use Rattle.promises.specs.Bytes.{OnBytes}
 use Rattle.promises.specs.Images.{ImageSaysAll}
@@ -87,10 +87,12 @@ pub record Guarantees : Type 2 where
   pub plane-refusals : PlaneRefusals
   -- Images of heaps come out byte by byte, with what is behind them in the buffer, and where they are refused.
   pub image-examples-hold : map (λ (x : ImageExample). x .is) imageExamples ≡ map (λ (x : ImageExample). x .ought) imageExamples
-  pub image-examples-number : length imageExamples ≡ 11
+  pub image-examples-number : length imageExamples ≡ 9
+  pub many-roots : ManyRoots
   -- Files come out byte by byte, with what is behind their roots in the root list, and where they are refused; each beginning of an image is cut short.
   pub file-examples-hold : map (λ (x : FileExample). x .is) fileExamples ≡ map (λ (x : FileExample). x .ought) fileExamples
-  pub file-examples-number : length fileExamples ≡ 36
+  pub file-examples-number : length fileExamples ≡ 35
+  pub long-list : LongList
   pub prefixes-cut-short : PrefixesCutShort
   -- Logs come out call by call, with every byte of pool, table and mark stack, and where they are refused.
   pub log-examples-accepted : found accepted ≡ expected accepted

@@ -81,10 +81,9 @@ marked = file 3 ((1 ∷ 0 ∷ []) ++ fives 16 ++ (1 ∷ 0 ∷ []) ++ fives 4)
 
 unfoldable pub fileExamples : List FileExample
 fileExamples =
-    -- the 33 bytes, for a root list that is longer, one that is as long, and one of more than 4,096 entries
+    -- the 33 bytes, for a root list that is longer, and one that is as long
     opens four oneImage 4096 (zeros 64) (1 ∷ 0 ∷ []) (0 ∷ 16 ∷ 0 ∷ 0 ∷ []) (sevens 8) 1
     ∷ opens (fourWith (sevens 4)) oneImage 4096 (zeros 64) (1 ∷ 0 ∷ []) (0 ∷ 16 ∷ 0 ∷ 0 ∷ []) [] 1
-    ∷ opens (fourWith (sevens 16388)) oneImage 4096 (zeros 64) (1 ∷ 0 ∷ []) (0 ∷ 16 ∷ 0 ∷ 0 ∷ []) (sevens 16384) 1
     -- no object and no root; an object of blocks 1 and 2, with a FREE block before it and one behind it; t odd
     ∷ opens four (file 0 (0 ∷ 0 ∷ 0 ∷ 0 ∷ [])) 4096 (zeros 64) (0 ∷ 0 ∷ []) [] (sevens 12) 0
     ∷ opens four (file 36 ((2 ∷ 0 ∷ []) ++ fives 16 ++ sevens 16 ++ (2 ∷ 0 ∷ []) ++ fives 8)) 4096 (zeros 16 ++ fives 16 ++ sevens 16 ++ zeros 16) (2 ∷ 4 ∷ []) (fives 8) (sevens 4) 2
@@ -129,7 +128,7 @@ fileExamples =
     ∷ []
 
 -- there are so many
-pub file-examples-number : length fileExamples ≡ 36
+pub file-examples-number : length fileExamples ≡ 35
 unfolding fileExamples
 file-examples-number = refl
 
@@ -137,6 +136,16 @@ file-examples-number = refl
 pub file-examples-hold : map (λ (x : FileExample). x .is) fileExamples ≡ map (λ (x : FileExample). x .ought) fileExamples
 unfolding fileExamples count tabulate bitOf bitAt byteOf number firstTwo wordAt entryOf entriesOf planeBytes entryIn entriesIn spare spareFree plane planesOf mayFollow wellAfter wellFormed used addressOf goodBase unlessRefused firstOf goodShape sectionIn sectionTests fileOf fileTests faultOf poolOf goodTarget openImage step orRefused perform
 file-examples-hold = refl
+
+-- The 33 bytes open for a root list of more than 4,096 entries too, whatever it holds.
+abbrev pub LongList : Type 0
+LongList =
+    (rest : List ℕ) → length rest ≡ 16384
+    → opened (fourWith (sevens 4 ++ rest)) oneImage ≡ filling (openedAt 4096 1) (memory (zeros 64) (1 ∷ 0 ∷ [])) ((0 ∷ 16 ∷ 0 ∷ 0 ∷ []) ++ rest)
+
+pub long-list : LongList
+unfolding count tabulate bitOf bitAt byteOf number firstTwo wordAt entryOf entriesOf planeBytes entryIn entriesIn spare spareFree plane planesOf mayFollow wellAfter wellFormed used addressOf goodBase unlessRefused firstOf goodShape sectionIn sectionTests fileOf fileTests faultOf poolOf goodTarget openImage step orRefused perform
+long-list rest r = rw r refl
 
 -- Each of the 33 beginnings of those 33 bytes is cut short.
 abbrev pub PrefixesCutShort : Type 0

@@ -83,14 +83,12 @@ imageExamples =
     ∷ writes middle (sevens 54) ((1 ∷ 0 ∷ 0 ∷ 16 ∷ 0 ∷ 0 ∷ 1 ∷ 0 ∷ 36 ∷ 2 ∷ 0 ∷ []) ++ fives 16 ++ zeros 16 ++ (2 ∷ 0 ∷ 239 ∷ 190 ∷ 173 ∷ 222 ∷ 5 ∷ 0 ∷ 0 ∷ 0 ∷ [])) (sevens 1)
     ∷ writes odd (zeros 191) ((1 ∷ 0 ∷ 16 ∷ 0 ∷ 0 ∷ 32 ∷ 3 ∷ 0 ∷ 101 ∷ 100 ∷ 165 ∷ 11 ∷ 0 ∷ []) ++ fives 176 ++ (0 ∷ 0 ∷ [])) []
     ∷ writes rooted (zeros 1041) ((1 ∷ 0 ∷ 0 ∷ 16 ∷ 0 ∷ 0 ∷ 1 ∷ 0 ∷ 0 ∷ 0 ∷ 0 ∷ 1 ∷ 1 ∷ []) ++ fives 1028) []
-    -- roots that are not whole words are 1, before a spare bit, which is 2; that is before too many roots, which are 3; and these before a short buffer
+    -- roots that are not whole words are 1, before a spare bit, which is 2; and these before a short buffer
     ∷ refuses (record { t = 1; base = 4096; memory = memory (zeros 64) (16 ∷ 0 ∷ []); roots = sevens 5 }) (sevens 8) 1
-    ∷ refuses (record { t = 1; base = 4096; memory = memory (zeros 64) (16 ∷ 0 ∷ []); roots = sevens 16388 }) (sevens 8) 2
-    ∷ refuses (record { t = 1; base = 4096; memory = memory (zeros 64) (1 ∷ 0 ∷ []); roots = sevens 16388 }) (sevens 8) 3
     ∷ []
 
 -- there are so many
-pub image-examples-number : length imageExamples ≡ 11
+pub image-examples-number : length imageExamples ≡ 9
 unfolding imageExamples
 image-examples-number = refl
 
@@ -98,3 +96,18 @@ image-examples-number = refl
 pub image-examples-hold : map (λ (x : ImageExample). x .is) imageExamples ≡ map (λ (x : ImageExample). x .ought) imageExamples
 unfolding imageExamples count tabulate bitOf bitAt byteOf bytesOf twoBytesOf tableOf planeBytes entryIn entriesIn spare spareFree plane planesOf mayFollow wellAfter wellFormed used addressOf goodBase unlessRefused firstOf goodShape wholeWords section sections blockBytes usedFrom imageOf writeImage step orRefused perform
 image-examples-hold = refl
+
+-- a heap with this low plane, and roots that are one word too many
+abbrev pub manyRooted : ℕ → List ℕ → Source
+manyRooted low roots = record { t = 1; base = 4096; memory = memory (zeros 64) (low ∷ 0 ∷ []); roots = roots }
+
+-- Too many roots, whatever they are, are 3: behind a spare bit, which is 2, and before a short buffer.
+abbrev pub ManyRoots : Type 0
+ManyRoots =
+    (roots : List ℕ) → length roots ≡ 16388
+    → (into (sevens 8) (manyRooted 16 roots) ≡ filling (onlyRefusal 2) (manyRooted 16 roots .memory) (sevens 8))
+    × (into (sevens 8) (manyRooted 1 roots) ≡ filling (onlyRefusal 3) (manyRooted 1 roots .memory) (sevens 8))
+
+pub many-roots : ManyRoots
+unfolding count tabulate bitOf bitAt byteOf bytesOf twoBytesOf tableOf planeBytes entryIn entriesIn spare spareFree plane planesOf mayFollow wellAfter wellFormed used addressOf goodBase unlessRefused firstOf goodShape wholeWords section sections blockBytes usedFrom imageOf writeImage step orRefused perform
+many-roots roots r = (rw r refl, rw r refl)

@@ -2,6 +2,7 @@
 -- In heaps of 8 blocks, computed as Examples has it.
 -- Assumes nothing.
 use mathlib.Core.Path.{_≡_, refl}
+use mathlib.Core.Bool.{true}
 use mathlib.Core.List.{List, [], _∷_, map}
 use mathlib.Core.Option.{some, none}
 use Prim.Native.Nat.{ℕ, _*_}
@@ -11,10 +12,10 @@ use Rattle.rules.specs.Words.{number, wordAt}
 use Rattle.rules.specs.Entries.{entryOf, entriesOf, tableOf}
 use Rattle.rules.specs.Tables.{mayFollow, wellAfter, wellFormed, blockCount, freeFrom, aligned, fits, firstFrom, firstFit, used, objects, longest}
 use Rattle.rules.specs.Pointers.{addressOf, goodBase, targetOf}
-use Rattle.rules.specs.Outcomes.{onlyRefusal, surveyed, loaded, unlessRefused}
+use Rattle.rules.specs.Outcomes.{Heap, onlyRefusal, surveyed, loaded, unlessRefused}
 use Rattle.rules.specs.Refusals.{firstOf, goodShape, wholeWords, heapTests, collectionTests}
 use Rattle.rules.specs.Calls.{blocksFor, allocate, reallocate, survey, load}
-use Rattle.rules.specs.Examples.{Example, example, zeros, stale, small}
+use Rattle.rules.specs.Examples.{Example, example, stale, small}
 
 unfoldable pub limits : List Example
 limits =
@@ -46,31 +47,44 @@ pub limits-hold : map (λ (x : Example). x .is) limits ≡ map (λ (x : Example)
 unfolding limits count leading number wordAt entryOf entriesOf tableOf mayFollow wellAfter wellFormed blockCount freeFrom aligned fits firstFrom firstFit used objects longest addressOf goodBase unlessRefused firstOf goodShape blocksFor allocate reallocate survey load
 limits-hold = refl
 
--- ---- by which number a call is refused. To compute all of a call with lists of such lengths would take long
+-- ---- by which number a call is refused. Only lengths count, so these are said of all lists that have them
 
 -- a collection with so many bytes of roots and of mark stack
-abbrev pub collectionOf : ℕ → ℕ → ℕ
-collectionOf roots stack = firstOf (collectionTests 4096 (small 1 0) (zeros roots) (zeros stack))
+abbrev pub Collection : ℕ → ℕ → ℕ → Type 0
+Collection r s refusal =
+    (roots stack : List ℕ) → length roots ≡ r → length stack ≡ s → firstOf (collectionTests 4096 (small 1 0) roots stack) ≡ refusal
 
--- a call on a heap of so many FREE blocks
-abbrev pub heapOfBlocks : ℕ → ℕ
-heapOfBlocks n = firstOf (heapTests 4096 (record { pool = zeros (16 * n); entries = zeros n }))
+-- a call on a well-formed heap of so many blocks
+abbrev pub Blocks : ℕ → ℕ → Type 0
+Blocks n refusal =
+    (h : Heap) → length (h .entries) ≡ n → length (h .pool) ≡ 16 * n → wellFormed (h .entries) ≡ true → firstOf (heapTests 4096 h) ≡ refusal
 
 -- 4,096 roots and a mark stack of 64 entries are accepted; one root more is 3, one entry more 4, and half a word in either list 1. 4,096 blocks are accepted; 4,100, and none, are 1.
 -- The address of the last block has that as its target, the address behind it none.
 abbrev pub Lengths : Type 0
 Lengths =
-    (collectionOf 16384 256 ≡ 0)
-    × (collectionOf 16388 256 ≡ 3)
-    × (collectionOf 16384 260 ≡ 4)
-    × (collectionOf 6 0 ≡ 1)
-    × (collectionOf 0 6 ≡ 1)
-    × (heapOfBlocks 4096 ≡ 0)
-    × (heapOfBlocks 4100 ≡ 1)
-    × (heapOfBlocks 0 ≡ 1)
+    Collection 16384 256 0
+    × Collection 16388 256 3
+    × Collection 16384 260 4
+    × Collection 6 0 1
+    × Collection 0 6 1
+    × Blocks 4096 0
+    × Blocks 4100 1
+    × Blocks 0 1
     × (targetOf 4096 8 4208 ≡ some 7)
     × (targetOf 4096 8 4224 ≡ none)
 
 pub lengths-hold : Lengths
 unfolding entryOf entriesOf mayFollow wellAfter wellFormed addressOf goodBase targetOf firstOf goodShape wholeWords
-lengths-hold = (refl, refl, refl, refl, refl, refl, refl, refl, refl, refl)
+lengths-hold = (
+  λ roots stack r s. rw (r, s) refl,
+  λ roots stack r s. rw (r, s) refl,
+  λ roots stack r s. rw (r, s) refl,
+  λ roots stack r s. rw r refl,
+  λ roots stack r s. rw (r, s) refl,
+  λ h n p w. rw (n, p, w) refl,
+  λ h n p w. rw n refl,
+  λ h n p w. rw n refl,
+  refl,
+  refl,
+)
