@@ -12,6 +12,7 @@ ghost use Rattle.rules.specs.Bits.{bitOf, bitAt};
 ghost use Rattle.rules.specs.Entries.{HEAD as head, MARK as mark};
 ghost use Rattle.rules.specs.Tables.{entryAt, isHead, isTail, wellFormed, blockCount};
 ghost use Rattle.rules.specs.Planes.{planeBytes, entriesIn, Sized, IsTable, Holds};
+ghost use Rattle.memory.specs.Bits.{BitsFrom};
 ghost use Rattle.entries.specs.Groups.{Span, FreeByte, InGroup, InWords};
 use numbers::Block;
 
@@ -253,4 +254,12 @@ pub fn last_words(lows: &[u8], highs: &[u8], i: usize) -> Words
         low: memory::last_four_bits(lows, 4 * i),
         high: memory::last_four_bits(highs, 4 * i),
     }
+}
+
+// The bits of word i of a plane. Where indices are checked at run time, a reader of one plane is short enough to be a part of every loop that calls it.
+pub fn word_at(plane: &[u8], i: usize) -> u32
+    requires { ⌜ 4 * i + 4 ≤ length (now plane) ⌝ }
+    ensures { λ r. ⌜ BitsFrom (now (plane .entry)) (4 * i) 4 r ⌝ }
+{
+    memory::four_bits(plane, 4 * i)
 }
