@@ -1,9 +1,9 @@
--- 64 bits in a number: the zeros at both ends, and rows of bits, which may go on in a second number.
+-- 32 bits in a number: the zeros at both ends, and rows of bits, which may go on in a second number.
 -- Assumes nothing.
 use mathlib.Core.Path.{_≡_, refl, sym, ap, _∙_}
 use mathlib.Core.Logic.{_≢_}
 use Prim.Native.Nat.{ℕ, zero, suc, _+_, _-_, _*_, _/_, _%_, _^_, _≤_, _<_, min, max}
-use native.Mathlib.Nat.{lt-of-lt-of-le}
+use native.Mathlib.Nat.{lt-of-lt-of-le, one-le-pow}
 use native.Mathlib.Decide.{ℕ-discrete, decLt}
 use native.Mathlib.Omega.{arith}
 use lib.Bits.{bitAnd, bitOr, and-le-l}
@@ -11,26 +11,21 @@ use lib.Count.{trailingZeros, leadingZeros, leading-of-zero}
 use lib.Pow.{pow-mono, shr-le}
 use Rattle.rules.specs.Bits.{bitOf}
 use Rattle.laws.proofs.Bits.{bitOf-lt, bitOf-first, bitOf-suc, bitOf-zero, bitOf-above, bitOf-and, bitOf-or, bitOf-shr, bitOf-shl, bitOf-below, bitOf-not, bitOf-mod, bits-same, TopBit, top-bit}
-use Rattle.freeruns.specs.Rows.{Zeros, ZerosAbove, Row, RowStarts, WholeRow}
+use Rattle.freeruns.specs.Rows.{Zeros, ZerosOf, ZerosAbove, Row, RowStarts, WholeRow}
 
--- 64 bits, all set
+-- 32 bits, all set
 abbrev pub ALL : ℕ
-ALL = 0xFFFF_FFFF_FFFF_FFFF
+ALL = 0xFFFF_FFFF
 
 -- ---- the zeros at both ends
 
--- n of k bits come before the first that is set
-record ZerosIn (k bits n : ℕ) : Type 0 where
-  few : n ≤ k
-  before : (j : ℕ) → j < n → bitOf bits j ≡ 0
-  next : n < k → bitOf bits n ≡ 1
-
-zeros-in : (k a : ℕ) → ZerosIn k a (trailingZeros k a)
+-- those below the lowest that is set
+pub zeros-below : (k a : ℕ) → ZerosOf k a (trailingZeros k a)
 unfolding trailingZeros
-zeros-in zero a = record { few = omega arith; before = λ j l. absurd (omega arith); next = λ l. absurd (omega arith) }
-zeros-in (suc k) a = go (a % 2) refl (zeros-in k (a / 2))
+zeros-below zero a = record { few = omega arith; before = λ j l. absurd (omega arith); next = λ l. absurd (omega arith) }
+zeros-below (suc k) a = go (a % 2) refl (zeros-below k (a / 2))
   where
-    go : (x : ℕ) → a % 2 ≡ x → ZerosIn k (a / 2) (trailingZeros k (a / 2)) → ZerosIn (suc k) a (lib.Count.under x (trailingZeros k (a / 2)))
+    go : (x : ℕ) → a % 2 ≡ x → ZerosOf k (a / 2) (trailingZeros k (a / 2)) → ZerosOf (suc k) a (lib.Count.under x (trailingZeros k (a / 2)))
     go (suc x) p r = record { few = omega arith; before = λ j l. absurd (omega arith); next = λ l. bitOf-first a ∙ omega arith }
     go zero p r = record {
       few = omega (arith, r .few);
@@ -42,79 +37,78 @@ zeros-in (suc k) a = go (a % 2) refl (zeros-in k (a / 2))
         up zero l = bitOf-first a ∙ p
         up (suc j) l = bitOf-suc a j ∙ r .before j (omega arith)
 
--- those below the lowest that is set
-pub zeros-below : (a : ℕ) → Zeros a (trailingZeros 64 a)
-zeros-below a = let z = zeros-in 64 a in record { few = z .few; before = z .before; next = z .next }
-
 -- those above the highest
-pub zeros-above : (a : ℕ) → a < 2 ^ 64 → ZerosAbove a (leadingZeros 64 a)
+pub zeros-above : (a : ℕ) → a < 2 ^ 32 → ZerosAbove a (leadingZeros 32 a)
 zeros-above a h = go (ℕ-discrete a 0)
   where
-    go : Dec (a ≡ 0) → ZerosAbove a (leadingZeros 64 a)
-    go (yes z) = rw (z, leading-of-zero 64) record { few = omega arith; above = λ j l. bitOf-zero (63 - j); next = λ l. absurd (omega arith) }
+    go : Dec (a ≡ 0) → ZerosAbove a (leadingZeros 32 a)
+    go (yes z) = rw (z, leading-of-zero 32) record { few = omega arith; above = λ j l. bitOf-zero (31 - j); next = λ l. absurd (omega arith) }
     go (no some) =
-        let top : TopBit 64 a (leadingZeros 64 a) = top-bit 64 a (omega arith) h in
-        record { few = omega (arith, top .few); above = λ j l. top .above (63 - j) (omega (arith, top .few)); next = λ l. top .set }
+        let top : TopBit 32 a (leadingZeros 32 a) = top-bit 32 a (omega arith) h in
+        record { few = omega (arith, top .few); above = λ j l. top .above (31 - j) (omega (arith, top .few)); next = λ l. top .set }
 
 -- a number that is not 0 has a first bit
-pub first-lt : (a n : ℕ) → a < 2 ^ 64 → a ≢ 0 → Zeros a n → n < 64
-first-lt a n h some z = go (decLt n 64)
+pub first-of : (w a n : ℕ) → a < 2 ^ w → a ≢ 0 → ZerosOf w a n → n < w
+first-of w a n h some z = go (decLt n w)
   where
-    go : Dec (n < 64) → n < 64
+    go : Dec (n < w) → n < w
     go (yes l) = l
-    go (no l) = absurd (some (bits-same 64 a 0 h (omega arith) (λ j m. z .before j (omega arith) ∙ sym (bitOf-zero j))))
+    go (no l) = absurd (some (bits-same w a 0 h (omega (arith, one-le-pow w 2 (omega arith))) (λ j m. z .before j (omega arith) ∙ sym (bitOf-zero j))))
 
--- above the 64 bits each is 0
-pub none-above : (a j : ℕ) → a < 2 ^ 64 → 64 ≤ j → bitOf a j ≡ 0
-none-above a j h l = bitOf-above a j (lt-of-lt-of-le h (pow-mono {i = 64} l))
+pub first-lt : (a n : ℕ) → a < 2 ^ 64 → a ≢ 0 → Zeros a n → n < 64
+first-lt = first-of 64
 
--- a bit that is set is one of the 64
-pub set-lt : (a j : ℕ) → a < 2 ^ 64 → bitOf a j ≢ 0 → j < 64
-set-lt a j h some = go (decLt j 64)
+-- above the 32 bits each is 0
+pub none-above : (a j : ℕ) → a < 2 ^ 32 → 32 ≤ j → bitOf a j ≡ 0
+none-above a j h l = bitOf-above a j (lt-of-lt-of-le h (pow-mono {i = 32} l))
+
+-- a bit that is set is one of the 32
+pub set-lt : (a j : ℕ) → a < 2 ^ 32 → bitOf a j ≢ 0 → j < 32
+set-lt a j h some = go (decLt j 32)
   where
-    go : Dec (j < 64) → j < 64
+    go : Dec (j < 32) → j < 32
     go (yes l) = l
     go (no l) = absurd (some (none-above a j h (omega arith)))
 
 -- ---- two numbers, one after the other
 
-pub low-bit : (a b j : ℕ) → a < 2 ^ 64 → j < 64 → bitOf (a + 2 ^ 64 * b) j ≡ bitOf a j
+pub low-bit : (a b j : ℕ) → a < 2 ^ 32 → j < 32 → bitOf (a + 2 ^ 32 * b) j ≡ bitOf a j
 low-bit a b j h l =
-    let e : (a + 2 ^ 64 * b) % 2 ^ 64 ≡ a = omega arith in
-    sym (bitOf-mod (a + 2 ^ 64 * b) 64 j l) ∙ ap (λ (x : ℕ). bitOf x j) e
+    let e : (a + 2 ^ 32 * b) % 2 ^ 32 ≡ a = omega arith in
+    sym (bitOf-mod (a + 2 ^ 32 * b) 32 j l) ∙ ap (λ (x : ℕ). bitOf x j) e
 
-pub high-bit : (a b j : ℕ) → a < 2 ^ 64 → 64 ≤ j → bitOf (a + 2 ^ 64 * b) j ≡ bitOf b (j - 64)
+pub high-bit : (a b j : ℕ) → a < 2 ^ 32 → 32 ≤ j → bitOf (a + 2 ^ 32 * b) j ≡ bitOf b (j - 32)
 high-bit a b j h l =
-    let e : (a + 2 ^ 64 * b) / 2 ^ 64 ≡ b = omega arith in
-    let at : 64 + (j - 64) ≡ j = omega arith in
-    ap (bitOf (a + 2 ^ 64 * b)) (sym at) ∙ sym (bitOf-shr (a + 2 ^ 64 * b) 64 (j - 64)) ∙ ap (λ (x : ℕ). bitOf x (j - 64)) e
+    let e : (a + 2 ^ 32 * b) / 2 ^ 32 ≡ b = omega arith in
+    let at : 32 + (j - 32) ≡ j = omega arith in
+    ap (bitOf (a + 2 ^ 32 * b)) (sym at) ∙ sym (bitOf-shr (a + 2 ^ 32 * b) 32 (j - 32)) ∙ ap (λ (x : ℕ). bitOf x (j - 32)) e
 
 -- what a turn leaves of the first number, where b follows: the bits that are set at j and at s after j
-module _ (a b s : ℕ) (ha : a < 2 ^ 64) (some : 0 < s) (few : s ≤ 64) where
+module _ (a b s : ℕ) (ha : a < 2 ^ 32) (some : 0 < s) (few : s ≤ 32) where
   abbrev pub turned : ℕ
-  turned = bitAnd a (bitOr (a / 2 ^ s) (b * 2 ^ (64 - s) % 2 ^ 64))
+  turned = bitAnd a (bitOr (a / 2 ^ s) (b * 2 ^ (32 - s) % 2 ^ 32))
 
-  turned-lt : turned < 2 ^ 64
-  turned-lt = omega (arith, and-le-l a (bitOr (a / 2 ^ s) (b * 2 ^ (64 - s) % 2 ^ 64)))
+  turned-lt : turned < 2 ^ 32
+  turned-lt = omega (arith, and-le-l a (bitOr (a / 2 ^ s) (b * 2 ^ (32 - s) % 2 ^ 32)))
 
-  shifted : (j : ℕ) → j < 64 → max (bitOf a (s + j)) (bitOf (b * 2 ^ (64 - s) % 2 ^ 64) j) ≡ bitOf (a + 2 ^ 64 * b) (s + j)
-  shifted j l = go (decLt (s + j) 64)
+  shifted : (j : ℕ) → j < 32 → max (bitOf a (s + j)) (bitOf (b * 2 ^ (32 - s) % 2 ^ 32) j) ≡ bitOf (a + 2 ^ 32 * b) (s + j)
+  shifted j l = go (decLt (s + j) 32)
     where
-      cut : bitOf (b * 2 ^ (64 - s) % 2 ^ 64) j ≡ bitOf (b * 2 ^ (64 - s)) j
-      cut = bitOf-mod (b * 2 ^ (64 - s)) 64 j l
+      cut : bitOf (b * 2 ^ (32 - s) % 2 ^ 32) j ≡ bitOf (b * 2 ^ (32 - s)) j
+      cut = bitOf-mod (b * 2 ^ (32 - s)) 32 j l
 
-      go : Dec (s + j < 64) → max (bitOf a (s + j)) (bitOf (b * 2 ^ (64 - s) % 2 ^ 64) j) ≡ bitOf (a + 2 ^ 64 * b) (s + j)
-      go (yes m) = omega (arith, cut, bitOf-below b (64 - s) j (omega arith), low-bit a b (s + j) ha m)
+      go : Dec (s + j < 32) → max (bitOf a (s + j)) (bitOf (b * 2 ^ (32 - s) % 2 ^ 32) j) ≡ bitOf (a + 2 ^ 32 * b) (s + j)
+      go (yes m) = omega (arith, cut, bitOf-below b (32 - s) j (omega arith), low-bit a b (s + j) ha m)
       go (no m) =
-          let e : 64 - s + (s + j - 64) ≡ j = omega arith in
-          let up : bitOf (b * 2 ^ (64 - s)) j ≡ bitOf b (s + j - 64) = rw e at (bitOf-shl b (64 - s) (s + j - 64)) in
+          let e : 32 - s + (s + j - 32) ≡ j = omega arith in
+          let up : bitOf (b * 2 ^ (32 - s)) j ≡ bitOf b (s + j - 32) = rw e at (bitOf-shl b (32 - s) (s + j - 32)) in
           omega (arith, cut, up, none-above a (s + j) ha (omega arith), high-bit a b (s + j) ha (omega arith))
 
-  turned-bit : (j : ℕ) → j < 64 → bitOf turned j ≡ min (bitOf (a + 2 ^ 64 * b) j) (bitOf (a + 2 ^ 64 * b) (s + j))
+  pub turned-bit : (j : ℕ) → j < 32 → bitOf turned j ≡ min (bitOf (a + 2 ^ 32 * b) j) (bitOf (a + 2 ^ 32 * b) (s + j))
   turned-bit j l =
-      let o : bitOf (bitOr (a / 2 ^ s) (b * 2 ^ (64 - s) % 2 ^ 64)) j ≡ max (bitOf a (s + j)) (bitOf (b * 2 ^ (64 - s) % 2 ^ 64) j) =
-      bitOf-or (a / 2 ^ s) (b * 2 ^ (64 - s) % 2 ^ 64) j ∙ ap (λ (x : ℕ). max x (bitOf (b * 2 ^ (64 - s) % 2 ^ 64) j)) (bitOf-shr a s j) in
-      bitOf-and a (bitOr (a / 2 ^ s) (b * 2 ^ (64 - s) % 2 ^ 64)) j ∙ rw (o, shifted j l, low-bit a b j ha l)
+      let o : bitOf (bitOr (a / 2 ^ s) (b * 2 ^ (32 - s) % 2 ^ 32)) j ≡ max (bitOf a (s + j)) (bitOf (b * 2 ^ (32 - s) % 2 ^ 32) j) =
+      bitOf-or (a / 2 ^ s) (b * 2 ^ (32 - s) % 2 ^ 32) j ∙ ap (λ (x : ℕ). max x (bitOf (b * 2 ^ (32 - s) % 2 ^ 32) j)) (bitOf-shr a s j) in
+      bitOf-and a (bitOr (a / 2 ^ s) (b * 2 ^ (32 - s) % 2 ^ 32)) j ∙ rw (o, shifted j l, low-bit a b j ha l)
 
 -- ---- rows of bits
 
@@ -148,36 +142,36 @@ module _ (whole n s x : ℕ) (h : s ≤ n) (r : Begins whole n x) (j b : ℕ) (h
           rw e (r .only (s + j) (λ z. some (omega (arith, here, z))) (d - s) (omega arith))
 
 -- a turn of both numbers
-module _ (whole n s m a b : ℕ) (ha : a < 2 ^ 64) (some : 0 < s) (few : s ≤ 64) (h : s ≤ n) (sum : n + s ≡ m) (r : Begins whole n (a + 2 ^ 64 * b)) where
-  both-bits : (j : ℕ) → bitOf (turned a b s ha some few + 2 ^ 64 * bitAnd b (b / 2 ^ s)) j ≡ min (bitOf (a + 2 ^ 64 * b) j) (bitOf (a + 2 ^ 64 * b) (s + j))
-  both-bits j = go (decLt j 64)
+module _ (whole n s m a b : ℕ) (ha : a < 2 ^ 32) (some : 0 < s) (few : s ≤ 32) (h : s ≤ n) (sum : n + s ≡ m) (r : Begins whole n (a + 2 ^ 32 * b)) where
+  both-bits : (j : ℕ) → bitOf (turned a b s ha some few + 2 ^ 32 * bitAnd b (b / 2 ^ s)) j ≡ min (bitOf (a + 2 ^ 32 * b) j) (bitOf (a + 2 ^ 32 * b) (s + j))
+  both-bits j = go (decLt j 32)
     where
-      small : turned a b s ha some few < 2 ^ 64
+      small : turned a b s ha some few < 2 ^ 32
       small = turned-lt a b s ha some few
 
-      go : Dec (j < 64) → bitOf (turned a b s ha some few + 2 ^ 64 * bitAnd b (b / 2 ^ s)) j ≡ min (bitOf (a + 2 ^ 64 * b) j) (bitOf (a + 2 ^ 64 * b) (s + j))
+      go : Dec (j < 32) → bitOf (turned a b s ha some few + 2 ^ 32 * bitAnd b (b / 2 ^ s)) j ≡ min (bitOf (a + 2 ^ 32 * b) j) (bitOf (a + 2 ^ 32 * b) (s + j))
       go (yes l) = low-bit (turned a b s ha some few) (bitAnd b (b / 2 ^ s)) j small l ∙ turned-bit a b s ha some few j l
       go (no l) =
-          let e : s + j - 64 ≡ s + (j - 64) = omega arith in
-          let up : bitOf (a + 2 ^ 64 * b) (s + j) ≡ bitOf b (s + (j - 64)) = high-bit a b (s + j) ha (omega arith) ∙ ap (bitOf b) e in
-          high-bit (turned a b s ha some few) (bitAnd b (b / 2 ^ s)) j small (omega arith) ∙ bitOf-and b (b / 2 ^ s) (j - 64)
-          ∙ rw (bitOf-shr b s (j - 64), up, high-bit a b j ha (omega arith))
+          let e : s + j - 32 ≡ s + (j - 32) = omega arith in
+          let up : bitOf (a + 2 ^ 32 * b) (s + j) ≡ bitOf b (s + (j - 32)) = high-bit a b (s + j) ha (omega arith) ∙ ap (bitOf b) e in
+          high-bit (turned a b s ha some few) (bitAnd b (b / 2 ^ s)) j small (omega arith) ∙ bitOf-and b (b / 2 ^ s) (j - 32)
+          ∙ rw (bitOf-shr b s (j - 32), up, high-bit a b j ha (omega arith))
 
-  pub begins-turn : (turned a b s ha some few < 2 ^ 64) × Begins whole m (turned a b s ha some few + 2 ^ 64 * bitAnd b (b / 2 ^ s))
+  pub begins-turn : (turned a b s ha some few < 2 ^ 32) × Begins whole m (turned a b s ha some few + 2 ^ 32 * bitAnd b (b / 2 ^ s))
   begins-turn = (
     turned-lt a b s ha some few,
     rw (← sum) record {
-      set = λ j row. join-set whole n s (a + 2 ^ 64 * b) h r j _ (both-bits j) row;
-      only = λ j set. join-only whole n s (a + 2 ^ 64 * b) h r j _ (both-bits j) set;
+      set = λ j row. join-set whole n s (a + 2 ^ 32 * b) h r j _ (both-bits j) row;
+      only = λ j set. join-only whole n s (a + 2 ^ 32 * b) h r j _ (both-bits j) set;
     },
   )
 
 -- the last turn, of the first alone
-module _ (bits next n s m a b : ℕ) (ha : a < 2 ^ 64) (r : Begins (bits + 2 ^ 64 * next) n (a + 2 ^ 64 * b)) where
-  pub starts-turn : (some : 0 < s) (few : s ≤ 64) → s ≤ n → n + s ≡ m → RowStarts bits next m (turned a b s ha some few)
+module _ (bits next n s m a b : ℕ) (ha : a < 2 ^ 32) (r : Begins (bits + 2 ^ 32 * next) n (a + 2 ^ 32 * b)) where
+  pub starts-turn : (some : 0 < s) (few : s ≤ 32) → s ≤ n → n + s ≡ m → RowStarts bits next m (turned a b s ha some few)
   starts-turn some few h sum = rw (← sum) record {
-    set = λ j l row. join-set (bits + 2 ^ 64 * next) n s (a + 2 ^ 64 * b) h r j _ (turned-bit a b s ha some few j l) row;
-    only = λ j l set. join-only (bits + 2 ^ 64 * next) n s (a + 2 ^ 64 * b) h r j _ (turned-bit a b s ha some few j l) set;
+    set = λ j l row. join-set (bits + 2 ^ 32 * next) n s (a + 2 ^ 32 * b) h r j _ (turned-bit a b s ha some few j l) row;
+    only = λ j l set. join-only (bits + 2 ^ 32 * next) n s (a + 2 ^ 32 * b) h r j _ (turned-bit a b s ha some few j l) set;
   }
 
   -- or none, where the rows are long enough
@@ -190,14 +184,14 @@ module _ (bits next n s m a b : ℕ) (ha : a < 2 ^ 64) (r : Begins (bits + 2 ^ 6
 -- ---- rows of one number
 
 -- a row of one number is one where zeros follow
-row-alone : (bits n j : ℕ) → Row bits n j → Row (bits + 2 ^ 64 * 0) n j
-row-alone bits n j row d l = let e : bits + 2 ^ 64 * 0 ≡ bits = omega arith in rw e (row d l)
+row-alone : (bits n j : ℕ) → Row bits n j → Row (bits + 2 ^ 32 * 0) n j
+row-alone bits n j row d l = let e : bits + 2 ^ 32 * 0 ≡ bits = omega arith in rw e (row d l)
 
-alone-row : (bits n j : ℕ) → Row (bits + 2 ^ 64 * 0) n j → Row bits n j
-alone-row bits n j row d l = let e : bits + 2 ^ 64 * 0 ≡ bits = omega arith in rw e at (row d l)
+alone-row : (bits n j : ℕ) → Row (bits + 2 ^ 32 * 0) n j → Row bits n j
+alone-row bits n j row d l = let e : bits + 2 ^ 32 * 0 ≡ bits = omega arith in rw e at (row d l)
 
 -- where no row of n + 1 bits starts, none is longer than n
-pub none-longer : (bits n r : ℕ) → bits < 2 ^ 64 → RowStarts bits 0 (n + 1) r → r ≡ 0 → (count j : ℕ) → Row bits count j → count ≤ n
+pub none-longer : (bits n r : ℕ) → bits < 2 ^ 32 → RowStarts bits 0 (n + 1) r → r ≡ 0 → (count j : ℕ) → Row bits count j → count ≤ n
 none-longer bits n r h starts z count j row = go (decLt n count)
   where
     go : Dec (n < count) → count ≤ n
@@ -210,28 +204,28 @@ none-longer bits n r h starts z count j row = go (decLt n count)
 
 -- ---- the whole row from a bit on
 
-module _ (bits j : ℕ) (small : bits < 2 ^ 64) (few : j < 64) where
+module _ (bits j : ℕ) (small : bits < 2 ^ 32) (few : j < 32) where
   abbrev clear : ℕ
   clear = (ALL - bits) / 2 ^ j
 
   -- a bit is set where its clear bit is not
-  clear-bit : (d : ℕ) → j + d < 64 → bitOf clear d ≡ 1 - bitOf bits (j + d)
-  clear-bit d l = bitOf-shr (ALL - bits) j d ∙ bitOf-not 64 bits (j + d) small l
+  clear-bit : (d : ℕ) → j + d < 32 → bitOf clear d ≡ 1 - bitOf bits (j + d)
+  clear-bit d l = bitOf-shr (ALL - bits) j d ∙ bitOf-not 32 bits (j + d) small l
 
-  set-at : (d : ℕ) → j + d < 64 → bitOf clear d ≡ 0 → bitOf bits (j + d) ≡ 1
+  set-at : (d : ℕ) → j + d < 32 → bitOf clear d ≡ 0 → bitOf bits (j + d) ≡ 1
   set-at d l z = omega (arith, clear-bit d l, z, bitOf-lt bits (j + d))
 
   -- none is clear
-  pub to-the-end : clear ≡ 0 → WholeRow bits j (64 - j)
+  pub to-the-end : clear ≡ 0 → WholeRow bits j (32 - j)
   to-the-end z = record {
     row = λ d l. set-at d (omega arith) (rw z (bitOf-zero d));
-    next = λ e. omega (arith, e, none-above bits (j + (64 - j)) small (omega arith));
+    next = λ e. omega (arith, e, none-above bits (j + (32 - j)) small (omega arith));
   }
 
   -- the first that is clear ends it
-  pub to-the-first : (n : ℕ) → clear ≢ 0 → Zeros clear n → WholeRow bits j n
+  pub to-the-first : (n : ℕ) → clear ≢ 0 → ZerosOf 32 clear n → WholeRow bits j n
   to-the-first n some z =
-      let taken : bitOf clear n ≡ 1 = z .next (first-lt clear n (omega (arith, shr-le (ALL - bits) j)) some z) in
+      let taken : bitOf clear n ≡ 1 = z .next (first-of 32 clear n (omega (arith, shr-le (ALL - bits) j)) some z) in
       let room = set-lt (ALL - bits) (j + n) (omega arith) (λ e. omega (arith, e, sym (bitOf-shr (ALL - bits) j n), taken)) in
       record {
         row = λ d l. set-at d (omega arith) (z .before d l);
@@ -239,7 +233,7 @@ module _ (bits j : ℕ) (small : bits < 2 ^ 64) (few : j < 64) where
       }
 
 -- where a row of n + 1 bits starts, the whole row is longer than n
-pub whole-longer : (bits n j count : ℕ) → Row (bits + 2 ^ 64 * 0) (n + 1) j → WholeRow bits j count → n < count
+pub whole-longer : (bits n j count : ℕ) → Row (bits + 2 ^ 32 * 0) (n + 1) j → WholeRow bits j count → n < count
 whole-longer bits n j count row whole = go (decLt n count)
   where
     go : Dec (n < count) → n < count

@@ -1,4 +1,4 @@
--- Reading the table 64 blocks at a time: what is known of its runs at one place is known at the next, and at the end it is all.
+-- Reading the table 32 blocks at a time: what is known of its runs at one place is known at the next, and at the end it is all.
 -- Assumes nothing.
 use mathlib.Core.Path.{_≡_, _∙_}
 use mathlib.Core.Logic.{_≢_, _⊎_, ⊎-elim}
@@ -12,38 +12,38 @@ use Rattle.rules.specs.Entries.{FREE, HEAD}
 use Rattle.laws.specs.Meaning.{Run, Longest}
 use Rattle.laws.proofs.Bits.{bitOf-lt, bitOf-zero, bitOf-not}
 use Rattle.laws.proofs.Tables.{run-shorter}
-use Rattle.freeruns.specs.Rows.{FreeIn, Zeros, ZerosAbove, LongestRow}
+use Rattle.freeruns.specs.Rows.{FreeIn, ZerosOf, ZerosAbove, LongestRow}
 use Rattle.freeruns.specs.Scans.{Scanned}
-use Rattle.freeruns.proofs.Rows.{ALL, first-lt}
+use Rattle.freeruns.proofs.Rows.{ALL, first-of}
 use Rattle.freeruns.proofs.Frees.{free-run, run-free, bit-free, free-bit, row-run, run-row}
 
--- ---- 64 blocks more
+-- ---- 32 blocks more
 
-module _ (es : List ℕ) (i bits : ℕ) (small : bits < 2 ^ 64) (holds : FreeIn es i bits) where
+module _ (es : List ℕ) (i bits : ℕ) (small : bits < 2 ^ 32) (holds : FreeIn es i bits) where
   abbrev p : ℕ
-  p = 64 * i
+  p = 32 * i
 
   -- the bits of those that are used
   abbrev used : ℕ
   used = ALL - bits
 
-  used-bit : (j : ℕ) → j < 64 → bitOf used j ≡ 1 - bitOf bits j
-  used-bit j l = bitOf-not 64 bits j small l
+  used-bit : (j : ℕ) → j < 32 → bitOf used j ≡ 1 - bitOf bits j
+  used-bit j l = bitOf-not 32 bits j small l
 
-  free-at : (k : ℕ) → p ≤ k → k < p + 64 → bitOf used (k - p) ≡ 0 → getD es k HEAD ≡ FREE
+  free-at : (k : ℕ) → p ≤ k → k < p + 32 → bitOf used (k - p) ≡ 0 → getD es k HEAD ≡ FREE
   free-at k h l z =
       let e : p + (k - p) ≡ k = omega arith in
       rw e at (bit-free es i bits holds (k - p) (omega arith) (omega (arith, used-bit (k - p) (omega arith), z, bitOf-lt bits (k - p))))
 
-  used-at : (j : ℕ) → j < 64 → bitOf used j ≡ 1 → getD es (p + j) HEAD ≡ FREE → ⊥
+  used-at : (j : ℕ) → j < 32 → bitOf used j ≡ 1 → getD es (p + j) HEAD ≡ FREE → ⊥
   used-at j l set free = omega (arith, used-bit j l, set, free-bit es i bits holds j l free)
 
   module _ (longest ending : ℕ) (known : Scanned es p longest ending) where
-    next : p + 64 ≡ 64 * suc i
+    next : p + 32 ≡ 32 * suc i
     next = omega arith
 
     -- all are FREE: the run at the end goes on
-    pub all-free : used ≡ 0 → Scanned es (64 * suc i) longest (ending + 64)
+    pub all-free : used ≡ 0 → Scanned es (32 * suc i) longest (ending + 32)
     all-free z = rw (← next) record {
       start = known .start;
       run = known .run;
@@ -52,26 +52,26 @@ module _ (es : List ℕ) (i bits : ℕ) (small : bits < 2 ^ 64) (holds : FreeIn 
       most = λ c s h r. known .most c s (omega arith) r;
     }
       where
-        go : (k : ℕ) → p + 64 ≤ k + (ending + 64) → k < p + 64 → Dec (k < p) → getD es k HEAD ≡ FREE
+        go : (k : ℕ) → p + 32 ≤ k + (ending + 32) → k < p + 32 → Dec (k < p) → getD es k HEAD ≡ FREE
         go k h l (yes m) = known .free k (omega arith) m
         go k h l (no m) = free-at k (omega arith) l (rw z (bitOf-zero (k - p)))
 
     -- some are not: the run at the end stops at the first of these, and a new one starts behind the last
-    module _ (some : used ≢ 0) (front back best : ℕ) (at-front : Zeros used front) (at-back : ZerosAbove used back) where
-      front-lt : front < 64
-      front-lt = first-lt used front (omega arith) some at-front
+    module _ (some : used ≢ 0) (front back best : ℕ) (at-front : ZerosOf 32 used front) (at-back : ZerosAbove used back) where
+      front-lt : front < 32
+      front-lt = first-of 32 used front (omega arith) some at-front
 
-      back-lt : back < 64
-      back-lt = go (decLt back 64)
+      back-lt : back < 32
+      back-lt = go (decLt back 32)
         where
-          go : Dec (back < 64) → back < 64
+          go : Dec (back < 32) → back < 32
           go (yes l) = l
           go (no l) =
-              let e : 63 - (63 - front) ≡ front = omega (arith, front-lt) in
-              absurd (omega (arith, at-front .next front-lt, rw e at (at-back .above (63 - front) (omega arith))))
+              let e : 31 - (31 - front) ≡ front = omega (arith, front-lt) in
+              absurd (omega (arith, at-front .next front-lt, rw e at (at-back .above (31 - front) (omega arith))))
 
       -- no run reaches over a block that is used
-      stops : (j c s : ℕ) → j < 64 → bitOf used j ≡ 1 → Run es c s → s ≤ p + j → s + c ≤ p + j
+      stops : (j c s : ℕ) → j < 32 → bitOf used j ≡ 1 → Run es c s → s ≤ p + j → s + c ≤ p + j
       stops j c s l taken r h = go (decLt (p + j) (s + c))
         where
           go : Dec (p + j < s + c) → s + c ≤ p + j
@@ -94,28 +94,28 @@ module _ (es : List ℕ) (i bits : ℕ) (small : bits < 2 ^ 64) (holds : FreeIn 
             same : r ≡ best → (s : ℕ) × Run es r s
             same e = ⊎-elim (λ o. absurd (omega (arith, row .least))) (λ o. (p - ending, let q : r ≡ ending + front = e ∙ o in rw q (closed (omega arith)))) one-of
 
-        most : (c s : ℕ) → s + back < p + 64 → Run es c s → c ≤ r
+        most : (c s : ℕ) → s + back < p + 32 → Run es c s → c ≤ r
         most c s h run = go (decLt (s + ending) p) (decLt (p + front) s)
           where
             go : Dec (s + ending < p) → Dec (p + front < s) → c ≤ r
             go (yes l) _ = omega (arith, known .most c s l run, row .least)
             go (no l) (no m) = omega (arith, stops front c s front-lt (at-front .next front-lt) run (omega arith), row .least)
             go (no l) (yes m) =
-                let reach = stops (63 - back) c s (omega arith) (at-back .next back-lt) run (omega (arith, back-lt)) in
+                let reach = stops (31 - back) c s (omega arith) (at-back .next back-lt) run (omega (arith, back-lt)) in
                 row .most c (s - p) (omega (arith, back-lt)) (run-row es i bits small holds c s (omega arith) (omega (arith, back-lt)) run)
 
-        pub some-used : Scanned es (64 * suc i) r back
+        pub some-used : Scanned es (32 * suc i) r back
         some-used = rw (← next) (go (decLt longest r))
           where
-            ends : (k : ℕ) → p + 64 ≤ k + back → k < p + 64 → getD es k HEAD ≡ FREE
+            ends : (k : ℕ) → p + 32 ≤ k + back → k < p + 32 → getD es k HEAD ≡ FREE
             ends k h l =
-                let e : 63 - (63 - (k - p)) ≡ k - p = omega (arith, back-lt) in
-                free-at k (omega (arith, back-lt)) l (rw e at (at-back .above (63 - (k - p)) (omega (arith, back-lt))))
+                let e : 31 - (31 - (k - p)) ≡ k - p = omega (arith, back-lt) in
+                free-at k (omega (arith, back-lt)) l (rw e at (at-back .above (31 - (k - p)) (omega (arith, back-lt))))
 
-            with-run : (s : ℕ) → Run es r s → Scanned es (p + 64) r back
+            with-run : (s : ℕ) → Run es r s → Scanned es (p + 32) r back
             with-run s run = record { start = s; run = run; room = omega (arith, back-lt); free = ends; most = most }
 
-            go : Dec (longest < r) → Scanned es (p + 64) r back
+            go : Dec (longest < r) → Scanned es (p + 32) r back
             go (yes l) = let f = found l in with-run (f .0) (f .1)
             go (no l) = with-run (known .start) (run-shorter es longest r (known .start) (omega arith) (known .run))
 

@@ -18,7 +18,7 @@ pub record Scanned (es : List ℕ) (p longest ending : ℕ) : Type 0 where
   -- no run that starts before them is longer
   pub most : (b s : ℕ) → s + ending < p → Run es b s → b ≤ longest
 
--- in every table in which 64 blocks from block 64 * i on are FREE by these bits: what is known there of the first two numbers is known behind them of the others
+-- in every table in which 32 blocks from block 32 * i on are FREE by these bits: what is known there of the first two numbers is known behind them of the others
 abbrev pub ReadOn : ℕ → ℕ → ℕ → ℕ → ℕ → Type 0
 ReadOn free longest ending longest′ ending′ =
-    (es : List ℕ) (i : ℕ) → FreeIn es i free → Scanned es (64 * i) longest ending → Scanned es (64 * suc i) longest′ ending′
+    (es : List ℕ) (i : ℕ) → FreeIn es i free → Scanned es (32 * i) longest ending → Scanned es (32 * suc i) longest′ ending′

@@ -9,25 +9,24 @@ use lib.ListN.{length, getD}
 use Rattle.rules.specs.Bits.{bitOf}
 use Rattle.rules.specs.Entries.{FREE, HEAD}
 use Rattle.laws.specs.Meaning.{Aligned, Fits, Run}
-use Rattle.entries.specs.Groups.{FreeByte}
 
 -- nowhere from block s on and before block e may b blocks start
 abbrev pub NoStart : List ℕ → ℕ → ℕ → ℕ → Type 0
 NoStart es b s e = (q : ℕ) → s ≤ q → q < e → Fits es b q → ⊥
 
--- r has a bit for each of the eight blocks of byte i at which b blocks may start. It may have others
-abbrev pub MayStart : List ℕ → ℕ → ℕ → ℕ → Type 0
-MayStart es b i r = (j : ℕ) → j < 8 → bitOf r j ≡ 0 → Fits es b (8 * i + j) → ⊥
+-- the bits of b blocks from bit j on are set, as far as 64 bits go: the 32 of `free`, and then those of `next`
+abbrev pub AllSet : ℕ → ℕ → ℕ → ℕ → Type 0
+AllSet free next b j = (d : ℕ) → d < b → j + d < 64 → bitOf (free + 2 ^ 32 * next) (j + d) ≡ 1
 
--- the same of the bits alone: so it is at byte i of every table in which those blocks are FREE, and those of the next byte
-abbrev pub StartsIn : ℕ → ℕ → ℕ → ℕ → Type 0
-StartsIn a c b r = (es : List ℕ) (i : ℕ) → FreeByte es i a → FreeByte es (i + 1) c → MayStart es b i r
+-- they are from no bit on at which b blocks are aligned
+abbrev pub NoneSet : ℕ → ℕ → ℕ → Type 0
+NoneSet free next b = (j : ℕ) → j < 32 → Aligned b j → AllSet free next b j → ⊥
 
--- r has a bit for each of 64 blocks at which a row of b bits of FREE blocks starts and b blocks are aligned; it may have others of FREE blocks at which they are aligned
+-- r has a bit for each of 32 blocks at which a row of b bits of FREE blocks starts and b blocks are aligned; it may have others of FREE blocks at which they are aligned
 pub record Starts (free next b r : ℕ) : Type 0 where
-  pub all : (j : ℕ) → j < 64 → Aligned b j → ((d : ℕ) → d < b → j + d < 128 → bitOf (free + 2 ^ 64 * next) (j + d) ≡ 1) → bitOf r j ≡ 1
-  pub is-free : (j : ℕ) → j < 64 → bitOf r j ≡ 1 → bitOf free j ≡ 1
-  pub aligned : (j : ℕ) → j < 64 → bitOf r j ≡ 1 → Aligned b j
+  pub all : (j : ℕ) → j < 32 → Aligned b j → AllSet free next b j → bitOf r j ≡ 1
+  pub is-free : (j : ℕ) → j < 32 → bitOf r j ≡ 1 → bitOf free j ≡ 1
+  pub aligned : (j : ℕ) → j < 32 → bitOf r j ≡ 1 → Aligned b j
 
 -- the search from block s on may go on at block r: b blocks may start nowhere before it, and they are aligned there, unless it is the table's end
 pub record Next (es : List ℕ) (b s r : ℕ) : Type 0 where

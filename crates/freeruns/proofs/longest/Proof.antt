@@ -1,4 +1,4 @@
--- `longest`: the table is read 64 blocks at a time as far as its end, where everything is known.
+-- `longest`: the table is read 32 blocks at a time as far as its end, where everything is known.
 -- Assumes nothing.
 use mathlib.Core.Path.{_≡_}
 use Prim.Native.Nat.{suc, _+_, _-_, _*_, _≤_, _<_}
@@ -15,10 +15,10 @@ use Rattle.freeruns.proofs.longest.Statement.{statement}
 use Rattle.freeruns.proofs.longest.Tie as tie
 
 abbrev Inv-loop : tie.InvT-loop
-Inv-loop t table n read₀ i₀ read i = (i ≤ 64) × Scanned (entriesIn t table) (64 * i) (read .longest) (read .ending)
+Inv-loop t table n read₀ i₀ read i = (i ≤ 128) × Scanned (entriesIn t table) (32 * i) (read .longest) (read .ending)
 
 abbrev μ-loop : tie.MeasureT-loop
-μ-loop t table n read₀ i₀ read i = 64 - i
+μ-loop t table n read₀ i₀ read i = 128 - i
 
 blocks-requires : tie.Need-blocks-requires Inv-loop μ-loop
 blocks-requires c κs = search needs
@@ -29,8 +29,8 @@ loop-holds c = (omega arith, scan-start (entriesIn (c .before .before .args .t) 
 mul-loop : tie.Need-mul-loop Inv-loop μ-loop
 mul-loop c = in-32-bits (search needs)
 
--- 64 more are left
-more : (c : tie.In-loop Inv-loop μ-loop) → c .before .loop .i < 64
+-- 32 more are left
+more : (c : tie.In-loop Inv-loop μ-loop) → c .before .loop .i < 128
 more c =
     let s = c .before .before .before .before in
     omega (arith, c .loop-test .taken, c .before .before .blocks2 .ensures (s .args .table .now), few-entries (s .args .t) (s .args .table .now) (s .pre))
@@ -53,7 +53,7 @@ loop-again : tie.Need-loop-again Inv-loop μ-loop
 loop-again c =
     let l = c .before .before .before .loop in
     let a = c .before .before .before .before .before .before .args in
-    let e : 64 * suc (l .i) ≡ 64 * (l .i + 1) = omega arith in
+    let e : 32 * suc (l .i) ≡ 32 * (l .i + 1) = omega arith in
     (omega (arith, more (c .before .before)), rw e at (c .read-on .ensures (entriesIn (a .t) (a .table .now)) (l .i) (c .before .free-bits .ensures) (l .inv .1)))
 
 greatest-requires : tie.Need-greatest-requires Inv-loop μ-loop
@@ -65,7 +65,7 @@ returns c =
     let a = c .before .before .before .before .before .args in
     let es = entriesIn (a .t) (a .table .now) in
     let best = c .greatest in
-    let past = scan-end es (64 * l .i) (l .read .longest) (l .read .ending) (best .result) (omega (arith, c .before .loop-test .left, c .before .before .before .blocks2 .ensures (a .table .now))) (l .inv .1)
+    let past = scan-end es (32 * l .i) (l .read .longest) (l .read .ending) (best .result) (omega (arith, c .before .loop-test .left, c .before .before .before .blocks2 .ensures (a .table .now))) (l .inv .1)
     (best .ensures .0) (best .ensures .1 .0) (best .ensures .1 .1) in
     longest-one es (best .result) (longest es) past (longest-says es)
 

@@ -7,7 +7,7 @@ use native.Mathlib.Omega.{arith}
 use borrow.Author.Needs.{needs}
 use Rattle.laws.proofs.Widths.{in-32-bits}
 use Rattle.freeruns.specs.Rows.{Row}
-use Rattle.freeruns.proofs.Rows.{first-lt, none-longer, whole-longer}
+use Rattle.freeruns.proofs.Rows.{first-of, none-longer, whole-longer}
 use Rattle.freeruns.proofs.longest_row.Statement.{statement}
 use Rattle.freeruns.proofs.longest_row.Tie as tie
 
@@ -15,7 +15,7 @@ abbrev Inv-loop : tie.InvT-loop
 Inv-loop bits n best₀ best = (n ≤ best) × ((best ≡ n) ⊎ ((j : ℕ) × Row bits best j))
 
 abbrev μ-loop : tie.MeasureT-loop
-μ-loop bits n best₀ best = 64 - best
+μ-loop bits n best₀ best = 32 - best
 
 loop-holds : tie.Need-loop-holds Inv-loop μ-loop
 loop-holds c = (search needs, inl refl)
@@ -35,12 +35,12 @@ returns c =
       most = λ count j few row. none-longer (c .before .before .before .before .args .bits) (l .best) (c .before .row-starts .result) (omega arith) (c .before .row-starts .ensures) (c .if1 .taken) count j row;
     }
 
-first-requires : tie.Need-first-requires Inv-loop μ-loop
-first-requires c κs = search needs
+first-of-32-requires : tie.Need-first-of-32-requires Inv-loop μ-loop
+first-of-32-requires c κs = search needs
 
--- the first start is one of the 64 bits
-start-lt : (c : tie.After-first Inv-loop μ-loop) → c .first .result < 64
-start-lt c = first-lt (c .before .before .row-starts .result) (c .first .result) (omega arith) (c .before .if1 .left) (c .first .ensures)
+-- the first start is one of the 32 bits
+start-lt : (c : tie.After-first-of-32 Inv-loop μ-loop) → c .first-of-32 .result < 32
+start-lt c = first-of 32 (c .before .before .row-starts .result) (c .first-of-32 .result) (omega arith) (c .before .if1 .left) (c .first-of-32 .ensures)
 
 row-from-requires : tie.Need-row-from-requires Inv-loop μ-loop
 row-from-requires c κs = start-lt c
@@ -49,15 +49,15 @@ row-from-requires c κs = start-lt c
 longer : (c : tie.After-row-from Inv-loop μ-loop) → c .before .before .before .before .before .loop .best < c .row-from .result
 longer c =
     let starts = c .before .before .before .row-starts in
-    let set = c .before .first .ensures .next (start-lt (c .before)) in
-    whole-longer (c .before .before .before .before .before .before .args .bits) _ (c .before .first .result) (c .row-from .result)
-    (starts .ensures .only (c .before .first .result) (start-lt (c .before)) (λ z. omega (arith, z, set))) (c .row-from .ensures)
+    let set = c .before .first-of-32 .ensures .next (start-lt (c .before)) in
+    whole-longer (c .before .before .before .before .before .before .args .bits) _ (c .before .first-of-32 .result) (c .row-from .result)
+    (starts .ensures .only (c .before .first-of-32 .result) (start-lt (c .before)) (λ z. omega (arith, z, set))) (c .row-from .ensures)
 
 loop-less : tie.Need-loop-less Inv-loop μ-loop
 loop-less c = omega (arith, longer c)
 
 loop-again : tie.Need-loop-again Inv-loop μ-loop
-loop-again c = (omega (arith, longer c), inr (c .before .first .result, c .row-from .ensures .row))
+loop-again c = (omega (arith, longer c), inr (c .before .first-of-32 .result, c .row-from .ensures .row))
 
 returns-2 : tie.Need-returns-2 Inv-loop μ-loop
 returns-2 c =
@@ -74,7 +74,7 @@ longest-row-spec =
     add-row-starts
     row-starts-requires
     returns
-    first-requires
+    first-of-32-requires
     row-from-requires
     loop-less
     loop-again

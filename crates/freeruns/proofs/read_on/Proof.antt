@@ -15,8 +15,8 @@ returns c =
     let a = c .before .before .args in
     λ es i holds known. all-free es i (a .free) (omega arith) holds (a .before .longest) (a .before .ending) known (c .before .if1 .taken)
 
-first-requires : tie.Need-first-requires
-first-requires c κs = search needs
+first-of-32-requires : tie.Need-first-of-32-requires
+first-of-32-requires c κs = search needs
 
 add-closed : tie.Need-add-closed
 add-closed c = in-32-bits (search needs)
@@ -33,7 +33,7 @@ above-last-requires c κs = search needs
 returns-2 : tie.Need-returns-2
 returns-2 c =
     let a = c .before .before .before .before .before .before .args in
-    let front = c .before .before .before .before .first in
+    let front = c .before .before .before .before .first-of-32 in
     let best = c .before .before .greatest in
     λ es i holds known. some-used es i (a .free) (omega arith) holds (a .before .longest) (a .before .ending) known (c .before .before .before .before .before .if1 .left)
     (front .result) (c .above-last .result) (best .result) (front .ensures) (c .above-last .ensures)
@@ -45,7 +45,7 @@ read-on-spec =
     (tie.spec
     add-t6
     returns
-    first-requires
+    first-of-32-requires
     add-closed
     greatest-requires
     longest-row-requires
