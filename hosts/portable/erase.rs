@@ -23,9 +23,9 @@ const ENTRY_CRATE: &str = "blockheap";
 
 const NUMBERS: [&str; 6] = ["u8", "u16", "u32", "u64", "usize", "i32"];
 /// The functions of Rust's own library. None is of a usize, whose width would show.
-const FUNCTIONS: [&str; 6] = [
-    "u8::count_ones(", "u32::leading_zeros(", "u32::trailing_zeros(", "u64::leading_zeros(", "u64::trailing_zeros(",
-    "std::num::wrapping_add_u64(",
+const FUNCTIONS: [&str; 7] = [
+    "u8::count_ones(", "u32::count_ones(", "u32::leading_zeros(", "u32::trailing_zeros(", "u64::leading_zeros(",
+    "u64::trailing_zeros(", "std::num::wrapping_add_u32(",
 ];
 /// The words of the language that may stand anywhere in a body.
 const WORDS_IN_BODIES: [&str; 12] =

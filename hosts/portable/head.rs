@@ -90,7 +90,7 @@ fn never(_: &core::panic::PanicInfo) -> ! {
 
 mod std {
     pub mod num {
-        pub fn wrapping_add_u64(a: u64, b: u64) -> u64 {
+        pub fn wrapping_add_u32(a: u32, b: u32) -> u32 {
             a.wrapping_add(b)
         }
     }

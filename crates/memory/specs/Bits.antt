@@ -11,6 +11,6 @@ use Rattle.rules.specs.Bits.{bitOf, bitAt}
 abbrev pub BitsFrom : List ℕ → ℕ → ℕ → ℕ → Type 0
 BitsFrom bytes at n r = (j : ℕ) → bitOf r j ≡ pick (ltb j (8 * n)) (bitAt bytes (8 * at + j)) 0
 
--- the bits of the eight bytes from `at` on are those of w, and all others as before
+-- the bits of the four bytes from `at` on are those of w, and all others as before
 abbrev pub WithBits : List ℕ → ℕ → ℕ → List ℕ → Type 0
-WithBits before at w after = (k : ℕ) → bitAt after k ≡ pick (both (leb (8 * at) k) (ltb k (8 * at + 64))) (bitOf w (k - 8 * at)) (bitAt before k)
+WithBits before at w after = (k : ℕ) → bitAt after k ≡ pick (both (leb (8 * at) k) (ltb k (8 * at + 32))) (bitOf w (k - 8 * at)) (bitAt before k)

@@ -7,7 +7,7 @@ ghost use Prim.Native.Nat.{_+_, _-_, _*_, _≤_};
 ghost use lib.ListN.{length, take, drop, replicate};
 ghost use lib.Seq.{sets};
 ghost use Rattle.rules.specs.Words.{number, bytesOf, twoBytesOf, firstTwo, wordAt, withWord};
-ghost use Rattle.memory.specs.Bits.{BitsFrom, WithBits};
+ghost use Rattle.memory.specs.Bits.{BitsFrom};
 use numbers::Bytes;
 
 fn wide(b: u8) -> u32
@@ -122,23 +122,6 @@ pub fn last_bits(bytes: &[u8], from: usize, to: usize) -> u64
         bits = (bits << 8) | (bytes[at] as u64);
     }
     bits
-}
-
-// The bits of the eight bytes from `at` on become those of w.
-pub fn set_bits(bytes: &mut [u8], at: usize, w: u64)
-    requires { ⌜ at + 8 ≤ length (now bytes) ⌝ }
-    ensures { λ _. ⌜ WithBits (now (bytes .entry)) at w (now (bytes .exit)) ⌝ }
-{
-    let end = at + 8;
-    let part = &mut bytes[at..end];
-    part[0] = (w % 256) as u8;
-    part[1] = ((w >> 8) % 256) as u8;
-    part[2] = ((w >> 16) % 256) as u8;
-    part[3] = ((w >> 24) % 256) as u8;
-    part[4] = ((w >> 32) % 256) as u8;
-    part[5] = ((w >> 40) % 256) as u8;
-    part[6] = ((w >> 48) % 256) as u8;
-    part[7] = (w >> 56) as u8;
 }
 
 // Every byte of the part becomes zero.

@@ -48,7 +48,7 @@ keeping-none false = refl
 -- n bytes of each plane are swept from byte `at` on
 pub record Step (t : ℕ) (before after : List ℕ) (at n low high low′ high′ : ℕ) : Type 0 where
   pub some : 0 < n
-  pub few : n ≤ 8
+  pub few : n ≤ 4
   pub room : at + n ≤ planeBytes t
   -- the entries in them, before and after
   pub was : (j : ℕ) → j < 8 * n → entryIn t before (8 * at + j) ≡ lane low high j

@@ -1,4 +1,4 @@
--- The sweep of 64 entries at once, a bit of each in two numbers, and how far a table is swept.
+-- The sweep of 32 entries at once, a bit of each in two numbers, and how far a table is swept.
 -- Assumes nothing.
 use mathlib.Core.Path.{_≡_}
 use mathlib.Core.Bool.{false}
@@ -14,8 +14,8 @@ use Rattle.entries.specs.Groups.{lane}
 
 -- low′ and high′ hold the swept entries, and `kept` a bit for each behind which TAILs are kept. `keeping` is 1 if they are kept at first, else 0
 pub record SweptBits (low high keeping low′ high′ kept : ℕ) : Type 0 where
-  pub entry : (j : ℕ) → j < 64 → lane low′ high′ j ≡ sweptEntry (freeingAt (eqb keeping 0) (lane low high) j) (lane low high j)
-  pub after : (j : ℕ) → j < 64 → bitOf kept j ≡ pick (freeingAt (eqb keeping 0) (lane low high) (suc j)) 0 1
+  pub entry : (j : ℕ) → j < 32 → lane low′ high′ j ≡ sweptEntry (freeingAt (eqb keeping 0) (lane low high) j) (lane low high j)
+  pub after : (j : ℕ) → j < 32 → bitOf kept j ≡ pick (freeingAt (eqb keeping 0) (lane low high) (suc j)) 0 1
   -- the numbers fit where those before did
   pub fits : (low′ ≤ low) × (high′ ≤ high)
 

@@ -1,4 +1,4 @@
-// The whole table at once: a byte of both planes in a turn, which is eight blocks, or eight bytes, and no early exit. Beside `entries` and
+// The whole table at once: words of both planes, each of 32 blocks, and single bytes at the end, with no early exit. Beside `entries` and
 // `packing` only this crate knows how entries lie in bytes.
 ghost use mathlib.Core.Path.{_≡_};
 ghost use Prim.Native.Nat.{_+_, _*_, _≤_, _<_};
@@ -99,22 +99,27 @@ pub struct Counts {
     pub objects: usize,
 }
 
-// The ones of a byte of both planes are counted: a block that is not FREE has a bit in one of them, a HEAD in the first alone.
+// The ones of a word of both planes are counted: a block that is not FREE has a bit in one of them, a HEAD in the first alone.
 pub fn count(t: usize, table: &[u8]) -> Counts
     requires { ⌜ IsTable t (now table) ⌝ }
     ensures { λ r. ⌜ (r .used ≡ used (entriesIn t (now (table .entry)))) × (r .objects ≡ objects (entriesIn t (now (table .entry)))) ⌝ }
 {
     let half = entries::plane_bytes(t);
-    let mut used: u16 = 0;
-    let mut heads: u16 = 0;
+    let lows = &table[0..half];
+    let highs = &table[half..2 * half];
+    let words = half / 4;
+    let mut used: u32 = 0;
+    let mut heads: u32 = 0;
     let mut i = 0;
-    while i < half {
-        let low = table[i];
-        let high = table[half + i];
-        used += u8::count_ones(low | high) as u16;
-        heads += u8::count_ones(low & !high) as u16;
+    while i < words {
+        let w = entries::words_at(lows, highs, i);
+        used += u32::count_ones(w.low | w.high);
+        heads += u32::count_ones(w.low & !w.high);
         i += 1;
     }
+    let w = entries::last_words(lows, highs, words);
+    used += u32::count_ones(w.low | w.high);
+    heads += u32::count_ones(w.low & !w.high);
     Counts {
         used: used as usize,
         objects: heads as usize,
@@ -123,20 +128,20 @@ pub fn count(t: usize, table: &[u8]) -> Counts
 
 // Swept entries, a bit of each in two numbers, and a bit for each block behind which TAILs are kept.
 struct Swept {
-    low: u64,
-    high: u64,
-    keeping: u64,
+    low: u32,
+    high: u32,
+    keeping: u32,
 }
 
-// 64 entries are swept. `keeping` is 1 if TAILs are kept at first. It runs through the blocks as the carry of a sum: a MARK makes it, a HEAD stops it, and any other
+// 32 entries are swept. `keeping` is 1 if TAILs are kept at first. It runs through the blocks as the carry of a sum: a MARK makes it, a HEAD stops it, and any other
 // block hands it on.
-fn sweep_bits(low: u64, high: u64, keeping: u64) -> Swept
+fn sweep_bits(low: u32, high: u32, keeping: u32) -> Swept
     requires { ⌜ keeping < 2 ⌝ }
     ensures { λ r. ⌜ SweptBits low high keeping (r .low) (r .high) (r .keeping) ⌝ }
 {
     let marks = low & high;
     let heads = low & !high;
-    let sum = std::num::wrapping_add_u64(std::num::wrapping_add_u64(!heads, marks), keeping);
+    let sum = std::num::wrapping_add_u32(std::num::wrapping_add_u32(!heads, marks), keeping);
     Swept {
         low: marks,
         high: high & !low & !sum,
@@ -144,27 +149,27 @@ fn sweep_bits(low: u64, high: u64, keeping: u64) -> Swept
     }
 }
 
-// The entries of eight bytes of both planes from byte `at` of each are swept. Returns whether TAILs are kept behind them.
-fn sweep_eight(table: &mut [u8], half: usize, at: usize, keeping: u64) -> u64
-    requires { ⌜ (keeping < 2) × ((at + 8 ≤ half) × (length (now table) ≡ 2 * half)) ⌝ }
-    ensures { λ r. ⌜ SweepsOn half at 8 keeping r (now (table .entry)) (now (table .exit)) ⌝ }
+// The entries of four bytes of both planes from byte `at` of each are swept. Returns whether TAILs are kept behind them.
+fn sweep_four(table: &mut [u8], half: usize, at: usize, keeping: u32) -> u32
+    requires { ⌜ (keeping < 2) × ((at + 4 ≤ half) × (length (now table) ≡ 2 * half)) ⌝ }
+    ensures { λ r. ⌜ SweepsOn half at 4 keeping r (now (table .entry)) (now (table .exit)) ⌝ }
 {
     let s = sweep_bits(
-        memory::bits(&*table, at),
-        memory::bits(&*table, half + at),
+        memory::four_bits(&*table, at),
+        memory::four_bits(&*table, half + at),
         keeping,
     );
-    memory::set_bits(&mut *table, at, s.low);
-    memory::set_bits(&mut *table, half + at, s.high);
-    s.keeping >> 63
+    memory::set_four_bytes(&mut *table, at, s.low);
+    memory::set_four_bytes(&mut *table, half + at, s.high);
+    s.keeping >> 31
 }
 
 // The same of byte `at` of both planes.
-fn sweep_one(table: &mut [u8], half: usize, at: usize, keeping: u64) -> u64
+fn sweep_one(table: &mut [u8], half: usize, at: usize, keeping: u32) -> u32
     requires { ⌜ (keeping < 2) × ((at < half) × (length (now table) ≡ 2 * half)) ⌝ }
     ensures { λ r. ⌜ SweepsOn half at 1 keeping r (now (table .entry)) (now (table .exit)) ⌝ }
 {
-    let s = sweep_bits(table[at] as u64, table[half + at] as u64, keeping);
+    let s = sweep_bits(table[at] as u32, table[half + at] as u32, keeping);
     table[at] = s.low as u8;
     table[half + at] = s.high as u8;
     (s.keeping >> 7) & 1
@@ -176,14 +181,14 @@ pub fn sweep(t: usize, table: &mut [u8])
     ensures { λ _. ⌜ Holds t (sweepOf (entriesIn t (now (table .entry)))) (now (table .exit)) ⌝ }
 {
     let half = entries::plane_bytes(t);
-    let groups = half / 8;
-    let mut keeping: u64 = 1;
+    let words = half / 4;
+    let mut keeping: u32 = 1;
     let mut i = 0;
-    while i < groups {
-        keeping = sweep_eight(&mut *table, half, 8 * i, keeping);
+    while i < words {
+        keeping = sweep_four(&mut *table, half, 4 * i, keeping);
         i += 1;
     }
-    let mut j = 8 * groups;
+    let mut j = 4 * words;
     while j < half {
         keeping = sweep_one(&mut *table, half, j, keeping);
         j += 1;

@@ -1,137 +1,180 @@
--- `count`: a byte of both planes has a one for each used entry in its or, and for each HEAD in the low bits without the high ones.
+-- `count`: a word of both planes has a one for each used entry in its or, and for each HEAD in the low bits without the high ones.
 -- Assumes nothing.
 use mathlib.Core.Path.{_≡_, _∙_}
 use mathlib.Core.Bool.{Bool}
 use mathlib.Core.List.{List}
-use Prim.Native.Nat.{ℕ, _+_, _-_, _≤_}
+use Prim.Native.Nat.{ℕ, _+_, _-_, _*_, _/_, _≤_}
 use native.Mathlib.Omega.{arith}
 use lib.Bits.{bitAnd, bitOr}
 use lib.Count.{ones}
-use lib.ListN.{getD}
+use lib.ListN.{length}
 use borrow.Author.Needs.{needs}
+use borrow.Rule.Slice.PartMut.{midOf}
 use Rattle.rules.specs.Tables.{isUsed, isHead}
-use Rattle.laws.specs.Meaning.{AllBytes}
-use Rattle.rules.specs.Planes.{planeBytes}
-use Rattle.laws.proofs.Planes.{room-entries}
-use Rattle.laws.proofs.Widths.{in-32-bits, as-u16}
+use Rattle.rules.specs.Planes.{planeBytes, entriesIn}
+use Rattle.laws.proofs.Planes.{length-entriesIn, room-entries}
+use Rattle.laws.proofs.Widths.{in-32-bits, as-u32}
+use Rattle.entries.specs.Groups.{InLanes, InPlanes}
+use Rattle.entries.proofs.Cut.{in-planes, plane-lengths}
 use Rattle.whole.proofs.Ones.{upTo, few, used-turn, heads-turn, used-end, heads-end}
 use Rattle.whole.proofs.count.Statement.{statement}
 use Rattle.whole.proofs.count.Tie as tie
 
 abbrev Inv-loop : tie.InvT-loop
-Inv-loop t table half used₀ heads₀ i₀ used heads i = (i ≤ half) × (used ≡ upTo isUsed t table i) × (heads ≡ upTo isHead t table i)
+Inv-loop t table half lows highs words used₀ heads₀ i₀ used heads i =
+    (i ≤ words) × (used ≡ upTo isUsed (entriesIn t table) i) × (heads ≡ upTo isHead (entriesIn t table) i)
 
 abbrev μ-loop : tie.MeasureT-loop
-μ-loop t table half used₀ heads₀ i₀ used heads i = half - i
+μ-loop t table half lows highs words used₀ heads₀ i₀ used heads i = words - i
 
 -- a plane is short
 short : (c : tie.After-plane-bytes Inv-loop μ-loop) → c .plane-bytes .result ≤ 512
 short c = omega (arith, c .plane-bytes .ensures, c .before .before .pre .sized .few, room-entries (c .before .before .args .t) .1)
 
+-- the two parts are its planes
+planes : (c : tie.After-plane-bytes Inv-loop μ-loop) →
+    let half = c .plane-bytes .result in
+    let a = c .before .before .args in
+    InPlanes (entriesIn (a .t) (a .table .now)) (midOf 0 (half - 0) (a .table .now)) (midOf half (2 * half - half) (a .table .now))
+planes c = in-planes (c .before .before .args .t) (c .plane-bytes .result) (c .before .before .args .table .now) (c .before .before .pre) (c .plane-bytes .ensures)
+
+lengths : (c : tie.After-plane-bytes Inv-loop μ-loop) →
+    let half = c .plane-bytes .result in
+    let table = c .before .before .args .table .now in
+    (length (midOf 0 (half - 0) table) ≡ half) × (length (midOf half (2 * half - half) table) ≡ half)
+lengths c = plane-lengths (c .before .before .args .t) (c .plane-bytes .result) (c .before .before .args .table .now) (c .before .before .pre) (c .plane-bytes .ensures)
+
 plane-bytes-requires : tie.Need-plane-bytes-requires Inv-loop μ-loop
 plane-bytes-requires c κs = search needs
 
+sub-lows : tie.Need-sub-lows Inv-loop μ-loop
+sub-lows c = search needs
+
+part-lows-start : tie.Need-part-lows-start Inv-loop μ-loop
+part-lows-start c = search needs
+
+part-lows-end : tie.Need-part-lows-end Inv-loop μ-loop
+part-lows-end c = search needs
+
+mul-highs : tie.Need-mul-highs Inv-loop μ-loop
+mul-highs c = in-32-bits (record { fits = omega (arith, short (c .before)) })
+
+sub-highs : tie.Need-sub-highs Inv-loop μ-loop
+sub-highs c = search needs
+
+part-highs-start : tie.Need-part-highs-start Inv-loop μ-loop
+part-highs-start c = search needs
+
+part-highs-end : tie.Need-part-highs-end Inv-loop μ-loop
+part-highs-end c = search needs
+
 loop-holds : tie.Need-loop-holds Inv-loop μ-loop
 loop-holds c =
-    let a = c .before .before .args in
-    (omega arith, omega (arith, few isUsed (a .t) (a .table .now) 0), omega (arith, few isHead (a .t) (a .table .now) 0))
+    let a = c .before .before .before .before .args in
+    let es = entriesIn (a .t) (a .table .now) in
+    (omega arith, omega (arith, few isUsed es 0), omega (arith, few isHead es 0))
 
-shared-slice-read-low : tie.Need-shared-slice-read-low Inv-loop μ-loop
-shared-slice-read-low c = search needs
-
-add-high : tie.Need-add-high Inv-loop μ-loop
-add-high c = in-32-bits (record { fits = omega (arith, short (c .before .before .before)) })
-
-shared-slice-read-high : tie.Need-shared-slice-read-high Inv-loop μ-loop
-shared-slice-read-high c = search needs
+words-at-requires : tie.Need-words-at-requires Inv-loop μ-loop
+words-at-requires c κs =
+    let long = lengths (c .before .before .before .before) in
+    (omega (arith, long .0), omega (arith, long .1))
 
 -- the counts after the turn
-module _ (c : tie.After-shared-slice-known3 Inv-loop μ-loop) where
-  abbrev start : tie.Start Inv-loop μ-loop
-  start = c .before .before .before .before .before .before
-
-  abbrev t : ℕ
-  t = start .args .t
-
-  abbrev table : List ℕ
-  table = start .args .table .now
-
-  abbrev i : ℕ
-  i = c .before .before .before .loop .i
-
-  abbrev half : ℕ
-  half = c .before .before .before .before .plane-bytes .result
+module _ (c : tie.After-struct-known Inv-loop μ-loop) where
+  abbrev es : List ℕ
+  es =
+      let a = c .before .before .before .before .before .before .before .before .args in
+      entriesIn (a .t) (a .table .now)
 
   abbrev low : ℕ
-  low = getD table i 0
+  low = c .before .words-at .result .low
 
   abbrev high : ℕ
-  high = getD table (half + i) 0
+  high = c .before .words-at .result .high
 
-  bytes : AllBytes table
-  bytes k = c .shared-slice-known3 .given k .fits
-
-  used-after : c .before .before .before .loop .used + ones (bitOr low high) ≡ upTo isUsed t table (i + 1)
+  used-after : c .before .before .before .loop .used + ones (bitOr low high) ≡ upTo isUsed es (c .before .before .before .loop .i + 1)
   used-after =
       let l = c .before .before .before .loop in
-      used-turn t table bytes half i (l .used) (c .before .before .before .before .plane-bytes .ensures) (l .inv .1)
+      used-turn es (l .i) (l .used) low high (search needs) (search needs) (c .before .words-at .ensures es (planes (c .before .before .before .before .before .before))) (l .inv .1)
 
-  heads-after : c .before .before .before .loop .heads + ones (bitAnd low (255 - high)) ≡ upTo isHead t table (i + 1)
+  heads-after : c .before .before .before .loop .heads + ones (bitAnd low (4294967295 - high)) ≡ upTo isHead es (c .before .before .before .loop .i + 1)
   heads-after =
       let l = c .before .before .before .loop in
-      heads-turn t table bytes half i (l .heads) (c .before .before .before .before .plane-bytes .ensures) (l .inv .2)
+      heads-turn es (l .i) (l .heads) low high (search needs) (search needs) (c .before .words-at .ensures es (planes (c .before .before .before .before .before .before))) (l .inv .2)
 
-  small : (f : ℕ → Bool) → upTo f t table (i + 1) ≤ 4100
-  small f = omega (arith, few f t table (i + 1), room-entries t .1, start .pre .sized .few, c .before .before .before .before .plane-bytes .ensures)
-
-cast-used : tie.Need-cast-used Inv-loop μ-loop
-cast-used c = record { fits = omega (arith, used-after c, small c isUsed) }
+  small : (f : ℕ → Bool) → upTo f es (c .before .before .before .loop .i + 1) ≤ 4100
+  small f = omega (arith, few f es (c .before .before .before .loop .i + 1), short (c .before .before .before .before .before .before))
 
 add-used : tie.Need-add-used Inv-loop μ-loop
-add-used c = as-u16 (record { fits = omega (arith, used-after c, small c isUsed) })
-
-cast-heads : tie.Need-cast-heads Inv-loop μ-loop
-cast-heads c = record { fits = omega (arith, heads-after c, small c isHead) }
+add-used c = as-u32 (record { fits = omega (arith, used-after c, small c isUsed) })
 
 add-heads : tie.Need-add-heads Inv-loop μ-loop
-add-heads c = as-u16 (record { fits = omega (arith, heads-after c, small c isHead) })
+add-heads c = as-u32 (record { fits = omega (arith, heads-after (c .before .before), small (c .before .before) isHead) })
 
 add-i : tie.Need-add-i Inv-loop μ-loop
-add-i c = in-32-bits (record { fits = omega (arith, short (c .before .before .before .before)) })
+add-i c = in-32-bits (record { fits = omega (arith, short (c .before .before .before .before .before .before .before .before)) })
 
 loop-less : tie.Need-loop-less Inv-loop μ-loop
 loop-less c = search needs
 
 loop-again : tie.Need-loop-again Inv-loop μ-loop
-loop-again c = (omega arith, used-after c, heads-after c)
+loop-again c = (omega arith, used-after (c .before .before), heads-after (c .before .before))
+
+last-words-requires : tie.Need-last-words-requires Inv-loop μ-loop
+last-words-requires c κs =
+    let long = lengths (c .before .before .before .before) in
+    (omega (arith, long .0), (omega (arith, long .0), omega (arith, long .0, long .1)))
 
 -- the counts at the end
-module _ (c : tie.After-loop Inv-loop μ-loop) where
-  abbrev last : ℕ
-  last = c .before .loop .i
+module _ (c : tie.After-struct-known4 Inv-loop μ-loop) where
+  abbrev all : List ℕ
+  all =
+      let a = c .before .before .before .before .before .before .before .before .args in
+      entriesIn (a .t) (a .table .now)
 
-  all-read : last ≡ planeBytes (c .before .before .before .before .args .t)
-  all-read = omega (arith, c .before .before .plane-bytes .ensures)
+  -- how many words are read
+  abbrev n : ℕ
+  n = c .before .before .before .loop .i
 
-  few-read : (f : ℕ → Bool) → upTo f (c .before .before .before .before .args .t) (c .before .before .before .before .args .table .now) last ≤ 4100
-  few-read f =
-      let a = c .before .before .before .before in
-      omega (arith, few f (a .args .t) (a .args .table .now) last, room-entries (a .args .t) .1, a .pre .sized .few, all-read)
+  lanes : InLanes 32 all n (c .before .last-words .result .low) (c .before .last-words .result .high)
+  lanes =
+      let e : c .before .before .before .before .before .before .plane-bytes .result / 4 ≡ n = omega arith in
+      rw e at (c .before .last-words .ensures all (planes (c .before .before .before .before .before .before)))
 
-cast-t17 : tie.Need-cast-t17 Inv-loop μ-loop
-cast-t17 c = record { fits = omega (arith, c .before .loop .inv .1, few-read c isUsed) }
+  used-last : c .before .before .before .loop .used + ones (bitOr (c .before .last-words .result .low) (c .before .last-words .result .high)) ≡ upTo isUsed all (n + 1)
+  used-last =
+      let l = c .before .before .before .loop in
+      used-turn all n (l .used) _ _ (search needs) (search needs) lanes (l .inv .1)
 
-cast-t18 : tie.Need-cast-t18 Inv-loop μ-loop
-cast-t18 c = record { fits = omega (arith, c .before .loop .inv .2, few-read c isHead) }
+  heads-last : c .before .before .before .loop .heads + ones (bitAnd (c .before .last-words .result .low) (4294967295 - c .before .last-words .result .high)) ≡ upTo isHead all (n + 1)
+  heads-last =
+      let l = c .before .before .before .loop in
+      heads-turn all n (l .heads) _ _ (search needs) (search needs) lanes (l .inv .2)
+
+  few-read : (f : ℕ → Bool) → upTo f all (n + 1) ≤ 4200
+  few-read f = omega (arith, few f all (n + 1), short (c .before .before .before .before .before .before))
+
+  all-read : length all ≤ 32 * (n + 1)
+  all-read =
+      let a = c .before .before .before .before .before .before .before .before .args in
+      omega (arith, length-entriesIn (a .t) (a .table .now), room-entries (a .t) .0, c .before .before .before .before .before .before .plane-bytes .ensures)
+
+add-used-2 : tie.Need-add-used-2 Inv-loop μ-loop
+add-used-2 c = as-u32 (record { fits = omega (arith, used-last c, few-read c isUsed) })
+
+add-heads-2 : tie.Need-add-heads-2 Inv-loop μ-loop
+add-heads-2 c = as-u32 (record { fits = omega (arith, heads-last (c .before .before), few-read (c .before .before) isHead) })
+
+cast-t13 : tie.Need-cast-t13 Inv-loop μ-loop
+cast-t13 c = record { fits = omega (arith, used-last (c .before .before), few-read (c .before .before) isUsed) }
+
+cast-t16 : tie.Need-cast-t16 Inv-loop μ-loop
+cast-t16 c = record { fits = omega (arith, heads-last (c .before .before), few-read (c .before .before) isHead) }
 
 returns : tie.Need-returns Inv-loop μ-loop
 returns c =
-    let a = c .before .before .before .before in
-    let l = c .before .loop in
-    let e = all-read c in (
-      rw e at (l .inv .1) ∙ used-end (a .args .t) (a .args .table .now) (a .pre .clean),
-      rw e at (l .inv .2) ∙ heads-end (a .args .t) (a .args .table .now) (a .pre .clean),
-    )
+    let d = c .before .before in
+    (used-last d ∙ used-end (all d) (n d + 1) (all-read d), heads-last d ∙ heads-end (all d) (n d + 1) (all-read d))
 
 pub count-spec : {M : Type 1} → statement M
 count-spec =
@@ -140,17 +183,23 @@ count-spec =
     Inv-loop
     μ-loop
     plane-bytes-requires
+    sub-lows
+    part-lows-start
+    part-lows-end
+    mul-highs
+    sub-highs
+    part-highs-start
+    part-highs-end
     loop-holds
-    shared-slice-read-low
-    add-high
-    shared-slice-read-high
-    cast-used
+    words-at-requires
     add-used
-    cast-heads
     add-heads
     add-i
     loop-less
     loop-again
-    cast-t17
-    cast-t18
+    last-words-requires
+    add-used-2
+    add-heads-2
+    cast-t13
+    cast-t16
     returns)

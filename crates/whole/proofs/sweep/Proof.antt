@@ -1,4 +1,4 @@
--- `sweep`: the table is swept from its front on, eight bytes of each plane at a time and then single ones.
+-- `sweep`: the table is swept from its front on, a word of each plane at a time and then single bytes.
 -- Assumes nothing.
 use mathlib.Core.Path.{_≡_, _∙_}
 use mathlib.Core.List.{List}
@@ -15,17 +15,17 @@ use Rattle.whole.proofs.sweep.Statement.{statement}
 use Rattle.whole.proofs.sweep.Tie as tie
 
 abbrev Inv-loop : tie.InvT-loop
-Inv-loop t table₀ half groups keeping₀ i₀ table keeping i = (i ≤ groups) × (length table ≡ 2 * half) × SweptTo t (entriesIn t table₀) table (8 * i) keeping
+Inv-loop t table₀ half words keeping₀ i₀ table keeping i = (i ≤ words) × (length table ≡ 2 * half) × SweptTo t (entriesIn t table₀) table (4 * i) keeping
 
 abbrev μ-loop : tie.MeasureT-loop
-μ-loop t table₀ half groups keeping₀ i₀ table keeping i = groups - i
+μ-loop t table₀ half words keeping₀ i₀ table keeping i = words - i
 
 abbrev Inv-loop2 : tie.InvT-loop2
-Inv-loop2 t table₁ half groups keeping₀ i j₀ table keeping j =
+Inv-loop2 t table₁ half words keeping₀ i j₀ table keeping j =
     (j ≤ half) × (length table ≡ 2 * half) × ((es : List ℕ) → SweptTo t es table₁ j₀ keeping₀ → SweptTo t es table j keeping)
 
 abbrev μ-loop2 : tie.MeasureT-loop2
-μ-loop2 t table₁ half groups keeping₀ i j₀ table keeping j = half - j
+μ-loop2 t table₁ half words keeping₀ i j₀ table keeping j = half - j
 
 -- a plane is short
 short : (c : tie.After-plane-bytes Inv-loop μ-loop Inv-loop2 μ-loop2) → c .plane-bytes .result ≤ 512
@@ -39,11 +39,11 @@ loop-holds c =
     let a = c .before .before in
     (omega arith, rw (c .plane-bytes .ensures) (a .pre .sized .long), swept-start (a .args .t) (a .args .table .now) (a .pre .clean))
 
-mul-sweep-eight : tie.Need-mul-sweep-eight Inv-loop μ-loop Inv-loop2 μ-loop2
-mul-sweep-eight c = in-32-bits (record { fits = omega (arith, short (c .before .before .before)) })
+mul-sweep-four : tie.Need-mul-sweep-four Inv-loop μ-loop Inv-loop2 μ-loop2
+mul-sweep-four c = in-32-bits (record { fits = omega (arith, short (c .before .before .before)) })
 
-sweep-eight-requires : tie.Need-sweep-eight-requires Inv-loop μ-loop Inv-loop2 μ-loop2
-sweep-eight-requires c κs =
+sweep-four-requires : tie.Need-sweep-four-requires Inv-loop μ-loop Inv-loop2 μ-loop2
+sweep-four-requires c κs =
     let l = c .before .before .loop in
     (keeping-lt (l .inv .2), (omega arith, l .inv .1))
 
@@ -57,8 +57,8 @@ loop-again : tie.Need-loop-again Inv-loop μ-loop Inv-loop2 μ-loop2
 loop-again c =
     let a = c .before .before .before .before .before .before .before .before .args in
     let l = c .before .before .before .before .before .loop in
-    let e = c .before .before .sweep-eight in
-    let next : 8 * (l .i + 1) ≡ 8 * l .i + 8 = omega arith in (
+    let e = c .before .before .sweep-four in
+    let next : 4 * (l .i + 1) ≡ 4 * l .i + 4 = omega arith in (
       omega arith,
       e .kept .0 ∙ l .inv .1,
       rw next (e .ensures (a .t) (entriesIn (a .t) (a .table .now)) (c .before .before .before .before .before .before .plane-bytes .ensures) (l .inv .2)),
@@ -70,10 +70,10 @@ mul-j c = in-32-bits (record { fits = omega (arith, short (c .before .before)) }
 -- what the first loop leaves
 first : (c : tie.After-loop Inv-loop μ-loop Inv-loop2 μ-loop2) →
     let a = c .before .before .before .before .args in
-    SweptTo (a .t) (entriesIn (a .t) (a .table .now)) (c .before .loop .table) (8 * (c .before .before .plane-bytes .result / 8)) (c .before .loop .keeping)
+    SweptTo (a .t) (entriesIn (a .t) (a .table .now)) (c .before .loop .table) (4 * (c .before .before .plane-bytes .result / 4)) (c .before .loop .keeping)
 first c =
     let l = c .before .loop in
-    let e : 8 * l .i ≡ 8 * (c .before .before .plane-bytes .result / 8) = omega arith in
+    let e : 4 * l .i ≡ 4 * (c .before .before .plane-bytes .result / 4) = omega arith in
     rw e at (l .inv .2)
 
 loop2-holds : tie.Need-loop2-holds Inv-loop μ-loop Inv-loop2 μ-loop2
@@ -122,8 +122,8 @@ sweep-spec =
     μ-loop2
     plane-bytes-requires
     loop-holds
-    mul-sweep-eight
-    sweep-eight-requires
+    mul-sweep-four
+    sweep-four-requires
     add-i
     loop-less
     loop-again

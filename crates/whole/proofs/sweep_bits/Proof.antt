@@ -37,71 +37,71 @@ right false = two-bits (Right false) (refl, refl, refl) (refl, refl, refl) (refl
 
 -- ---- all blocks
 
-module _ (low high keeping : ℕ) (hl : low < 2 ^ 64) (hh : high < 2 ^ 64) (hk : keeping < 2) where
+module _ (low high keeping : ℕ) (hl : low < 2 ^ 32) (hh : high < 2 ^ 32) (hk : keeping < 2) where
   abbrev marks : ℕ
   marks = bitAnd low high
 
   abbrev heads : ℕ
-  heads = bitAnd low (2 ^ 64 - 1 - high)
+  heads = bitAnd low (2 ^ 32 - 1 - high)
 
   abbrev others : ℕ
-  others = 2 ^ 64 - 1 - heads
+  others = 2 ^ 32 - 1 - heads
 
   abbrev freeing : ℕ → Bool
   freeing = freeingAt (eqb keeping 0) (lane low high)
 
-  heads-lt : heads < 2 ^ 64
-  heads-lt = omega (arith, and-le-l low (2 ^ 64 - 1 - high), hl)
+  heads-lt : heads < 2 ^ 32
+  heads-lt = omega (arith, and-le-l low (2 ^ 32 - 1 - high), hl)
 
-  module _ (j : ℕ) (h : j < 64) where
+  module _ (j : ℕ) (h : j < 32) where
     heads-bit : bitOf heads j ≡ min (bitOf low j) (1 - bitOf high j)
-    heads-bit = bitOf-and low (2 ^ 64 - 1 - high) j ∙ ap (min (bitOf low j)) (bitOf-not 64 high j hh h)
+    heads-bit = bitOf-and low (2 ^ 32 - 1 - high) j ∙ ap (min (bitOf low j)) (bitOf-not 32 high j hh h)
 
     others-bit : bitOf others j ≡ 1 - min (bitOf low j) (1 - bitOf high j)
-    others-bit = bitOf-not 64 heads j heads-lt h ∙ ap (λ (x : ℕ). 1 - x) heads-bit
+    others-bit = bitOf-not 32 heads j heads-lt h ∙ ap (λ (x : ℕ). 1 - x) heads-bit
 
     right-at : Right (freeing j) (bitOf low j) (bitOf high j)
     right-at = right (freeing j) (bitOf low j) (bitOf high j) (bitOf-lt low j) (bitOf-lt high j)
 
-  carry-is : (j : ℕ) → j ≤ 64 → carryAt others marks keeping j ≡ pick (freeing j) 0 1
+  carry-is : (j : ℕ) → j ≤ 32 → carryAt others marks keeping j ≡ pick (freeing j) 0 1
   unfolding carryAt freeingAt
   carry-is zero h = one-bit (λ (k : ℕ). k ≡ pick (eqb k 0) 0 1) refl refl keeping hk
   carry-is (suc j) h = rw (others-bit j (omega arith), bitOf-and low high j, carry-is j (omega arith)) (right-at j (omega arith) .0)
 
-  module _ (sum : ℕ) (is : sum ≡ (others + marks + keeping) % 2 ^ 64) where
-    sum-bit : (j : ℕ) → j < 64 → bitOf sum j ≡ total (freeing j) (bitOf low j) (bitOf high j) % 2
+  module _ (sum : ℕ) (is : sum ≡ (others + marks + keeping) % 2 ^ 32) where
+    sum-bit : (j : ℕ) → j < 32 → bitOf sum j ≡ total (freeing j) (bitOf low j) (bitOf high j) % 2
     sum-bit j h =
-        rw is (bitOf-mod (others + marks + keeping) 64 j h)
+        rw is (bitOf-mod (others + marks + keeping) 32 j h)
         ∙ bitOf-sum others marks keeping j hk
         ∙ rw (others-bit j h, bitOf-and low high j, carry-is j (omega arith))
 
-    sum-lt : sum < 2 ^ 64
+    sum-lt : sum < 2 ^ 32
     sum-lt = omega (arith, is)
 
-    swept-bits : SweptBits low high keeping marks (bitAnd (bitAnd high (2 ^ 64 - 1 - low)) (2 ^ 64 - 1 - sum)) (bitOr marks (2 ^ 64 - 1 - bitOr heads sum))
+    swept-bits : SweptBits low high keeping marks (bitAnd (bitAnd high (2 ^ 32 - 1 - low)) (2 ^ 32 - 1 - sum)) (bitOr marks (2 ^ 32 - 1 - bitOr heads sum))
     unfolding freeingAt
     swept-bits = record {
       entry = λ j h.
-          rw (bitOf-and low high j, bitOf-and (bitAnd high (2 ^ 64 - 1 - low)) (2 ^ 64 - 1 - sum) j, bitOf-and high (2 ^ 64 - 1 - low) j, bitOf-not 64 low j hl h, bitOf-not 64 sum j sum-lt h, sum-bit j h)
+          rw (bitOf-and low high j, bitOf-and (bitAnd high (2 ^ 32 - 1 - low)) (2 ^ 32 - 1 - sum) j, bitOf-and high (2 ^ 32 - 1 - low) j, bitOf-not 32 low j hl h, bitOf-not 32 sum j sum-lt h, sum-bit j h)
           (right-at j h .1);
       after = λ j h.
-          rw (bitOf-or marks (2 ^ 64 - 1 - bitOr heads sum) j, bitOf-and low high j, bitOf-not 64 (bitOr heads sum) j (or-lt 64 heads sum heads-lt sum-lt) h, bitOf-or heads sum j, heads-bit j h, sum-bit j h)
+          rw (bitOf-or marks (2 ^ 32 - 1 - bitOr heads sum) j, bitOf-and low high j, bitOf-not 32 (bitOr heads sum) j (or-lt 32 heads sum heads-lt sum-lt) h, bitOf-or heads sum j, heads-bit j h, sum-bit j h)
           (right-at j h .2);
-      fits = (and-le-l low high, omega (arith, and-le-l (bitAnd high (2 ^ 64 - 1 - low)) (2 ^ 64 - 1 - sum), and-le-l high (2 ^ 64 - 1 - low)));
+      fits = (and-le-l low high, omega (arith, and-le-l (bitAnd high (2 ^ 32 - 1 - low)) (2 ^ 32 - 1 - sum), and-le-l high (2 ^ 32 - 1 - low)));
     }
 
-wrapping-add-u64-requires : tie.Need-wrapping-add-u64-requires
-wrapping-add-u64-requires c κs = search needs
+wrapping-add-u32-requires : tie.Need-wrapping-add-u32-requires
+wrapping-add-u32-requires c κs = search needs
 
-wrapping-add-u64-requires-2 : tie.Need-wrapping-add-u64-requires-2
-wrapping-add-u64-requires-2 c κs = search needs
+wrapping-add-u32-requires-2 : tie.Need-wrapping-add-u32-requires-2
+wrapping-add-u32-requires-2 c κs = search needs
 
 returns : tie.Need-returns
 returns c =
     let a = c .before .before .args in
-    swept-bits (a .low) (a .high) (a .keeping) (search needs) (search needs) (search needs) (c .wrapping-add-u642 .result)
-    (omega (arith, c .wrapping-add-u642 .ensures, c .before .wrapping-add-u64 .ensures))
+    swept-bits (a .low) (a .high) (a .keeping) (search needs) (search needs) (search needs) (c .wrapping-add-u322 .result)
+    (omega (arith, c .wrapping-add-u322 .ensures, c .before .wrapping-add-u32 .ensures))
 
 pub sweep-bits-spec : {M : Type 1} → statement M
 sweep-bits-spec =
-    tie.close (tie.spec wrapping-add-u64-requires wrapping-add-u64-requires-2 returns)
+    tie.close (tie.spec wrapping-add-u32-requires wrapping-add-u32-requires-2 returns)

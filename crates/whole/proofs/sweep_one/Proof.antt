@@ -1,4 +1,4 @@
--- `sweep_one`: a byte of each plane is swept as a number of 64 bits, of which eight have entries.
+-- `sweep_one`: a byte of each plane is swept as a number of 32 bits, of which eight have entries.
 -- Assumes nothing.
 use mathlib.Core.Path.{_≡_, _∙_}
 use mathlib.Core.Logic.{_≢_}
