@@ -23,9 +23,9 @@ const ENTRY_CRATE: &str = "blockheap";
 
 const NUMBERS: [&str; 6] = ["u8", "u16", "u32", "u64", "usize", "i32"];
 /// The functions of Rust's own library. None is of a usize, whose width would show.
-const FUNCTIONS: [&str; 7] = [
+const FUNCTIONS: [&str; 8] = [
     "u8::count_ones(", "u32::count_ones(", "u32::leading_zeros(", "u32::trailing_zeros(", "u64::leading_zeros(",
-    "u64::trailing_zeros(", "std::num::wrapping_add_u32(",
+    "u64::trailing_zeros(", "std::num::wrapping_add_u32(", "std::num::wrapping_sub_u32(",
 ];
 /// The words of the language that may stand anywhere in a body.
 const WORDS_IN_BODIES: [&str; 12] =
@@ -38,12 +38,12 @@ const NO_NAMES: [&str; 45] = [
     "where",
 ];
 /// Longer signs first.
-const SIGNS: [&str; 34] = [
+const SIGNS: [&str; 35] = [
     "\"C\"", "::", "->", "=>", "==", "!=", "<=", ">=", "<<", ">>", "+=", "-=", "..", "{", "}", "(", ")", "[", "]", ",", ";",
-    ":", ".", "=", "<", ">", "+", "-", "*", "/", "%", "&", "|", "!",
+    ":", ".", "=", "<", ">", "+", "-", "*", "/", "%", "&", "|", "^", "!",
 ];
 /// Longer signs of Rust that begin as one of these, and what begins a comment that it does not know.
-const UNKNOWN_SIGNS: [&str; 14] = ["///", "//!", "/*", "<<=", ">>=", "..=", "...", "&&", "||", "*=", "/=", "%=", "&=", "|="];
+const UNKNOWN_SIGNS: [&str; 15] = ["///", "//!", "/*", "<<=", ">>=", "..=", "...", "&&", "||", "*=", "/=", "%=", "&=", "|=", "^="];
 /// The signs and the word that a value may begin behind, and that are no part of it.
 const BEFORE_VALUES: [&str; 7] = ["(", "[", "{", ",", ";", "=", "return"];
 /// How ghost texts begin, and how they end outside of braces.

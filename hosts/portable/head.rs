@@ -93,5 +93,9 @@ mod std {
         pub fn wrapping_add_u32(a: u32, b: u32) -> u32 {
             a.wrapping_add(b)
         }
+
+        pub fn wrapping_sub_u32(a: u32, b: u32) -> u32 {
+            a.wrapping_sub(b)
+        }
     }
 }

@@ -9,7 +9,7 @@ ghost use Rattle.rules.specs.Tables.{aligned};
 ghost use Rattle.rules.specs.Pointers.{addressOf, goodBase, targetOf};
 ghost use Rattle.rules.specs.Calls.{blocksFor};
 ghost use Rattle.laws.specs.Clamped.{clamped as clampedTo};
-ghost use Rattle.numbers.specs.Places.{found};
+ghost use Rattle.numbers.specs.Places.{found, BlockOf};
 
 // A block's number in the pool, from 0.
 pub struct Block(usize);
@@ -279,6 +279,17 @@ impl Address {
         } else {
             Found::Nowhere
         }
+    }
+
+    // The block from this base on whose address is the word w. Of other words a number that is too large: the difference is rotated, so that
+    // what is no multiple of 16 comes to the highest bits.
+    pub fn block_of(self, w: u32) -> Block
+        requires { ⌜ self .0 < 2 ^ 32 ⌝ }
+        ensures { λ r. ⌜ BlockOf (self .0) w (r .0) ⌝ }
+    {
+        let d = std::num::wrapping_sub_u32(w, self.to_word());
+        let k = d / 16 + d % 16 * 268435456;
+        Block(k as usize)
     }
 }
 
