@@ -1,3 +1,4 @@
 pub mod Holding
 pub mod Masks
 pub mod Cut
+pub mod Marked

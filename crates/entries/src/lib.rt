@@ -3,7 +3,7 @@
 ghost use mathlib.Core.Path.{_≡_};
 ghost use mathlib.Core.Bool.{true};
 ghost use mathlib.Core.List.{List};
-ghost use Prim.Native.Nat.{ℕ, _+_, _*_, _≤_, _<_};
+ghost use Prim.Native.Nat.{ℕ, _+_, _*_, _^_, _≤_, _<_};
 ghost use lib.Dec.{eqb, leb, ltb};
 ghost use lib.ListN.{length, set, replicate};
 ghost use lib.Seq.{sets};
@@ -14,6 +14,7 @@ ghost use Rattle.rules.specs.Tables.{entryAt, isHead, isTail, wellFormed, block
 ghost use Rattle.rules.specs.Planes.{planeBytes, entriesIn, Sized, IsTable, Holds};
 ghost use Rattle.memory.specs.Bits.{BitsFrom};
 ghost use Rattle.entries.specs.Groups.{Span, FreeByte, InGroup, InWords};
+ghost use Rattle.entries.specs.Marking.{MarksHead};
 use numbers::Block;
 
 pub const FREE: u8 = 0;
@@ -262,4 +263,34 @@ pub fn word_at(plane: &[u8], i: usize) -> u32
     ensures { λ r. ⌜ BitsFrom (now (plane .entry)) (4 * i) 4 r ⌝ }
 {
     memory::four_bits(plane, 4 * i)
+}
+
+// What a block was when it was to be marked: a HEAD, which is then MARK, a TAIL, or another entry or none.
+pub enum Met {
+    Head,
+    Tail,
+    Other,
+}
+
+// Block k becomes MARK if it is a HEAD; there may be no such block. The last byte of its high bit is looked for first: where it is in the table, so is the
+// other. A HEAD and a TAIL have one bit of the two.
+pub fn mark_head(t: usize, table: &mut [u8], k: Block) -> Met
+    requires { ⌜ IsTable t (now table) × (k .0 < 2 ^ 32) ⌝ }
+    ensures { λ r. ⌜ MarksHead t (entriesIn t (now (table .entry))) (k .0) (now (table .exit)) r ⌝ }
+{
+    let i = k.index();
+    let up = plane_bytes(t) + i / 8;
+    if table.len() <= up {
+        return Met::Other;
+    }
+    let one: u32 = 1 << (i % 8);
+    let high = table[up] as u32;
+    if (table[i / 8] as u32 ^ high) & one == 0 {
+        return Met::Other;
+    }
+    if high & one != 0 {
+        return Met::Tail;
+    }
+    table[up] = (high | one) as u8;
+    Met::Head
 }
