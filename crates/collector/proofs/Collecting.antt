@@ -103,8 +103,9 @@ module _ (t base : ℕ) (pool table roots stack : List ℕ) (r : ℕ)
     good : GoodShape base h
     good = lists-say base h roots stack (first-passed (goodLists base h roots stack) h _ (passes .1) .0) .0
 
-    pub collect-shape : Shape t pool table
-    collect-shape = record { is-table = is-table-lists base t pool table roots stack first ok .0; whole = good .pool }
+    pub collect-shape : Shape base t pool table
+    unfolding addressOf
+    collect-shape = record { is-table = is-table-lists base t pool table roots stack first ok .0; whole = good .pool; ends = good .below }
 
     pub collect-few : length roots / 4 ≤ 4096
     collect-few = ltb-false 4096 (length roots / 4) (first-none (manyRoots roots) _ (omega arith) (first-passed (goodLists base h roots stack) h _ (passes .1) .2) .0)

@@ -31,7 +31,7 @@ fn run(
     roots: &[u8],
     stack: &mut [u8],
 ) -> Collected
-    requires { ⌜ Shape t (now pool) (now table) ⌝ }
+    requires { ⌜ Shape (base .0) t (now pool) (now table) ⌝ }
     requires { ⌜ length (now roots) / 4 ≤ 4096 ⌝ }
     ensures { λ r. ⌜ IsTable t (now (table .exit)) × (outcomeOf r (heapAt t (now (pool .entry)) (now (table .exit))) (now (stack .exit))
         ≡ collecting (heapAt t (now (pool .entry)) (now (table .entry))) (now (stack .entry))

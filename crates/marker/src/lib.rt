@@ -22,7 +22,7 @@ fn mark_root(
     overflow: bool,
     w: u32,
 ) -> bool
-    requires { ⌜ Shape t (now pool) (now table) ⌝ }
+    requires { ⌜ Shape (base .0) t (now pool) (now table) ⌝ }
     ensures { λ r. ⌜ IsTable t (now (table .exit)) × (idle t (now (table .exit)) r
         ≡ markRoot (contextOf (base .0) (now (pool .entry)) (now (stack .entry))) w (idle t (now (table .entry)) overflow)) ⌝ }
 {
@@ -59,7 +59,7 @@ fn mark_roots(
     first: u32,
     roots: &[u8],
 ) -> bool
-    requires { ⌜ Shape t (now pool) (now table) ⌝ }
+    requires { ⌜ Shape (base .0) t (now pool) (now table) ⌝ }
     requires { ⌜ length (now roots) / 4 ≤ 4096 ⌝ }
     ensures { λ r. ⌜ IsTable t (now (table .exit)) × (idle t (now (table .exit)) r
         ≡ markRoots (contextOf (base .0) (now (pool .entry)) (now (stack .entry))) (first ∷ wordsOf (now (roots .entry))) (idle t (now (table .entry)) false)) ⌝ }
@@ -91,7 +91,7 @@ fn rescan_block(
     overflow: bool,
     k: Block,
 ) -> bool
-    requires { ⌜ Shape t (now pool) (now table) ⌝ }
+    requires { ⌜ Shape (base .0) t (now pool) (now table) ⌝ }
     requires { ⌜ k .0 < length (entriesIn t (now table)) ⌝ }
     ensures { λ r. ⌜ IsTable t (now (table .exit)) × (idle t (now (table .exit)) r
         ≡ passBlock (contextOf (base .0) (now (pool .entry)) (now (stack .entry))) (k .0) (idle t (now (table .entry)) overflow)) ⌝ }
@@ -104,7 +104,7 @@ fn rescan_block(
 
 // One rescan: the overflow is cleared, and then all blocks are gone through in rising order. Returns the new overflow.
 fn rescan(base: Address, t: usize, pool: &[u8], table: &mut [u8], stack: &mut [u8]) -> bool
-    requires { ⌜ Shape t (now pool) (now table) ⌝ }
+    requires { ⌜ Shape (base .0) t (now pool) (now table) ⌝ }
     ensures { λ r. ⌜ IsTable t (now (table .exit)) × (idle t (now (table .exit)) r
         ≡ pass (contextOf (base .0) (now (pool .entry)) (now (stack .entry))) (idle t (now (table .entry)) true)) ⌝ }
 {
@@ -128,7 +128,7 @@ pub fn mark(
     first: u32,
     roots: &[u8],
 ) -> u32
-    requires { ⌜ Shape t (now pool) (now table) ⌝ }
+    requires { ⌜ Shape (base .0) t (now pool) (now table) ⌝ }
     requires { ⌜ length (now roots) / 4 ≤ 4096 ⌝ }
     ensures { λ r. ⌜ IsTable t (now (table .exit)) × (markedIn (idle t (now (table .exit)) false) r
         ≡ markAll (contextOf (base .0) (now (pool .entry)) (now (stack .entry))) (first ∷ wordsOf (now (roots .entry))) (entriesIn t (now (table .entry)))) ⌝ }

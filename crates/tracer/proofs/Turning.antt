@@ -2,11 +2,12 @@
 -- Assumes nothing.
 use mathlib.Core.Path.{_≡_, refl, sym, ap, _∙_}
 use mathlib.Core.List.{List, _∷_, List·Memᴰ·head, List·Memᴰ·not-nil}
-use Prim.Native.Nat.{ℕ, _+_, _-_, _*_, _≤_, _<_}
+use Prim.Native.Nat.{ℕ, _+_, _-_, _*_, _^_, _≤_, _<_}
 use native.Mathlib.Omega.{arith}
 use lib.ListN.{length}
 use Rattle.rules.specs.Words.{wordAt}
 use Rattle.rules.specs.Tables.{blockCount, startOf}
+use Rattle.rules.specs.Pointers.{addressOf}
 use Rattle.rules.specs.Planes.{entriesIn, IsTable}
 use Rattle.rules.specs.Marking.{Context, State, state, visit, walkWords, walk, drain, trace}
 use Rattle.laws.proofs.Planes.{same-length}
@@ -31,24 +32,31 @@ module _ (base : ℕ) (pool stack₀ : List ℕ) where
   walk-end k n first i s s₀ h f e r = words-end (contextOf base pool stack₀) first i s h r ∙ rw (f, e)
 
 -- any other table of 4t blocks has the same shape
-pub shape-same : (t : ℕ) (pool table table′ : List ℕ) → Shape t pool table → IsTable t table′ → Shape t pool table′
-shape-same t pool table table′ s i = record { is-table = i; whole = rw (same-length t table′ table) (s .whole) }
+pub shape-same : (base t : ℕ) (pool table table′ : List ℕ) → Shape base t pool table → IsTable t table′ → Shape base t pool table′
+shape-same base t pool table table′ s i =
+    record { is-table = i; whole = rw (same-length t table′ table) (s .whole); ends = rw (same-length t table′ table) (s .ends) }
+
+-- where there is a block, the base is an address, and so is the end of the blocks of any such table at most 2 ^ 32
+pub in-space : (base t : ℕ) (pool table table′ : List ℕ) (k : ℕ) → Shape base t pool table → k < length (entriesIn t table)
+    → (base < 2 ^ 32) × (addressOf base (length (entriesIn t table′)) ≤ 2 ^ 32)
+unfolding addressOf
+in-space base t pool table table′ k s h = (omega (arith, s .ends, h), omega (arith, s .ends, same-length t table′ table))
 
 -- at the start of a trace the stack is empty, and block 0 is its own start
-pub can-start : (t : ℕ) (pool table stack : List ℕ) (m : Marking) → Shape t pool table → m .depth ≡ 0 → m .first .0 ≡ 0 → m .last .0 ≡ 0 → CanTrace t pool table stack m
+pub can-start : (base t : ℕ) (pool table stack : List ℕ) (m : Marking) → Shape base t pool table → m .depth ≡ 0 → m .first .0 ≡ 0 → m .last .0 ≡ 0 → CanTrace base t pool table stack m
 unfolding startOf
-can-start t pool table stack m shape e f l =
+can-start base t pool table stack m shape e f l =
     record { shape = shape; deep = omega arith; knows = rw (f, l) refl; below = λ k i. absurd (List·Memᴰ·not-nil (rw e at i)) }
 
 -- the block taken from the stack, with what is then left to trace
 pub record Popped (base t : ℕ) (pool stack₀ table stack : List ℕ) (m : Marking) (k : ℕ) (table′ stack′ : List ℕ) (m′ : Marking) (w : ℕ) : Type 0 where
-  pub can : CanTrace t pool table′ stack′ m′
+  pub can : CanTrace base t pool table′ stack′ m′
   pub inside : w < length (entriesIn t table′)
   pub less : toDrain (stateOf t table′ stack′ m′) < toDrain (stateOf t table stack m)
   pub same : trace (contextOf base pool stack₀) w (stateOf t table′ stack′ m′) ≡ trace (contextOf base pool stack₀) k (stateOf t table stack m)
 
 -- the walk of an object leaves a state from which the last pushed one is traced
-module _ (base t : ℕ) (pool stack₀ table stack : List ℕ) (m : Marking) (can : CanTrace t pool table stack m) (long : length stack ≡ length stack₀)
+module _ (base t : ℕ) (pool stack₀ table stack : List ℕ) (m : Marking) (can : CanTrace base t pool table stack m) (long : length stack ≡ length stack₀)
     (k : ℕ) (table′ stack′ : List ℕ) (m′ : Marking) (came : Came t (walk (contextOf base pool stack) k (stateOf t table stack m)) table′ stack′ m′) where
   abbrev c : Context
   c = contextOf base pool stack₀
@@ -72,7 +80,7 @@ module _ (base t : ℕ) (pool stack₀ table stack : List ℕ) (m : Marking) (ca
       let g : Sane c (length (entriesIn t table)) (state (entriesIn t table′) (w ∷ st) (overflowOf m′)) = rw full at sane in
       let l : length (entriesIn t table′) ≡ length (entriesIn t table) = g .long in
       record {
-        can = record { shape = shape-same t pool table table′ (can .shape) (came .is-table); deep = omega (arith, came .deep); knows = came .knows; below = rw l (sane-pop g .below) };
+        can = record { shape = shape-same base t pool table table′ (can .shape) (came .is-table); deep = omega (arith, came .deep); knows = came .knows; below = rw l (sane-pop g .below) };
         inside = rw l (g .below w (List·Memᴰ·head refl));
         less = omega (arith, walk-measure c k (stateOf t table stack m), ap toDrain (sym full ∙ walked), pop-less (entriesIn t table′) w st (overflowOf m′));
         same = sym (drain-pop c (entriesIn t table′) w st (overflowOf m′)) ∙ ap (drain c) (sym full ∙ walked);

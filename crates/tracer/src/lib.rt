@@ -20,7 +20,7 @@ fn walk(
     m: Marking,
     k: Block,
 ) -> Marking
-    requires { ⌜ Shape t (now pool) (now table) ⌝ }
+    requires { ⌜ Shape (base .0) t (now pool) (now table) ⌝ }
     requires { ⌜ (m .depth ≤ length (now stack) / 4) × ((k .0 < length (entriesIn t (now table))) × Knows (entriesIn t (now table)) m) ⌝ }
     ensures { λ r. ⌜ Came t (walkOf (contextOf (base .0) (now (pool .entry)) (now (stack .entry))) (k .0) (stateOf t (now (table .entry)) (now (stack .entry)) m))
         (now (table .exit)) (now (stack .exit)) r ⌝ }
@@ -59,7 +59,7 @@ pub fn trace(
     overflow: bool,
     k: Block,
 ) -> bool
-    requires { ⌜ Shape t (now pool) (now table) ⌝ }
+    requires { ⌜ Shape (base .0) t (now pool) (now table) ⌝ }
     requires { ⌜ k .0 < length (entriesIn t (now table)) ⌝ }
     ensures { λ r. ⌜ IsTable t (now (table .exit)) × (idle t (now (table .exit)) r
         ≡ traceOf (contextOf (base .0) (now (pool .entry)) (now (stack .entry))) (k .0) (idle t (now (table .entry)) overflow)) ⌝ }

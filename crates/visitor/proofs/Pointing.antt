@@ -1,19 +1,24 @@
 -- Where a word leads by its target, and what a visit and a root do there.
 -- Assumes nothing.
-use mathlib.Core.Path.{_≡_, refl, _∙_}
+use mathlib.Core.Path.{_≡_, refl, sym, _∙_}
 use mathlib.Core.Bool.{Bool, true, false}
 use mathlib.Core.List.{List}
 use mathlib.Core.Option.{Option, some, none}
 use Prim.Native.Nat.{ℕ, _-_, _/_, _%_, _<_}
+use native.Mathlib.Decide.{decLt}
 use native.Mathlib.Omega.{arith}
 use lib.Dec.{eqb, leb, ltb}
 use lib.ListN.{length}
-use borrow.Author.Tests.{eq-eqb, ne-eqb, ltb-true}
+use borrow.Author.Tests.{eq-eqb, ne-eqb, ltb-true, lt-ltb, le-ltb}
 use Rattle.rules.specs.Tests.{pick, both}
-use Rattle.rules.specs.Entries.{HEAD, MARK}
+use Rattle.rules.specs.Entries.{HEAD, TAIL, MARK}
 use Rattle.rules.specs.Tables.{entryAt, isHead, startOf}
 use Rattle.rules.specs.Pointers.{targetOf, headsObject, headAt, leadsTo}
 use Rattle.rules.specs.Marking.{Context, State, marked, pushed, visitTo, visit, trace, rootTo, markRoot}
+use Rattle.rules.specs.Planes.{entriesIn}
+use Rattle.laws.proofs.Planes.{same-length}
+use Rattle.laws.proofs.Tables.{entry-inside, start-own}
+use Rattle.laws.proofs.Marking.{head-inside}
 
 -- a target is one of the n blocks
 pub target-inside : (base n w k : ℕ) → some k ≡ targetOf base n w → k < n
@@ -25,6 +30,10 @@ target-inside base n w k q = go (leb base w) (eqb ((w - base) % 16) 0) (ltb ((w 
     go true true false e q = let z : _≡_ {A = ℕ} 0 1 = cc in absurd (omega arith)
     go true false c e q = let z : _≡_ {A = ℕ} 0 1 = cc in absurd (omega arith)
     go false b c e q = let z : _≡_ {A = ℕ} 0 1 = cc in absurd (omega arith)
+
+-- a TAIL is a block of every table of 4t blocks
+pub tail-inside : (t : ℕ) (table table′ : List ℕ) (k : ℕ) → entryAt (entriesIn t table) k ≡ TAIL → k < length (entriesIn t table′)
+tail-inside t table table′ k e = omega (arith, same-length t table′ table, entry-inside (entriesIn t table) k (λ f. omega (arith, e, f)))
 
 -- the object of block k starts at block h: `g h` is done if that is HEAD, else `z`
 module _ (es : List ℕ) (k h : ℕ) (at : h ≡ startOf es k)
@@ -77,3 +86,18 @@ module _ (c : Context) (w : ℕ) (s : State) (n : ℕ) (all : n ≡ length (s .e
   pub root-none : markRoot c w s ≡ s
   unfolding rootTo headAt
   root-none = root-target c w s n all q
+
+-- a word whose block is k, if that is one of the table's
+module _ (c : Context) (w : ℕ) (s : State) (k : ℕ) (t : targetOf (c .base) (length (s .entries)) w ≡ pick (ltb k (length (s .entries))) (some k) none) where
+  pub visit-at : k < length (s .entries) → visit c w s ≡ visitTo c s (headAt (s .entries) (some k))
+  visit-at h = visit-target c w s (length (s .entries)) refl (sym (rw (lt-ltb k (length (s .entries)) h) at t))
+
+  pub visit-head : entryAt (s .entries) k ≡ HEAD → visit c w s ≡ pushed c k (marked k s)
+  visit-head e = visit-at (head-inside (s .entries) k e) ∙ visit-takes c s k k (sym (start-own (s .entries) k (λ q. omega (arith, e, q)))) e
+
+  pub visit-other : (entryAt (s .entries) k ≡ HEAD → ⊥) → (entryAt (s .entries) k ≡ TAIL → ⊥) → visit c w s ≡ s
+  visit-other no-head no-tail = go (decLt k (length (s .entries)))
+    where
+      go : Dec (k < length (s .entries)) → visit c w s ≡ s
+      go (yes l) = visit-at l ∙ visit-stays c s k k (sym (start-own (s .entries) k no-tail)) no-head
+      go (no l) = visit-none c w s (length (s .entries)) refl (sym (rw (le-ltb k (length (s .entries)) (omega (arith, l))) at t))

@@ -12,11 +12,11 @@ use Rattle.rules.specs.Words.{wordAt, withWord}
 use Rattle.rules.specs.Entries.{HEAD, MARK}
 use Rattle.rules.specs.Tables.{entryAt, startOf}
 use Rattle.rules.specs.Planes.{entriesIn, Holds}
-use Rattle.rules.specs.Marking.{State, marked, pushed}
+use Rattle.rules.specs.Marking.{State, state, marked, pushed}
 use Rattle.laws.proofs.Words.{length-withWord, wordAt-withWord, wordAt-other}
 use Rattle.laws.proofs.Marks.{start-marked}
 use Rattle.visitor.specs.declared.Marking.{Marking}
-use Rattle.visitor.specs.Variables.{stacked, contextOf, stateOf, Knows, Remembers, Came}
+use Rattle.visitor.specs.Variables.{stacked, contextOf, overflowOf, stateOf, Knows, Pushes, Remembers, Came}
 
 pub stacked-length : (stack : List ℕ) (d : ℕ) → length (stacked stack d) ≡ d
 stacked-length stack zero = refl
@@ -52,26 +52,41 @@ pub came-to : {t : ℕ} {x y : State} {table stack : List ℕ} {m : Marking} →
 came-to c e = record { is-table = c .is-table; same = c .same ∙ e; deep = c .deep; knows = c .knows }
 
 -- the two ends of a push
-module _ (base t : ℕ) (pool table stack : List ℕ) (m : Marking) (k : ℕ) (deep : m .depth ≤ length stack / 4) (knows : Knows (entriesIn t table) m)
-    (head : entryAt (entriesIn t table) k ≡ HEAD) {table′ : List ℕ} (holds : Holds t (set (entriesIn t table) k MARK) table′) where
-  pub came-pushes : {stack′ : List ℕ} → k < 2 ^ 32 → m .depth < length stack / 4 → stack′ ≡ withWord stack (m .depth) k
-      → Came t (pushed (contextOf base pool stack) k (marked k (stateOf t table stack m))) table′ stack′ (record { depth = m .depth + 1; lost = m .lost; first = m .first; last = m .last })
-  unfolding pushed
-  came-pushes b r f =
-      record {
-        is-table = holds .is-table;
-        same = rw (stacked-length stack (m .depth), lt-ltb (m .depth) (length stack / 4) r, holds .entries, f, stacked-push stack k (m .depth) (omega arith) b);
-        deep = rw (f, length-withWord stack (m .depth) k) (omega arith);
-        knows = knows-marked (entriesIn t table) (entriesIn t table′) k m head (holds .entries) knows;
-      }
+pub pushes-on : (stack : List ℕ) (m : Marking) (k : ℕ) {stack′ : List ℕ} → k < 2 ^ 32 → m .depth < length stack / 4 → stack′ ≡ withWord stack (m .depth) k
+    → Pushes stack m k stack′ (record { depth = m .depth + 1; lost = m .lost; first = m .first; last = m .last })
+unfolding pushed
+pushes-on stack m k b r f =
+    record {
+      same = λ base pool es. rw (stacked-length stack (m .depth), lt-ltb (m .depth) (length stack / 4) r, f, stacked-push stack k (m .depth) (omega arith) b);
+      deep = rw (f, length-withWord stack (m .depth) k) (omega arith);
+      first = refl;
+      last = refl;
+    }
 
-  pub came-loses : length stack / 4 ≤ m .depth
-      → Came t (pushed (contextOf base pool stack) k (marked k (stateOf t table stack m))) table′ stack (record { depth = m .depth; lost = 1; first = m .first; last = m .last })
-  unfolding pushed
-  came-loses r =
-      record {
-        is-table = holds .is-table;
-        same = rw (stacked-length stack (m .depth), le-ltb (m .depth) (length stack / 4) r, holds .entries);
-        deep = deep;
-        knows = knows-marked (entriesIn t table) (entriesIn t table′) k m head (holds .entries) knows;
-      }
+pub pushes-not : (stack : List ℕ) (m : Marking) (k : ℕ) → m .depth ≤ length stack / 4 → length stack / 4 ≤ m .depth
+    → Pushes stack m k stack (record { depth = m .depth; lost = 1; first = m .first; last = m .last })
+unfolding pushed
+pushes-not stack m k deep r =
+    record {
+      same = λ base pool es. rw (stacked-length stack (m .depth), le-ltb (m .depth) (length stack / 4) r);
+      deep = deep;
+      first = refl;
+      last = refl;
+    }
+
+-- a HEAD is marked and pushed
+pub came-pushed : (base t : ℕ) (pool table stack : List ℕ) (m : Marking) (k : ℕ) {table′ stack′ : List ℕ} {r : Marking} → Knows (entriesIn t table) m → entryAt (entriesIn t table) k ≡ HEAD
+    → Holds t (set (entriesIn t table) k MARK) table′ → Pushes stack m k stack′ r → Came t (pushed (contextOf base pool stack) k (marked k (stateOf t table stack m))) table′ stack′ r
+came-pushed base t pool table stack m k {table′ = table′} {stack′ = stack′} {r = r} knows head holds pushes =
+    record {
+      is-table = holds .is-table;
+      same = ap (λ (es : List ℕ). state es (stacked stack′ (r .depth)) (overflowOf r)) (holds .entries) ∙ pushes .same base pool (set (entriesIn t table) k MARK);
+      deep = pushes .deep;
+      knows = rw (pushes .first, pushes .last) (knows-marked (entriesIn t table) (entriesIn t table′) k m head (holds .entries) knows);
+    }
+
+-- nothing is done, in a table with the same entries
+pub came-same : (t : ℕ) (table stack : List ℕ) (m : Marking) {table′ : List ℕ} → m .depth ≤ length stack / 4 → Knows (entriesIn t table) m → Holds t (entriesIn t table) table′
+    → Came t (stateOf t table stack m) table′ stack m
+came-same t table stack m deep knows holds =
+    record { is-table = holds .is-table; same = ap (λ (es : List ℕ). state es (stacked stack (m .depth)) (overflowOf m)) (holds .entries); deep = deep; knows = rw (holds .entries) knows }

@@ -4,12 +4,13 @@ use mathlib.Core.Path.{_≡_}
 use mathlib.Core.Logic.{_⊎_}
 use mathlib.Core.Bool.{Bool}
 use mathlib.Core.List.{List, [], _∷_, List·Memᴰ}
-use Prim.Native.Nat.{ℕ, zero, suc, _*_, _/_, _≤_, _<_}
+use Prim.Native.Nat.{ℕ, zero, suc, _*_, _/_, _^_, _≤_, _<_}
 use lib.Dec.{ltb}
 use lib.ListN.{length}
 use Rattle.rules.specs.Words.{wordAt}
 use Rattle.rules.specs.Tables.{startOf}
-use Rattle.rules.specs.Marking.{Context, State, state}
+use Rattle.rules.specs.Pointers.{addressOf}
+use Rattle.rules.specs.Marking.{Context, State, state, pushed}
 use Rattle.rules.specs.Planes.{entriesIn, IsTable}
 use Rattle.visitor.specs.declared.Marking.{Marking}
 
@@ -34,14 +35,22 @@ stateOf t table stack m = state (entriesIn t table) (stacked stack (m .depth)) (
 abbrev pub idle : ℕ → List ℕ → Bool → State
 idle t table overflow = state (entriesIn t table) [] overflow
 
--- a pool of 16 bytes for each block of the table
-pub record Shape (t : ℕ) (pool table : List ℕ) : Type 0 where
+-- a pool of 16 bytes for each block of the table, and all of it in the address space
+pub record Shape (base t : ℕ) (pool table : List ℕ) : Type 0 where
   pub is-table : IsTable t table
   pub whole : length pool ≡ 16 * length (entriesIn t table)
+  pub ends : addressOf base (length (entriesIn t table)) ≤ 2 ^ 32
 
 -- what is remembered of a back scan holds: the object of block `last` starts at block `first`
 abbrev pub Knows : List ℕ → Marking → Type 0
 Knows es m = m .first .0 ≡ startOf es (m .last .0)
+
+-- block k is pushed onto the lent stack, or the overflow is set, whatever the entries are; the depth is within the stack, and what is remembered stays
+pub record Pushes (stack : List ℕ) (m : Marking) (k : ℕ) (stack′ : List ℕ) (r : Marking) : Type 0 where
+  pub same : (base : ℕ) (pool es : List ℕ) → state es (stacked stack′ (r .depth)) (overflowOf r) ≡ pushed (contextOf base pool stack) k (state es (stacked stack (m .depth)) (overflowOf m))
+  pub deep : r .depth ≤ length stack′ / 4
+  pub first : r .first .0 ≡ m .first .0
+  pub last : r .last .0 ≡ m .last .0
 
 -- the scan from block k back to `start` is remembered, or that of before: which of them is a matter of time alone
 pub record Remembers (m : Marking) (start k : ℕ) (r : Marking) : Type 0 where
@@ -57,8 +66,8 @@ pub record Came (t : ℕ) (to : State) (table stack : List ℕ) (m : Marking) : 
   pub knows : Knows (entriesIn t table) m
 
 -- what tracing asks: the words of the stack that are in use are blocks of the table
-pub record CanTrace (t : ℕ) (pool table stack : List ℕ) (m : Marking) : Type 0 where
-  pub shape : Shape t pool table
+pub record CanTrace (base t : ℕ) (pool table stack : List ℕ) (m : Marking) : Type 0 where
+  pub shape : Shape base t pool table
   pub deep : m .depth ≤ length stack / 4
   pub knows : Knows (entriesIn t table) m
   pub below : (k : ℕ) → List·Memᴰ k (stacked stack (m .depth)) → k < length (entriesIn t table)

@@ -2,17 +2,16 @@
 ghost use mathlib.Core.Path.{_≡_};
 ghost use mathlib.Core.List.{List};
 ghost use mathlib.Core.Option.{some};
-ghost use Prim.Native.Nat.{ℕ, _/_, _≤_, _<_};
+ghost use Prim.Native.Nat.{ℕ, _/_, _^_, _≤_, _<_};
 ghost use lib.ListN.{length};
-ghost use Rattle.rules.specs.Entries.{HEAD};
 ghost use Rattle.rules.specs.Planes.{entriesIn, IsTable};
-ghost use Rattle.rules.specs.Tables.{entryAt, startOf};
-ghost use Rattle.rules.specs.Pointers.{headAt};
-ghost use Rattle.rules.specs.Marking.{marked, pushed, visitTo, visit as visitOf};
-ghost use Rattle.visitor.specs.Variables.{contextOf, stateOf, Knows, Remembers, Came};
+ghost use Rattle.rules.specs.Tables.{startOf};
+ghost use Rattle.rules.specs.Pointers.{addressOf, headAt};
+ghost use Rattle.rules.specs.Marking.{visitTo, visit as visitOf};
+ghost use Rattle.visitor.specs.Variables.{contextOf, stateOf, Knows, Pushes, Remembers, Came};
+use entries::Met;
 use numbers::Address;
 use numbers::Block;
-use numbers::Found;
 
 // How many entries of the mark stack are in use, and whether a block has been lost because it was full: 1 if so, else 0, as a `bool` would
 // leave bytes of the struct unused and its copies slow. And the longest back scan from a TAIL so far: the object of block `last` starts at block `first`.
@@ -23,14 +22,11 @@ pub struct Marking {
     pub last: Block,
 }
 
-// Block k, a HEAD, becomes MARK and is pushed, or the overflow is set.
-fn push(t: usize, table: &mut [u8], stack: &mut [u8], m: Marking, k: Block) -> Marking
-    requires { ⌜ IsTable t (now table) × ((m .depth ≤ length (now stack) / 4) × Knows (entriesIn t (now table)) m) ⌝ }
-    requires { ⌜ entryAt (entriesIn t (now table)) (k .0) ≡ HEAD ⌝ }
-    ensures { λ r. ⌜ ((base : ℕ) (pool : List ℕ) → Came t (pushed (contextOf base pool (now (stack .entry))) (k .0) (marked (k .0) (stateOf t (now (table .entry)) (now (stack .entry)) m)))
-        (now (table .exit)) (now (stack .exit)) r) ⌝ }
+// Block k is pushed, or the overflow is set.
+fn push(stack: &mut [u8], m: Marking, k: Block) -> Marking
+    requires { ⌜ (m .depth ≤ length (now stack) / 4) × (k .0 < 2 ^ 32) ⌝ }
+    ensures { λ r. ⌜ Pushes (now (stack .entry)) m (k .0) (now (stack .exit)) r ⌝ }
 {
-    entries::set_mark(t, &mut *table, k);
     let d = m.depth;
     let first = m.first;
     let last = m.last;
@@ -97,7 +93,8 @@ fn visit_tail(t: usize, table: &mut [u8], stack: &mut [u8], m: Marking, k: Block
     if !entries::is_head(t, &*table, head) {
         return seen;
     }
-    push(t, &mut *table, &mut *stack, seen, head)
+    entries::set_mark(t, &mut *table, head);
+    push(&mut *stack, seen, head)
 }
 
 // A word of a walked object: if it leads to a HEAD, that becomes MARK and is pushed, or the overflow is set.
@@ -109,19 +106,16 @@ pub fn visit(
     m: Marking,
     w: u32,
 ) -> Marking
+    requires { ⌜ (base .0 < 2 ^ 32) × (addressOf (base .0) (length (entriesIn t (now table))) ≤ 2 ^ 32) ⌝ }
     requires { ⌜ IsTable t (now table) × ((m .depth ≤ length (now stack) / 4) × Knows (entriesIn t (now table)) m) ⌝ }
     ensures { λ r. ⌜ ((pool : List ℕ) → Came t (visitOf (contextOf (base .0) pool (now (stack .entry))) w (stateOf t (now (table .entry)) (now (stack .entry)) m))
         (now (table .exit)) (now (stack .exit)) r) ⌝ }
 {
-    let target = base.target(entries::blocks(t), w);
-    let Found::At(k) = target else {
-        return m;
-    };
-    if entries::is_head(t, &*table, k) {
-        return push(t, &mut *table, &mut *stack, m, k);
+    let k = base.block_of(w);
+    let met = entries::mark_head(t, &mut *table, k);
+    match met {
+        Met::Head => push(&mut *stack, m, k),
+        Met::Tail => visit_tail(t, &mut *table, &mut *stack, m, k),
+        Met::Other => m,
     }
-    if entries::is_tail(t, &*table, k) {
-        return visit_tail(t, &mut *table, &mut *stack, m, k);
-    }
-    m
 }

@@ -38,7 +38,7 @@ loop-holds c = (omega arith, c .before .before .before .before .mark-roots .ensu
 rescan-requires : tie.Need-rescan-requires Inv-loop μ-loop
 rescan-requires c κs =
     let a = c .before .before .before .before .before .before .before .before .before .before .before .before .before .before .before .args in
-    shape-same (a .t) (a .pool .now) (a .table .now) (c .before .before .before .loop .table) (c .before .before .before .before .before .before .before .before .before .before .before .before .before .before .before .pre .0) (c .before .before .before .loop .inv .1)
+    shape-same (a .base .0) (a .t) (a .pool .now) (a .table .now) (c .before .before .before .loop .table) (c .before .before .before .before .before .before .before .before .before .before .before .before .before .before .before .pre .0) (c .before .before .before .loop .inv .1)
 
 turned : (c : tie.After-slice-known6 Inv-loop μ-loop) →
     let l = c .before .before .before .before .before .before .before .before .loop in

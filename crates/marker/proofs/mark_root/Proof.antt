@@ -79,7 +79,7 @@ trace-requires : tie.Need-trace-requires
 trace-requires c κs =
     let a = c .before .before .before .before .before .before .before .before .before .before .before .before .before .before .before .before .before .before .before .args in
     let e = c .before .before .before .before .set-mark in (
-      shape-same (a .t) (a .pool .now) (a .table .now) (e .last .1 .0) (c .before .before .before .before .before .before .before .before .before .before .before .before .before .before .before .before .before .before .before .pre) (e .ensures .is-table),
+      shape-same (a .base .0) (a .t) (a .pool .now) (a .table .now) (e .last .1 .0) (c .before .before .before .before .before .before .before .before .before .before .before .before .before .before .before .before .before .before .before .pre) (e .ensures .is-table),
       omega (arith, head-inside (entriesIn (a .t) (a .table .now)) _ (head (c .before .before .before .before .before .before)), as-many (a .t) (e .last .1 .0) (a .table .now)),
     )
 

@@ -36,7 +36,7 @@ root-requires : tie.Need-root-requires Inv-loop μ-loop
 root-requires c κs = omega (arith, c .before .before .loop-test .taken)
 
 mark-root-requires : tie.Need-mark-root-requires Inv-loop μ-loop
-mark-root-requires c κs = shape-same (c .before .before .before .before .before .before .before .before .before .args .t) (c .before .before .before .before .before .before .before .before .before .args .pool .now) (c .before .before .before .before .before .before .before .before .before .args .table .now) (c .before .before .before .before .loop .table) (c .before .before .before .before .before .before .before .before .before .pre .0) (c .before .before .before .before .loop .inv .0)
+mark-root-requires c κs = shape-same (c .before .before .before .before .before .before .before .before .before .args .base .0) (c .before .before .before .before .before .before .before .before .before .args .t) (c .before .before .before .before .before .before .before .before .before .args .pool .now) (c .before .before .before .before .before .before .before .before .before .args .table .now) (c .before .before .before .before .loop .table) (c .before .before .before .before .before .before .before .before .before .pre .0) (c .before .before .before .before .loop .inv .0)
 
 add-i : tie.Need-add-i Inv-loop μ-loop
 add-i c = in-32-bits (search needs)

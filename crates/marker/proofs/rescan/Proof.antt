@@ -49,7 +49,7 @@ rescan-block-requires : tie.Need-rescan-block-requires Inv-loop μ-loop
 rescan-block-requires c κs =
     let a = c .before .before .before .before .before .before .before .before .before .before .args in
     let l = c .before .before .before .before .loop in (
-      shape-same (a .t) (a .pool .now) (a .table .now) (l .table) (c .before .before .before .before .before .before .before .before .before .before .pre) (l .inv .0),
+      shape-same (a .base .0) (a .t) (a .pool .now) (a .table .now) (l .table) (c .before .before .before .before .before .before .before .before .before .before .pre) (l .inv .0),
       omega (arith, below (c .before .before), c .before .before .before .before .before .before .blocks2 .ensures (l .table)),
     )
 

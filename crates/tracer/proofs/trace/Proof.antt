@@ -16,7 +16,7 @@ use Rattle.tracer.proofs.trace.Tie as tie
 
 abbrev Inv-loop : tie.InvT-loop
 Inv-loop base t pool table₀ stack₀ overflow left₀ next₀ table stack left next =
-    CanTrace t pool table stack left
+    CanTrace (base .0) t pool table stack left
     × (next .0 < length (entriesIn t table))
     × (length table ≡ length table₀)
     × (length stack ≡ length stack₀)
@@ -37,7 +37,7 @@ first-requires-2 c κs = search needs
 loop-holds : tie.Need-loop-holds Inv-loop μ-loop
 loop-holds c =
     let a = c .before .before .before .before .before .before .args in
-    (can-start (a .t) (a .pool .now) (a .table .now) (a .stack .now) _ (c .before .before .before .before .before .before .pre .0) refl (c .before .first .ensures) (c .first2 .ensures), c .before .before .before .before .before .before .pre .1, refl, refl, refl)
+    (can-start (a .base .0) (a .t) (a .pool .now) (a .table .now) (a .stack .now) _ (c .before .before .before .before .before .before .pre .0) refl (c .before .first .ensures) (c .first2 .ensures), c .before .before .before .before .before .before .pre .1, refl, refl, refl)
 
 walk-requires : tie.Need-walk-requires Inv-loop μ-loop
 walk-requires c κs =

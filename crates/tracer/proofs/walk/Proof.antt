@@ -10,7 +10,7 @@ use Rattle.rules.specs.Marking.{walkWords}
 use Rattle.laws.proofs.Planes.{few-entries}
 use Rattle.laws.proofs.Widths.{in-32-bits}
 use Rattle.visitor.specs.Variables.{contextOf, stateOf, Knows}
-use Rattle.tracer.proofs.Turning.{walk-turn, walk-end}
+use Rattle.tracer.proofs.Turning.{in-space, walk-turn, walk-end}
 use Rattle.tracer.proofs.walk.Statement.{statement}
 use Rattle.tracer.proofs.walk.Tie as tie
 
@@ -55,7 +55,10 @@ word-requires : tie.Need-word-requires Inv-loop μ-loop
 word-requires c κs = omega (arith, within c, c .before .before .loop-test .taken)
 
 visit-requires : tie.Need-visit-requires Inv-loop μ-loop
-visit-requires c κs = (c .before .before .before .before .loop .inv .2, (c .before .before .before .before .loop .inv .1, c .before .before .before .before .loop .inv .5))
+visit-requires c κs =
+    let s = c .before .before .before .before .before .before .before .before .before .before .before in
+    let l = c .before .before .before .before .loop in
+    (in-space (s .args .base .0) (s .args .t) (s .args .pool .now) (s .args .table .now) (l .table) (s .args .k .0) (s .pre .0) (s .pre .1 .1 .0), (l .inv .2, (l .inv .1, l .inv .5)))
 
 loop-less : tie.Need-loop-less Inv-loop μ-loop
 loop-less c = search needs

@@ -1,64 +1,70 @@
--- The four ends: no target, a HEAD, a TAIL, and another block. A target that is no TAIL starts its own object.
+-- The three ends: a HEAD, a TAIL, and another block or none. A target that is no TAIL starts its own object.
 -- Assumes nothing.
-use mathlib.Core.Path.{_≡_, sym, ap, _∙_}
-use mathlib.Core.Option.{some}
-use Prim.Native.Nat.{_<_}
-use native.Mathlib.Omega.{arith}
-use borrow.Author.Needs.{needs}
-use borrow.Author.Tests.{eqb-true, eqb-false}
+use mathlib.Core.Path.{_≡_, sym, ap, subst, _∙_}
+use mathlib.Core.List.{List}
+use mathlib.Core.Option.{some, none}
+use Prim.Native.Nat.{ℕ}
+use lib.Dec.{ltb}
 use lib.ListN.{length}
-use Rattle.numbers.specs.Places.{found}
-use Rattle.rules.specs.Entries.{HEAD}
-use Rattle.rules.specs.Tables.{entryAt}
+use borrow.Author.Needs.{needs}
+use Rattle.rules.specs.Tests.{pick}
 use Rattle.rules.specs.Planes.{entriesIn}
-use Rattle.rules.specs.Pointers.{targetOf}
-use Rattle.laws.proofs.Tables.{start-own}
-use Rattle.visitor.specs.Variables.{contextOf, stateOf}
-use Rattle.visitor.proofs.Pointing.{target-inside, visit-takes, visit-stays, visit-target, visit-none}
-use Rattle.visitor.proofs.Stacking.{came-to}
+use Rattle.rules.specs.Pointers.{targetOf, headAt}
+use Rattle.rules.specs.Marking.{state, visitTo}
+use Rattle.entries.specs.declared.Met.{Met}
+use Rattle.entries.specs.declared.Met.the-variants.{Head, Tail, Other}
+use Rattle.entries.specs.Marking.{MarksHead}
+use Rattle.visitor.specs.Variables.{stacked, overflowOf, contextOf, stateOf}
+use Rattle.visitor.proofs.Pointing.{tail-inside, visit-at, visit-head, visit-other}
+use Rattle.visitor.proofs.Stacking.{came-to, came-pushed, came-same}
 use Rattle.visitor.proofs.visit.Statement.{statement}
 use Rattle.visitor.proofs.visit.Tie as tie
 
-blocks-requires : tie.Need-blocks-requires
-blocks-requires c κs = search needs
+-- the block of the word, and the table, once it was met
+module _ (c : tie.After-mark-head) where
+  abbrev start : tie.Start
+  start = c .before .before .before .before .before
 
-target-requires : tie.Need-target-requires
-target-requires c κs = search needs
+  abbrev es : List ℕ
+  es = entriesIn (start .args .t) (start .args .table .now)
 
-enum-known-target : tie.Need-enum-known-target
-enum-known-target c = search needs
+  abbrev k : ℕ
+  k = c .before .before .block-of .result .0
 
--- the block that the target is
-at : (c : tie.After-target2) → some (c .target2 .given .0 .0 .0) ≡ targetOf (c .before .before .before .before .before .before .args .base .0) (c .before .before .before .blocks2 .result) (c .before .before .before .before .before .before .args .w)
-at c = sym (ap found (c .target2 .given .1)) ∙ c .before .before .target .ensures
+  abbrev table′ : List ℕ
+  table′ = c .mark-head .last .1 .0
 
--- it is a block of the table
-inside : (c : tie.After-target2) → c .target2 .given .0 .0 .0 < length (entriesIn (c .before .before .before .before .before .before .args .t) (c .before .before .before .before .before .before .args .table .now))
-inside c = omega (arith, target-inside _ _ _ _ (at c), c .before .before .before .blocks2 .ensures (c .before .before .before .before .before .before .args .table .now))
+  target : targetOf (start .args .base .0) (length es) (start .args .w) ≡ pick (ltb k (length es)) (some k) none
+  target = c .before .before .block-of .ensures .target (length es) (start .pre .0 .1)
+
+  met : (r : Met) → c .mark-head .result ≡ r → MarksHead (start .args .t) es k table′ r
+  met r e = subst (MarksHead (start .args .t) es k table′) e (c .mark-head .ensures)
+
+block-of-requires : tie.Need-block-of-requires
+block-of-requires c κs = search needs
+
+mark-head-requires : tie.Need-mark-head-requires
+mark-head-requires c κs = (c .before .before .before .before .pre .1 .0, c .before .block-of .ensures .small)
 
 enum-told : tie.Need-enum-told
 enum-told c = search needs
 
-returns : tie.Need-returns
-returns c pool =
-    let a = c .before .before .before .before .before .before .args in
-    let s = stateOf (a .t) (a .table .now) (a .stack .now) (a .m) in
-    record {
-      is-table = c .before .before .before .before .before .before .pre .0;
-      same = sym (visit-none (contextOf (a .base .0) pool (a .stack .now)) (a .w) s _ (c .before .before .before .blocks2 .ensures _) (sym (ap found (c .enum-told .given .1)) ∙ c .before .before .target .ensures));
-      deep = c .before .before .before .before .before .before .pre .1 .0;
-      knows = c .before .before .before .before .before .before .pre .1 .1;
-    }
-
-is-head-requires : tie.Need-is-head-requires
-is-head-requires c κs = (c .before .before .before .before .before .before .before .before .pre .0, inside (c .before .before))
-
--- the target is a HEAD
-head : (c : tie.Then1) → entryAt (entriesIn (c .before .before .before .before .before .before .before .before .before .before .args .t) (c .before .before .before .before .before .before .before .before .before .before .args .table .now)) (c .before .before .before .before .target2 .given .0 .0 .0) ≡ HEAD
-head c = eqb-true _ _ (sym (c .before .is-head .ensures) ∙ c .if1 .taken)
-
 push-requires : tie.Need-push-requires
-push-requires c κs = (c .before .before .before .before .before .before .before .before .before .before .before .before .pre, head (c .before .before))
+push-requires c κs = (c .before .before .before .before .before .before .before .before .before .before .pre .1 .1 .0, c .before .before .before .before .before .before .before .block-of .ensures .small)
+
+enum-told-2 : tie.Need-enum-told-2
+enum-told-2 c = search needs
+
+visit-tail-requires : tie.Need-visit-tail-requires
+visit-tail-requires c κs =
+    let b = c .before .before .before .before .before .before in
+    let h = met b Tail (c .before .before .enum-told2 .given .1) in
+    let a = start b .args in
+    let same = came-same (a .t) (a .table .now) (a .stack .now) (a .m) (start b .pre .1 .1 .0) (start b .pre .1 .1 .1) (h .1) in
+    ((same .is-table, (same .deep, same .knows)), tail-inside (a .t) (a .table .now) (table′ b) (k b) (h .0))
+
+enum-told-3 : tie.Need-enum-told-3
+enum-told-3 c = search needs
 
 same-length : tie.Need-same-length
 same-length c = search needs
@@ -66,21 +72,13 @@ same-length c = search needs
 same-length-2 : tie.Need-same-length-2
 same-length-2 c = search needs
 
-returns-2 : tie.Need-returns-2
-returns-2 c pool =
-    let a = c .before .before .before .before .before .before .before .before .before .before .before .before .before .before .before .before .before .args in
-    let x = contextOf (a .base .0) pool (a .stack .now) in
-    let s = stateOf (a .t) (a .table .now) (a .stack .now) (a .m) in
-    let first = head (c .before .before .before .before .before .before .before) in
-    came-to (c .before .before .before .before .push .ensures (a .base .0) pool)
-    (sym (visit-takes x s _ _ (sym (start-own (entriesIn (a .t) (a .table .now)) _ (λ tail. omega (arith, first, tail)))) first)
-    ∙ sym (visit-target x (a .w) s _ (c .before .before .before .before .before .before .before .before .before .before .before .before .before .before .blocks2 .ensures _) (at (c .before .before .before .before .before .before .before .before .before .before .before))))
-
-is-tail-requires : tie.Need-is-tail-requires
-is-tail-requires c κs = (c .before .before .before .before .before .before .before .before .before .before .before .pre .0, inside (c .before .before .before .before .before))
-
-visit-tail-requires : tie.Need-visit-tail-requires
-visit-tail-requires c κs = ((c .before .before .before .before .before .before .before .before .before .before .before .before .before .before .before .pre .0, (c .before .before .before .before .before .before .before .before .before .before .before .before .before .before .before .pre .1 .0, c .before .before .before .before .before .before .before .before .before .before .before .before .before .before .before .pre .1 .1)), inside (c .before .before .before .before .before .before .before .before .before))
+returns : tie.Need-returns
+returns c pool =
+    let b = c .before .before .before .before .before .before .before .before in
+    let h = met b Head (c .before .before .before .before .enum-told .given .1) in
+    let a = start b .args in
+    came-to (came-pushed (a .base .0) (a .t) pool (a .table .now) (a .stack .now) (a .m) (k b) (start b .pre .1 .1 .1) (h .0) (h .1) (c .before .before .push .ensures))
+    (sym (visit-head (contextOf (a .base .0) pool (a .stack .now)) (a .w) (stateOf (a .t) (a .table .now) (a .stack .now) (a .m)) (k b) (target b) (h .0)))
 
 same-length-3 : tie.Need-same-length-3
 same-length-3 c = search needs
@@ -88,47 +86,43 @@ same-length-3 c = search needs
 same-length-4 : tie.Need-same-length-4
 same-length-4 c = search needs
 
-returns-3 : tie.Need-returns-3
-returns-3 c pool =
-    let a = c .before .before .before .before .before .before .before .before .before .before .before .before .before .before .before .before .before .before .before .before .args in
+returns-2 : tie.Need-returns-2
+returns-2 c pool =
+    let b = c .before .before .before .before .before .before .before .before .before .before .before in
+    let h = met b Tail (c .before .before .before .before .before .before .before .enum-told2 .given .1) in
+    let a = start b .args in
     let x = contextOf (a .base .0) pool (a .stack .now) in
-    let s = stateOf (a .t) (a .table .now) (a .stack .now) (a .m) in
-    came-to (c .before .before .before .before .visit-tail .ensures (a .base .0) pool) (sym (visit-target x (a .w) s _ (c .before .before .before .before .before .before .before .before .before .before .before .before .before .before .before .before .before .blocks2 .ensures _) (at (c .before .before .before .before .before .before .before .before .before .before .before .before .before .before))))
+    came-to (c .before .before .before .before .visit-tail .ensures (a .base .0) pool)
+    (ap (λ (es : List ℕ). visitTo x (state es (stacked (a .stack .now) (a .m .depth)) (overflowOf (a .m))) (headAt es (some (k b)))) (h .1 .entries)
+    ∙ sym (visit-at x (a .w) (stateOf (a .t) (a .table .now) (a .stack .now) (a .m)) (k b) (target b) (tail-inside (a .t) (a .table .now) (a .table .now) (k b) (h .0))))
 
 same-length-5 : tie.Need-same-length-5
 same-length-5 c = search needs
 
-returns-4 : tie.Need-returns-4
-returns-4 c pool =
-    let a = c .before .before .before .before .before .before .before .before .before .before .before .before .before .args in
-    let x = contextOf (a .base .0) pool (a .stack .now) in
-    let s = stateOf (a .t) (a .table .now) (a .stack .now) (a .m) in
-    record {
-      is-table = c .before .before .before .before .before .before .before .before .before .before .before .before .before .pre .0;
-      same = sym (visit-target x (a .w) s _ (c .before .before .before .before .before .before .before .before .before .before .blocks2 .ensures _) (at (c .before .before .before .before .before .before .before))
-          ∙ visit-stays x s _ _ (sym (start-own (entriesIn (a .t) (a .table .now)) _ (eqb-false _ _ (sym (c .before .is-tail .ensures) ∙ c .if2 .left)))) (eqb-false _ _ (sym (c .before .before .before .before .is-head .ensures) ∙ c .before .before .before .if1 .left)));
-      deep = c .before .before .before .before .before .before .before .before .before .before .before .before .before .pre .1 .0;
-      knows = c .before .before .before .before .before .before .before .before .before .before .before .before .before .pre .1 .1;
-    }
+returns-3 : tie.Need-returns-3
+returns-3 c pool =
+    let b = c .before .before .before .before in
+    let h = met b Other (c .enum-told3 .given .1) in
+    let a = start b .args in
+    came-to (came-same (a .t) (a .table .now) (a .stack .now) (a .m) (start b .pre .1 .1 .0) (start b .pre .1 .1 .1) (h .1 .1))
+    (sym (visit-other (contextOf (a .base .0) pool (a .stack .now)) (a .w) (stateOf (a .t) (a .table .now) (a .stack .now) (a .m)) (k b) (target b) (h .0) (h .1 .0)))
 
 pub visit-spec : {M : Type 1} → statement M
 visit-spec =
     tie.close
     (tie.spec
-    blocks-requires
-    target-requires
-    enum-known-target
+    block-of-requires
+    mark-head-requires
     enum-told
-    returns
-    is-head-requires
     push-requires
+    enum-told-2
+    visit-tail-requires
+    enum-told-3
     same-length
     same-length-2
-    returns-2
-    is-tail-requires
-    visit-tail-requires
+    returns
     same-length-3
     same-length-4
-    returns-3
+    returns-2
     same-length-5
-    returns-4)
+    returns-3)

@@ -8,10 +8,12 @@ use Rattle.rules.specs.Entries.{HEAD}
 use Rattle.rules.specs.Tables.{entryAt}
 use Rattle.rules.specs.Planes.{entriesIn}
 use Rattle.rules.specs.Marking.{State, marked, pushed}
+use Rattle.laws.proofs.Planes.{few-entries}
 use Rattle.laws.proofs.Tables.{start-says}
+use Rattle.laws.proofs.Marking.{head-inside}
 use Rattle.visitor.specs.Variables.{contextOf, stateOf}
 use Rattle.visitor.proofs.Pointing.{visit-takes, visit-stays}
-use Rattle.visitor.proofs.Stacking.{knows-either, state-remembers, came-to}
+use Rattle.visitor.proofs.Stacking.{knows-either, state-remembers, came-to, came-pushed}
 use Rattle.visitor.proofs.visit_tail.Statement.{statement}
 use Rattle.visitor.proofs.visit_tail.Tie as tie
 
@@ -49,11 +51,14 @@ returns c base pool =
 head : (c : tie.Else1) → entryAt (entriesIn (c .before .before .before .before .before .before .before .before .args .t) (c .before .before .before .before .before .before .before .before .args .table .now)) (c .before .before .before .before .start-of .result .0) ≡ HEAD
 head c = eqb-true _ _ (sym (c .before .is-head .ensures) ∙ not-false _ (c .if1 .left))
 
+set-mark-requires : tie.Need-set-mark-requires
+set-mark-requires c κs = (c .before .before .before .before .before .before .before .before .before .pre .0 .0, head (c .before))
+
 push-requires : tie.Need-push-requires
 push-requires c κs =
-    let a = c .before .before .before .before .before .before .before .before .before .before .args in
-    let r = c .before .before .before .before .before .remember in
-    ((c .before .before .before .before .before .before .before .before .before .before .pre .0 .0, (rw (r .ensures .depth) (c .before .before .before .before .before .before .before .before .before .before .pre .0 .1 .0), knows-either (entriesIn (a .t) (a .table .now)) (a .m) (r .result) (c .before .before .before .before .before .before .start-of .result .0) (a .k .0) (c .before .before .before .before .before .before .before .before .before .before .pre .0 .1 .1) (c .before .before .before .before .before .before .start-of .ensures) (r .ensures))), head (c .before .before))
+    let s = c .before .before .before .before .before .before .before .before .before .before .before .before .before in
+    let es = entriesIn (s .args .t) (s .args .table .now) in
+    (rw (c .before .before .before .before .before .before .before .before .remember .ensures .depth) (s .pre .0 .1 .0), omega (arith, head-inside es _ (head (c .before .before .before .before .before)), few-entries (s .args .t) (s .args .table .now) (s .pre .0 .0)))
 
 same-length-2 : tie.Need-same-length-2
 same-length-2 c = search needs
@@ -63,12 +68,17 @@ same-length-3 c = search needs
 
 returns-2 : tie.Need-returns-2
 returns-2 c base pool =
-    let a = c .before .before .before .before .before .before .before .before .before .before .before .before .before .before .before .args in
-    let h = c .before .before .before .before .before .before .before .before .before .before .before .start-of in
+    let s = c .before .before .before .before .before .before .before .before .before .before .before .before .before .before .before .before in
+    let a = s .args in
+    let h = c .before .before .before .before .before .before .before .before .before .before .before .before .start-of in
+    let r = c .before .before .before .before .before .before .before .before .before .before .before .remember in
     let x = contextOf base pool (a .stack .now) in
-    came-to (c .before .before .before .before .push .ensures base pool)
-    (ap (λ (s : State). pushed x (h .result .0) (marked (h .result .0) s)) (state-remembers (a .t) (a .table .now) (a .stack .now) (a .m) (c .before .before .before .before .before .before .before .before .before .before .remember .result) (h .result .0) (a .k .0) (c .before .before .before .before .before .before .before .before .before .before .remember .ensures))
-    ∙ sym (visit-takes x (stateOf (a .t) (a .table .now) (a .stack .now) (a .m)) (a .k .0) (h .result .0) (h .ensures) (head (c .before .before .before .before .before .before .before))))
+    let first = head (c .before .before .before .before .before .before .before .before) in
+    came-to
+    (came-pushed base (a .t) pool (a .table .now) (a .stack .now) (r .result) (h .result .0) (knows-either (entriesIn (a .t) (a .table .now)) (a .m) (r .result) (h .result .0) (a .k .0) (s .pre .0 .1 .1) (h .ensures) (r .ensures)) first
+    (c .before .before .before .before .before .before .set-mark .ensures) (c .before .before .push .ensures))
+    (ap (λ (s : State). pushed x (h .result .0) (marked (h .result .0) s)) (state-remembers (a .t) (a .table .now) (a .stack .now) (a .m) (r .result) (h .result .0) (a .k .0) (r .ensures))
+    ∙ sym (visit-takes x (stateOf (a .t) (a .table .now) (a .stack .now) (a .m)) (a .k .0) (h .result .0) (h .ensures) first))
 
 pub visit-tail-spec : {M : Type 1} → statement M
 visit-tail-spec =
@@ -79,6 +89,7 @@ visit-tail-spec =
     is-head-requires
     same-length
     returns
+    set-mark-requires
     push-requires
     same-length-2
     same-length-3
