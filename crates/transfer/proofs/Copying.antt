@@ -10,6 +10,7 @@ use lib.ListN.{length, take, drop, set, length-append, length-take, length-set, 
 use lib.Seq.{sets, length-sets, ext-getD, take-add, take-all, drop-drop, getD-take, getD-drop, getD-set-same, getD-set-other}
 use lib.Bits.{bitAnd}
 use borrow.Author.Tests.{eq-eqb, ne-eqb}
+use borrow.Rule.Slice.PartMut.{midOf, putMid}
 use Rattle.rules.specs.Words.{bytesOf, wordAt}
 use Rattle.laws.specs.Meaning.{AllBytes}
 use Rattle.rules.specs.Tests.{tabulate}
@@ -21,6 +22,7 @@ use Rattle.laws.proofs.Lists.{length-tabulate, getD-tabulate, sets-append, sets
 use Rattle.laws.proofs.Words.{length-bytesOf, bytesOf-wordAt}
 use Rattle.laws.proofs.Bits.{LowestBit, lowest-gone, lowest-others, lowest-less}
 use Rattle.laws.proofs.Images.{used-split, used-first, used-alike}
+use Rattle.memory.proofs.Parts.{part-length, part-back}
 use Rattle.entries.specs.Groups.{InGroup}
 use Rattle.freeruns.specs.Rows.{Zeros}
 use Rattle.freeruns.proofs.Rows.{first-lt}
@@ -90,6 +92,22 @@ module _ (block : List ℕ) (bytes : AllBytes block) (long : length block ≡ 16
         sets-next part 0 12 (a ++ b ++ c) d (simp (length-append, length-bytesOf) refl),
       )
       (ap (sets part 0) block-words)
+
+-- the part of a block's bytes has 16
+pub cut-length : (xs : List ℕ) (a : ℕ) → a + 16 ≤ length xs → length (midOf a (a + 16 - a) xs) ≡ 16
+cut-length xs a room = part-length xs a (a + 16 - a) (omega arith) ∙ omega arith
+
+-- a part of the source comes back as a part of the target
+pub part-moved : (target source last : List ℕ) (to n from m : ℕ) → to + n ≤ length target → length (midOf from m source) ≡ n → last ≡ midOf from m source
+    → putMid to n target last ≡ sets target to (take m (drop from source))
+part-moved target source last to n from m room long is = rw is (part-back target to n room (midOf from m source) long)
+
+-- of a block
+pub moved : (target source last : List ℕ) (to from : ℕ) → from + 16 ≤ length source → to + 16 ≤ length target → last ≡ midOf from (from + 16 - from) source
+    → putMid to (to + 16 - to) target last ≡ sets target to (take 16 (drop from source))
+moved target source last to from inside room is =
+    let n : from + 16 - from ≡ 16 = omega arith in
+    part-moved target source last to (to + 16 - to) from (from + 16 - from) (omega arith) (cut-length source from inside ∙ omega arith) is ∙ rw n
 
 -- ---- the used ones of 64 blocks
 

@@ -1,8 +1,8 @@
 // The used blocks between a pool and the section of an image that holds them, one after the other. A block is one of the pool's, and where its bytes start there is `Bytes`.
 // A place in an image is a plain number; so is that of a part, which may be of either.
 ghost use mathlib.Core.Path.{_≡_};
-ghost use Prim.Native.Nat.{_+_, _*_, _≤_, _<_, min};
-ghost use lib.ListN.{length, take, drop};
+ghost use Prim.Native.Nat.{_+_, _*_, _%_, _≤_, _<_, min};
+ghost use lib.ListN.{length, drop};
 ghost use lib.Seq.{sets};
 ghost use Rattle.rules.specs.Tables.{used as usedOf};
 ghost use Rattle.rules.specs.Planes.{entriesIn, IsTable};
@@ -15,24 +15,33 @@ use numbers::Bytes;
 // 64 blocks that are all used.
 const ALL: u64 = 18446744073709551615;
 
-// A block's 16 bytes, from `from` on in the source, are copied to `at` in the target. All are read before the first is written: so the compiler moves them at once.
-// They are one part of each, as in crate memory.
-fn copy_block(source: &[u8], from: usize, target: &mut [u8], at: usize)
-    requires { ⌜ (from + 16 ≤ length (now source)) × (at + 16 ≤ length (now target)) ⌝ }
-    ensures { λ _. ⌜ now (target .exit) ≡ sets (now (target .entry)) at (take 16 (drop from (now (source .entry)))) ⌝ }
+// A block's 16 bytes are copied. All are read before the first is written: so the compiler moves them at once. They are one part of the source and of the target,
+// which the caller cuts out: where indices are checked at run time, the compiler then knows both lengths, and the copy has no other check.
+fn copy_block(block: &[u8], to: &mut [u8])
+    requires { ⌜ (length (now block) ≡ 16) × (length (now to) ≡ 16) ⌝ }
+    ensures { λ _. ⌜ now (to .exit) ≡ now (block .entry) ⌝ }
 {
-    let from_end = from + 16;
-    let to_end = at + 16;
-    let block = &source[from..from_end];
     let a = memory::word(block, 0);
     let b = memory::word(block, 1);
     let c = memory::word(block, 2);
     let d = memory::word(block, 3);
-    let to = &mut target[at..to_end];
     memory::set_four_bytes(&mut *to, 0, a);
     memory::set_four_bytes(&mut *to, 4, b);
     memory::set_four_bytes(&mut *to, 8, c);
     memory::set_four_bytes(&mut *to, 12, d);
+}
+
+// Blocks that lie one behind the other are copied.
+fn copy_run(source: &[u8], target: &mut [u8])
+    requires { ⌜ (length (now source) % 16 ≡ 0) × (length (now target) ≡ length (now source)) ⌝ }
+    ensures { λ _. ⌜ now (target .exit) ≡ now (source .entry) ⌝ }
+{
+    let mut at = 0;
+    while at < source.len() {
+        let end = at + 16;
+        copy_block(&source[at..end], &mut target[at..end]);
+        at = end;
+    }
 }
 
 // Of the 64 blocks from block 64 * i on, those that have a bit in `used` are copied, from `at` on. Returns the place behind them. The lowest bit that is left goes with each
@@ -45,9 +54,11 @@ fn copy_group(pool: &[u8], i: usize, used: u64, image: &mut [u8], at: usize) -> 
     let mut to = at;
     while left != 0 {
         let j = freeruns::first(left);
-        let from = Block::first().plus(64 * i + j).offset();
-        copy_block(pool, from.index(), &mut *image, to);
-        to += 16;
+        let from = Block::first().plus(64 * i + j).offset().index();
+        let from_end = from + 16;
+        let to_end = to + 16;
+        copy_block(&pool[from..from_end], &mut image[to..to_end]);
+        to = to_end;
         left = left & (left - 1);
     }
     to
@@ -78,9 +89,11 @@ fn place_group(bytes: &[u8], passed: usize, i: usize, used: u64, pool: &mut [u8]
     let mut next = passed;
     while left != 0 {
         let j = freeruns::first(left);
-        let from = Bytes::of_blocks(next);
-        let to = Block::first().plus(64 * i + j).offset();
-        copy_block(bytes, from.index(), &mut *pool, to.index());
+        let from = Bytes::of_blocks(next).index();
+        let from_end = from + 16;
+        let to = Block::first().plus(64 * i + j).offset().index();
+        let to_end = to + 16;
+        copy_block(&bytes[from..from_end], &mut pool[to..to_end]);
         next += 1;
         left = left & (left - 1);
     }
@@ -121,7 +134,9 @@ fn fill_group(
         let next = passed + 64;
         let from = Bytes::of_blocks(passed).index();
         let to = Bytes::of_blocks(next).index();
-        memory::set_part(&mut *pool, start.index(), &bytes[from..to]);
+        let at = start.index();
+        let at_end = at + 1024;
+        copy_run(&bytes[from..to], &mut pool[at..at_end]);
         return next;
     }
     let end = group_end(entries::blocks(t), i);

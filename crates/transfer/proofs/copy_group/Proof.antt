@@ -2,16 +2,17 @@
 -- Assumes nothing.
 use mathlib.Core.Path.{_≡_}
 use mathlib.Core.List.{List}
-use Prim.Native.Nat.{ℕ, _+_, _*_, _^_, _≤_, _<_}
+use Prim.Native.Nat.{ℕ, _+_, _-_, _*_, _^_, _≤_, _<_}
 use native.Mathlib.Omega.{arith}
 use lib.ListN.{length}
 use lib.Seq.{sets}
 use borrow.Author.Needs.{needs}
+use borrow.Rule.Slice.PartMut.{putMid}
 use Rattle.rules.specs.Images.{blockBytes}
 use Rattle.laws.proofs.Images.{length-block}
 use Rattle.laws.proofs.Widths.{in-32-bits, in-slice}
 use Rattle.transfer.specs.Copying.{Inside, blocksIn}
-use Rattle.transfer.proofs.Copying.{Remains, remains-all, remains-none, remains-room, remains-next, blocks-none, First, first-bit, first-split, first-inside, others-inside}
+use Rattle.transfer.proofs.Copying.{Remains, remains-all, remains-none, remains-room, remains-next, cut-length, moved, blocks-none, First, first-bit, first-split, first-inside, others-inside}
 use Rattle.transfer.proofs.copy_group.Statement.{statement}
 use Rattle.transfer.proofs.copy_group.Tie as tie
 
@@ -57,10 +58,12 @@ block-is c = omega (arith, c .plus .ensures, c .before .first2 .ensures)
 place-is : (c : tie.After-index Inv-loop μ-loop) → let bit = c .before .before .before .before in c .index .result ≡ 16 * (64 * start bit .args .i + bit .first .result)
 place-is c = omega (arith, c .index .ensures, c .before .offset .ensures, block-is (c .before .before))
 
-copied : (c : tie.After-copy-block Inv-loop μ-loop) → let bit = c .before .before .before .before .before .before in let l = bit .before .before .loop in
-    c .copy-block .last .1 .1 .0 ≡ sets (l .image) (l .to) (blockBytes (pool bit) (64 * start bit .args .i + bit .first .result))
+copied : (c : tie.After-copy-block Inv-loop μ-loop) → let bit = c .before .before .before .before .before .before .before in let l = bit .before .before .loop in
+    putMid (l .to) (l .to + 16 - l .to) (l .image) (c .copy-block .last .1 .0) ≡ sets (l .image) (l .to) (blockBytes (pool bit) (64 * start bit .args .i + bit .first .result))
 unfolding blockBytes
-copied c = rw (← place-is (c .before .before)) (c .copy-block .ensures)
+copied c =
+    let bit = c .before .before .before .before .before .before .before in
+    rw (← place-is (c .before .before .before)) (moved (bit .before .before .loop .image) (pool bit) _ (bit .before .before .loop .to) (c .before .before .before .index .result) (omega (arith, place-is (c .before .before .before), inside bit)) (room bit) (c .copy-block .ensures))
 
 first-requires-2 : tie.Need-first-requires-2 Inv-loop μ-loop
 first-requires-2 c κs = search needs
@@ -80,25 +83,46 @@ offset-requires c κs = omega (arith, block-is c, turn (c .before .before) .few)
 index-requires : tie.Need-index-requires Inv-loop μ-loop
 index-requires c κs = search needs
 
+add-from-end : tie.Need-add-from-end Inv-loop μ-loop
+add-from-end c = in-32-bits (record { fits = omega (arith, place-is c, turn (c .before .before .before .before) .few) })
+
+add-to-end : tie.Need-add-to-end Inv-loop μ-loop
+add-to-end c =
+    let bit = c .before .before .before .before in
+    in-slice (start bit .args .image .now) (omega (arith, room bit, bit .before .before .loop .inv .1 .1 .long)) (search needs)
+
+sub-copy-block : tie.Need-sub-copy-block Inv-loop μ-loop
+sub-copy-block c = search needs
+
+part-copy-block-start : tie.Need-part-copy-block-start Inv-loop μ-loop
+part-copy-block-start c = search needs
+
+part-copy-block-end : tie.Need-part-copy-block-end Inv-loop μ-loop
+part-copy-block-end c = omega (arith, place-is c, inside (c .before .before .before .before))
+
+sub-copy-block-2 : tie.Need-sub-copy-block-2 Inv-loop μ-loop
+sub-copy-block-2 c = search needs
+
+part-copy-block-start-2 : tie.Need-part-copy-block-start-2 Inv-loop μ-loop
+part-copy-block-start-2 c = search needs
+
+part-copy-block-end-2 : tie.Need-part-copy-block-end-2 Inv-loop μ-loop
+part-copy-block-end-2 c = room (c .before .before .before .before .before)
+
 copy-block-requires : tie.Need-copy-block-requires Inv-loop μ-loop
 copy-block-requires c κs =
-    let bit = c .before .before .before .before .before in
-    (omega (arith, place-is (c .before), inside bit), room bit)
-
-add-to : tie.Need-add-to Inv-loop μ-loop
-add-to c =
-    let bit = c .before .before .before .before .before .before .before .before in
-    in-slice (start bit .args .image .now) (omega (arith, room bit, bit .before .before .loop .inv .1 .1 .long)) (search needs)
+    let bit = c .before .before .before .before .before .before in
+    (cut-length (pool bit) (c .before .before .index .result) (omega (arith, place-is (c .before .before), inside bit)), cut-length _ _ (room bit))
 
 sub-left : tie.Need-sub-left Inv-loop μ-loop
 sub-left c = search needs
 
 loop-less : tie.Need-loop-less Inv-loop μ-loop
-loop-less c = turn (c .before .before .before .before .before .before .before .before) .less
+loop-less c = turn (c .before .before .before .before .before .before .before .before .before) .less
 
 loop-again : tie.Need-loop-again Inv-loop μ-loop
 loop-again c =
-    let bit = c .before .before .before .before .before .before .before .before in
+    let bit = c .before .before .before .before .before .before .before .before .before in
     let l = bit .before .before .loop in
     let i = start bit .args .i in
     let j = bit .first .result in (
@@ -131,8 +155,15 @@ copy-group-spec =
     plus-requires
     offset-requires
     index-requires
+    add-from-end
+    add-to-end
+    sub-copy-block
+    part-copy-block-start
+    part-copy-block-end
+    sub-copy-block-2
+    part-copy-block-start-2
+    part-copy-block-end-2
     copy-block-requires
-    add-to
     sub-left
     loop-less
     loop-again

@@ -8,6 +8,7 @@ use lib.ListN.{length, take, drop, replicate, length-take, length-drop}
 use lib.Seq.{sets}
 use lib.Bits.{bitOr}
 use borrow.Author.Needs.{needs}
+use borrow.Rule.Slice.PartMut.{midOf}
 use Rattle.rules.specs.Bits.{bitOf}
 use Rattle.rules.specs.Tables.{used}
 use Rattle.rules.specs.Planes.{entriesIn}
@@ -15,7 +16,8 @@ use Rattle.laws.proofs.Bits.{bitOf-or}
 use Rattle.laws.proofs.Planes.{few-entries}
 use Rattle.laws.proofs.Widths.{in-32-bits}
 use Rattle.transfer.specs.Copying.{groupIn}
-use Rattle.transfer.proofs.Copying.{group-inside}
+use Rattle.memory.proofs.Parts.{part-length}
+use Rattle.transfer.proofs.Copying.{part-moved, group-inside}
 use Rattle.transfer.proofs.Placing.{group-used, full-used, full-inside, full-pool, group-pool}
 use Rattle.transfer.proofs.fill_group.Statement.{statement}
 use Rattle.transfer.proofs.fill_group.Tie as tie
@@ -86,12 +88,6 @@ index-requires-2 c κs = search needs
 index-requires-3 : tie.Need-index-requires-3
 index-requires-3 c κs = search needs
 
-sub-set-part : tie.Need-sub-set-part
-sub-set-part c = search needs
-
-part-set-part-start : tie.Need-part-set-part-start
-part-set-part-start c = search needs
-
 -- where all are used
 module _ (c : tie.Then1) where
   abbrev all : tie.After-group
@@ -106,36 +102,63 @@ module _ (c : tie.Then1) where
 -- which part of the bytes they are, and where it is stored
 module _ (c : tie.After-index3) where
   abbrev then : tie.Then1
-  then = c .before .before .before .before .before .before
+  then = c .before .before .before .before .before
 
-  from-is : c .before .before .before .before .index .result ≡ 16 * start (all then) .args .passed
-  from-is = omega (arith, c .before .before .before .before .index .ensures, c .before .before .before .before .before .of-blocks .ensures)
+  from-is : c .before .before .before .index .result ≡ 16 * start (all then) .args .passed
+  from-is = omega (arith, c .before .before .before .index .ensures, c .before .before .before .before .of-blocks .ensures)
 
-  to-is : c .before .before .index2 .result ≡ 16 * start (all then) .args .passed + 1024
-  to-is = omega (arith, c .before .before .index2 .ensures, c .before .before .before .of-blocks2 .ensures)
+  to-is : c .before .index2 .result ≡ 16 * start (all then) .args .passed + 1024
+  to-is = omega (arith, c .before .index2 .ensures, c .before .before .of-blocks2 .ensures)
 
   at-is : c .index3 .result ≡ 1024 * start (all then) .args .i
   at-is = omega (arith, c .index3 .ensures, start-is (then .before))
 
-part-set-part-end : tie.Need-part-set-part-end
-part-set-part-end c = omega (arith, to-is c, sixty-four (then c), start (all (then c)) .pre .1 .1)
+  -- it is 64 blocks
+  part-long : length (midOf (c .before .before .before .index .result) (c .before .index2 .result - c .before .before .before .index .result) (start (all then) .args .bytes .now)) ≡ 1024
+  part-long =
+      let room = start (all then) .pre .1 .1 in
+      part-length (start (all then) .args .bytes .now) (c .before .before .before .index .result) (c .before .index2 .result - c .before .before .before .index .result) (omega (arith, from-is, to-is, sixty-four then, room))
+      ∙ omega (arith, from-is, to-is)
 
-set-part-requires : tie.Need-set-part-requires
-set-part-requires c κs =
-    let o = c .before in
-    let from = o .before .before .before .before .index .result in
-    omega (arith, at-is o, from-is o, to-is o, length-take (o .before .before .index2 .result - from) (drop from (start (all (then o)) .args .bytes .now)), fits (then o))
+  place-long : length (midOf (c .index3 .result) (c .index3 .result + 1024 - c .index3 .result) (start (all then) .args .pool .now)) ≡ 1024
+  place-long = part-length (start (all then) .args .pool .now) (c .index3 .result) (c .index3 .result + 1024 - c .index3 .result) (omega (arith, at-is, fits then)) ∙ omega arith
+
+add-at-end : tie.Need-add-at-end
+add-at-end c = in-32-bits (record { fits = omega (arith, at-is c, few (all (then c))) })
+
+sub-copy-run : tie.Need-sub-copy-run
+sub-copy-run c = search needs
+
+part-copy-run-start : tie.Need-part-copy-run-start
+part-copy-run-start c = search needs
+
+part-copy-run-end : tie.Need-part-copy-run-end
+part-copy-run-end c = omega (arith, to-is c, sixty-four (then c), start (all (then c)) .pre .1 .1)
+
+sub-copy-run-2 : tie.Need-sub-copy-run-2
+sub-copy-run-2 c = search needs
+
+part-copy-run-start-2 : tie.Need-part-copy-run-start-2
+part-copy-run-start-2 c = search needs
+
+part-copy-run-end-2 : tie.Need-part-copy-run-end-2
+part-copy-run-end-2 c = omega (arith, at-is (c .before), fits (then (c .before)))
+
+copy-run-requires : tie.Need-copy-run-requires
+copy-run-requires c κs =
+    let o = c .before .before in
+    (omega (arith, part-long o), place-long o ∙ sym (part-long o))
 
 same-length : tie.Need-same-length
 same-length c = search needs
 
 returns : tie.Need-returns
 returns c =
-    let o = c .before .before .before .before in
+    let o = c .before .before .before .before .before in
     let g = all (then o) in
     let a = start g .args in
-    let count : o .before .before .index2 .result - o .before .before .before .before .index .result ≡ 1024 = omega (arith, from-is o, to-is o) in (
-      c .before .before .set-part .ensures
+    let count : o .before .index2 .result - o .before .before .before .index .result ≡ 1024 = omega (arith, from-is o, to-is o) in (
+      part-moved (a .pool .now) (a .bytes .now) _ (o .index3 .result) (o .index3 .result + 1024 - o .index3 .result) (o .before .before .before .index .result) (o .before .index2 .result - o .before .before .before .index .result) (omega (arith, at-is o, fits (then o))) (part-long o ∙ omega arith) (c .before .before .copy-run .ensures)
           ∙ part-at (a .pool .now) (a .bytes .now) (at-is o) count (from-is o)
           ∙ ap (sets (a .pool .now) (1024 * a .i)) (sym (full-pool (es g) (a .i) _ _ _ (g .group .ensures) (either g) (then o .if1 .taken) (drop (16 * a .passed) (a .bytes .now)))),
       omega (arith, sixty-four (then o)),
@@ -219,10 +242,14 @@ fill-group-spec =
     of-blocks-requires-2
     index-requires-2
     index-requires-3
-    sub-set-part
-    part-set-part-start
-    part-set-part-end
-    set-part-requires
+    add-at-end
+    sub-copy-run
+    part-copy-run-start
+    part-copy-run-end
+    sub-copy-run-2
+    part-copy-run-start-2
+    part-copy-run-end-2
+    copy-run-requires
     same-length
     returns
     blocks-requires
