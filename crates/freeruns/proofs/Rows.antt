@@ -202,6 +202,28 @@ none-longer bits n r h starts z count j row = go (decLt n count)
         absurd (omega (arith, ap (λ (x : ℕ). bitOf x j) z, e, bitOf-zero j))
     go (no l) = omega arith
 
+-- where no row of four bits starts, none is longer than three
+pub no-four : (bits : ℕ) → bitAnd (bitAnd bits (bits / 2 ^ 1)) (bitAnd bits (bits / 2 ^ 1) / 2 ^ 2) ≡ 0 → (count j : ℕ) → Row bits count j → count ≤ 3
+no-four bits z count j row = go (decLt 3 count)
+  where
+    pairs : ℕ
+    pairs = bitAnd bits (bits / 2 ^ 1)
+
+    at : (d : ℕ) → d < count → bitOf bits (d + j) ≡ 1
+    at d l = let e : j + d ≡ d + j = omega arith in rw e at (row d l)
+
+    pair : (k : ℕ) → bitOf bits k ≡ 1 → bitOf bits (1 + k) ≡ 1 → bitOf pairs k ≡ 1
+    pair k a b = omega (arith, bitOf-and bits (bits / 2 ^ 1) k, bitOf-shr bits 1 k, a, b)
+
+    go : Dec (3 < count) → count ≤ 3
+    go (no l) = omega arith
+    go (yes l) =
+        let e : 0 + j ≡ j = omega arith in
+        let f : 1 + (2 + j) ≡ 3 + j = omega arith in
+        let first : bitOf pairs j ≡ 1 = pair j (rw e at (at 0 (omega arith))) (at 1 (omega arith)) in
+        let second : bitOf pairs (2 + j) ≡ 1 = pair (2 + j) (at 2 (omega arith)) (rw f (at 3 (omega arith))) in
+        absurd (omega (arith, bitOf-and pairs (pairs / 2 ^ 2) j, bitOf-shr pairs 2 j, first, second, ap (λ (x : ℕ). bitOf x j) z, bitOf-zero j))
+
 -- ---- the whole row from a bit on
 
 module _ (bits j : ℕ) (small : bits < 2 ^ 32) (few : j < 32) where

@@ -1,10 +1,10 @@
 -- Reading the table 32 blocks at a time: what is known of its runs at one place is known at the next, and at the end it is all.
 -- Assumes nothing.
-use mathlib.Core.Path.{_≡_, _∙_}
-use mathlib.Core.Logic.{_≢_, _⊎_, ⊎-elim}
+use mathlib.Core.Path.{_≡_, refl, ap, _∙_}
+use mathlib.Core.Logic.{_≢_, _⊎_, inl, ⊎-elim}
 use mathlib.Core.List.{List}
 use Prim.Native.Nat.{ℕ, suc, _+_, _-_, _*_, _^_, _≤_, _<_}
-use native.Mathlib.Decide.{decLt}
+use native.Mathlib.Decide.{ℕ-discrete, decLt}
 use native.Mathlib.Omega.{arith}
 use lib.ListN.{length, getD}
 use Rattle.rules.specs.Bits.{bitOf}
@@ -15,7 +15,7 @@ use Rattle.laws.proofs.Tables.{run-shorter}
 use Rattle.freeruns.specs.Rows.{FreeIn, ZerosOf, ZerosAbove, LongestRow}
 use Rattle.freeruns.specs.Scans.{Scanned}
 use Rattle.freeruns.proofs.Rows.{ALL, first-of}
-use Rattle.freeruns.proofs.Frees.{free-run, run-free, bit-free, free-bit, row-run, run-row}
+use Rattle.freeruns.proofs.Frees.{inside, free-run, run-free, bit-free, free-bit, row-run, run-row}
 
 -- ---- 32 blocks more
 
@@ -150,3 +150,20 @@ scan-end es p longest ending r past known more reach one-of = go (decLt longest 
     go : Dec (longest < r) → Longest es r
     go (yes l) = with-run (p - ending) (last l)
     go (no l) = with-run (known .start) (run-shorter es longest r (known .start) (omega arith) (known .run))
+
+-- where fewer than 32 blocks are left, the last run ends in them or before
+module _ (es : List ℕ) (i bits : ℕ) (small : bits < 2 ^ 32) (holds : FreeIn es i bits) (few : length es < 32 * i + 32) where
+  last-used : bitOf (ALL - bits) 31 ≡ 1
+  last-used = go (ℕ-discrete (bitOf bits 31) 1)
+    where
+      go : Dec (bitOf bits 31 ≡ 1) → bitOf (ALL - bits) 31 ≡ 1
+      go (yes e) = absurd (omega (arith, inside es (32 * i + 31) (bit-free es i bits holds 31 (omega arith) e)))
+      go (no e) = omega (arith, e, used-bit es i bits small holds 31 (omega arith), bitOf-lt bits 31)
+
+  pub scan-rest : (longest ending front best r : ℕ) → Scanned es (32 * i) longest ending → ZerosOf 32 (ALL - bits) front → LongestRow bits best r → longest ≤ best → ending + front ≤ best
+      → (best ≡ longest) ⊎ (best ≡ ending + front) → Longest es r
+  scan-rest longest ending front best r known at-front row least stopped one-of =
+      scan-end es (32 * suc i) r 0 r (omega arith)
+      (some-used es i bits small holds longest ending known (λ z. omega (arith, last-used, ap (λ (x : ℕ). bitOf x 31) z, bitOf-zero 31)) front 0 best at-front
+      (record { few = omega arith; above = λ j l. absurd (omega arith); next = λ _. last-used }) r row least stopped one-of)
+      (omega arith) (omega arith) (inl refl)

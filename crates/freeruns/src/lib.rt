@@ -103,7 +103,7 @@ fn row_from(bits: u32, j: usize) -> usize
 }
 
 // The length of the longest row of bits, or n if none is longer.
-fn longest_row(bits: u32, n: usize) -> usize
+fn longer_row(bits: u32, n: usize) -> usize
     ensures { λ r. ⌜ LongestRow bits n r ⌝ }
 {
     let mut best = n;
@@ -115,6 +115,19 @@ fn longest_row(bits: u32, n: usize) -> usize
         best = row_from(bits, first_of_32(found));
     }
     best
+}
+
+// The same. Most words have no row of four bits, and once there was a run of three that says enough.
+fn longest_row(bits: u32, n: usize) -> usize
+    ensures { λ r. ⌜ LongestRow bits n r ⌝ }
+{
+    let pairs = bits & (bits >> 1);
+    if pairs & (pairs >> 2) == 0 {
+        if 3 <= n {
+            return n;
+        }
+    }
+    longer_row(bits, n)
 }
 
 // A run of `longest` blocks was read, and none is longer but maybe the one at the end, which has `ending` blocks so far.
@@ -153,20 +166,30 @@ fn read_on(before: Scan, free: u32) -> Scan
     }
 }
 
-// The longest run of FREE blocks.
+// The longest run of FREE blocks. Behind the whole words there are fewer than 32 blocks, so that the last run ends in them.
 pub fn longest(t: usize, table: &[u8]) -> usize
     requires { ⌜ IsTable t (now table) ⌝ }
     ensures { λ r. ⌜ r ≡ longestOf (entriesIn t (now (table .entry))) ⌝ }
 {
-    let n = entries::blocks(t);
+    let half = entries::plane_bytes(t);
+    let lows = &table[0..half];
+    let highs = &table[half..2 * half];
+    let whole = entries::blocks(t) / 32;
     let mut read = Scan {
         longest: 0,
         ending: 0,
     };
     let mut i = 0;
-    while 32 * i < n {
-        read = read_on(read, free_bits(t, table, i));
+    while i < whole {
+        read = read_on(
+            read,
+            !(entries::word_at(lows, i) | entries::word_at(highs, i)),
+        );
         i += 1;
     }
-    greatest(read.longest, read.ending)
+    let rest = free_or_end(t, table, i);
+    longest_row(
+        rest,
+        greatest(read.longest, read.ending + first_of_32(!rest)),
+    )
 }
