@@ -8,7 +8,7 @@ use lib.Dec.{eqb}
 use Rattle.rules.specs.Tests.{pick}
 use Rattle.rules.specs.Bits.{bitOf}
 use Rattle.rules.specs.Entries.{FREE}
-use Rattle.rules.specs.Tables.{entryAt, isUsed, mayFollow, wellFormed}
+use Rattle.rules.specs.Tables.{entryAt, isUsed, mayFollow}
 use Rattle.entries.specs.Groups.{lane, InPlanes}
 
 -- the entry before entry j; the one before the first is p

@@ -11,7 +11,7 @@ use lib.ListN.{length}
 use borrow.Author.Needs.{needs}
 use borrow.Rule.Slice.PartMut.{midOf}
 use Rattle.rules.specs.Tables.{isUsed, isHead}
-use Rattle.rules.specs.Planes.{planeBytes, entriesIn}
+use Rattle.rules.specs.Planes.{entriesIn}
 use Rattle.laws.proofs.Planes.{length-entriesIn, room-entries}
 use Rattle.laws.proofs.Widths.{in-32-bits, as-u32}
 use Rattle.entries.specs.Groups.{InLanes, InPlanes}

@@ -1,13 +1,12 @@
 -- `well_formed`: the entries are tested from the front on, eight bytes of each plane at a time and then single ones.
 -- Assumes nothing.
 use mathlib.Core.Path.{_≡_}
-use mathlib.Core.List.{List}
-use Prim.Native.Nat.{ℕ, _+_, _-_, _*_, _/_, _≤_}
+use Prim.Native.Nat.{_+_, _-_, _*_, _/_, _≤_}
 use native.Mathlib.Omega.{arith}
 use lib.ListN.{length}
 use borrow.Author.Needs.{needs}
 use borrow.Rule.Slice.PartMut.{midOf}
-use Rattle.rules.specs.Planes.{planeBytes, entriesIn}
+use Rattle.rules.specs.Planes.{entriesIn}
 use Rattle.laws.proofs.Planes.{length-entriesIn, room-entries}
 use Rattle.laws.proofs.Widths.{in-32-bits}
 use Rattle.entries.specs.Groups.{InPlanes}
