@@ -30,7 +30,8 @@ Allowed es k = mayFollow (entryAt (FREE ∷ es) k) (entryAt es k) ≡ true
 abbrev pub usedBefore : List ℕ → ℕ → ℕ
 usedBefore es k = pick (isUsed (entryAt (FREE ∷ es) k)) 1 0
 
--- The n entries from block b on are tested: nothing is found if each of them is allowed, and only then
+-- The n entries from block b on are tested: if nothing is found, each of them is allowed; if every entry of the table is allowed, nothing is found. `before` says whether the
+-- last of them is used.
 pub record TestedFrom (es : List ℕ) (b n bad before : ℕ) : Type 0 where
   pub sound : bad ≡ 0 → (k : ℕ) → b ≤ k → k < b + n → Allowed es k
   pub full : ((k : ℕ) → Allowed es k) → bad ≡ 0

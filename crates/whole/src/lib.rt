@@ -1,5 +1,5 @@
 // The whole table at once: words of both planes, each of 32 blocks, and single bytes at the end, with no early exit. Beside `entries` and
-// `packing` only this crate knows how entries lie in bytes.
+// `packing` only this crate knows where an entry's bits lie.
 ghost use mathlib.Core.Path.{_≡_};
 ghost use Prim.Native.Nat.{_+_, _*_, _≤_, _<_};
 ghost use lib.ListN.{length};
@@ -112,9 +112,10 @@ pub fn count(t: usize, table: &[u8]) -> Counts
     let mut heads: u32 = 0;
     let mut i = 0;
     while i < words {
-        let w = entries::words_at(lows, highs, i);
-        used += u32::count_ones(w.low | w.high);
-        heads += u32::count_ones(w.low & !w.high);
+        let low = entries::word_at(lows, i);
+        let high = entries::word_at(highs, i);
+        used += u32::count_ones(low | high);
+        heads += u32::count_ones(low & !high);
         i += 1;
     }
     let w = entries::last_words(lows, highs, words);

@@ -15,7 +15,7 @@ use Rattle.rules.specs.Planes.{entriesIn}
 use Rattle.laws.proofs.Planes.{length-entriesIn, room-entries}
 use Rattle.laws.proofs.Widths.{in-32-bits, as-u32}
 use Rattle.entries.specs.Groups.{InLanes, InPlanes}
-use Rattle.entries.proofs.Cut.{in-planes, plane-lengths}
+use Rattle.entries.proofs.Cut.{in-planes, plane-lengths, in-words}
 use Rattle.whole.proofs.Ones.{upTo, few, used-turn, heads-turn, used-end, heads-end}
 use Rattle.whole.proofs.count.Statement.{statement}
 use Rattle.whole.proofs.count.Tie as tie
@@ -74,51 +74,54 @@ loop-holds c =
     let es = entriesIn (a .t) (a .table .now) in
     (omega arith, omega (arith, few isUsed es 0), omega (arith, few isHead es 0))
 
-words-at-requires : tie.Need-words-at-requires Inv-loop μ-loop
-words-at-requires c κs =
-    let long = lengths (c .before .before .before .before) in
-    (omega (arith, long .0), omega (arith, long .1))
+word-at-requires : tie.Need-word-at-requires Inv-loop μ-loop
+word-at-requires c κs = omega (arith, lengths (c .before .before .before .before) .0)
+
+word-at-requires-2 : tie.Need-word-at-requires-2 Inv-loop μ-loop
+word-at-requires-2 c κs = omega (arith, lengths (c .before .before .before .before .before) .1)
 
 -- the counts after the turn
-module _ (c : tie.After-struct-known Inv-loop μ-loop) where
+module _ (c : tie.After-word-at2 Inv-loop μ-loop) where
+  abbrev l : tie.At-loop Inv-loop μ-loop
+  l = c .before .before .before
+
   abbrev es : List ℕ
   es =
-      let a = c .before .before .before .before .before .before .before .before .args in
+      let a = l .before .before .before .before .before .args in
       entriesIn (a .t) (a .table .now)
 
   abbrev low : ℕ
-  low = c .before .words-at .result .low
+  low = c .before .word-at .result
 
   abbrev high : ℕ
-  high = c .before .words-at .result .high
+  high = c .word-at2 .result
 
-  used-after : c .before .before .before .loop .used + ones (bitOr low high) ≡ upTo isUsed es (c .before .before .before .loop .i + 1)
-  used-after =
-      let l = c .before .before .before .loop in
-      used-turn es (l .i) (l .used) low high (search needs) (search needs) (c .before .words-at .ensures es (planes (c .before .before .before .before .before .before))) (l .inv .1)
+  read : InLanes 32 es (l .loop .i) low high
+  read = in-words _ _ (l .loop .i) low high (c .before .word-at .ensures) (c .word-at2 .ensures) es (planes (l .before .before .before))
 
-  heads-after : c .before .before .before .loop .heads + ones (bitAnd low (4294967295 - high)) ≡ upTo isHead es (c .before .before .before .loop .i + 1)
-  heads-after =
-      let l = c .before .before .before .loop in
-      heads-turn es (l .i) (l .heads) low high (search needs) (search needs) (c .before .words-at .ensures es (planes (c .before .before .before .before .before .before))) (l .inv .2)
+  used-after : l .loop .used + ones (bitOr low high) ≡ upTo isUsed es (l .loop .i + 1)
+  used-after = used-turn es (l .loop .i) (l .loop .used) low high (search needs) (search needs) read (l .loop .inv .1)
 
-  small : (f : ℕ → Bool) → upTo f es (c .before .before .before .loop .i + 1) ≤ 4100
-  small f = omega (arith, few f es (c .before .before .before .loop .i + 1), short (c .before .before .before .before .before .before))
+  heads-after : l .loop .heads + ones (bitAnd low (4294967295 - high)) ≡ upTo isHead es (l .loop .i + 1)
+  heads-after = heads-turn es (l .loop .i) (l .loop .heads) low high (search needs) (search needs) read (l .loop .inv .2)
+
+  small : (f : ℕ → Bool) → upTo f es (l .loop .i + 1) ≤ 4100
+  small f = omega (arith, few f es (l .loop .i + 1), short (l .before .before .before))
 
 add-used : tie.Need-add-used Inv-loop μ-loop
 add-used c = as-u32 (record { fits = omega (arith, used-after c, small c isUsed) })
 
 add-heads : tie.Need-add-heads Inv-loop μ-loop
-add-heads c = as-u32 (record { fits = omega (arith, heads-after (c .before .before), small (c .before .before) isHead) })
+add-heads c = as-u32 (record { fits = omega (arith, heads-after c, small c isHead) })
 
 add-i : tie.Need-add-i Inv-loop μ-loop
-add-i c = in-32-bits (record { fits = omega (arith, short (c .before .before .before .before .before .before .before .before)) })
+add-i c = in-32-bits (record { fits = omega (arith, short (l c .before .before .before)) })
 
 loop-less : tie.Need-loop-less Inv-loop μ-loop
 loop-less c = search needs
 
 loop-again : tie.Need-loop-again Inv-loop μ-loop
-loop-again c = (omega arith, used-after (c .before .before), heads-after (c .before .before))
+loop-again c = (omega arith, used-after c, heads-after c)
 
 last-words-requires : tie.Need-last-words-requires Inv-loop μ-loop
 last-words-requires c κs =
@@ -126,7 +129,7 @@ last-words-requires c κs =
     (omega (arith, long .0), (omega (arith, long .0), omega (arith, long .0, long .1)))
 
 -- the counts at the end
-module _ (c : tie.After-struct-known4 Inv-loop μ-loop) where
+module _ (c : tie.After-struct-known Inv-loop μ-loop) where
   abbrev all : List ℕ
   all =
       let a = c .before .before .before .before .before .before .before .before .args in
@@ -165,11 +168,11 @@ add-used-2 c = as-u32 (record { fits = omega (arith, used-last c, few-read c isU
 add-heads-2 : tie.Need-add-heads-2 Inv-loop μ-loop
 add-heads-2 c = as-u32 (record { fits = omega (arith, heads-last (c .before .before), few-read (c .before .before) isHead) })
 
-cast-t13 : tie.Need-cast-t13 Inv-loop μ-loop
-cast-t13 c = record { fits = omega (arith, used-last (c .before .before), few-read (c .before .before) isUsed) }
+cast-t14 : tie.Need-cast-t14 Inv-loop μ-loop
+cast-t14 c = record { fits = omega (arith, used-last (c .before .before), few-read (c .before .before) isUsed) }
 
-cast-t16 : tie.Need-cast-t16 Inv-loop μ-loop
-cast-t16 c = record { fits = omega (arith, heads-last (c .before .before), few-read (c .before .before) isHead) }
+cast-t17 : tie.Need-cast-t17 Inv-loop μ-loop
+cast-t17 c = record { fits = omega (arith, heads-last (c .before .before), few-read (c .before .before) isHead) }
 
 returns : tie.Need-returns Inv-loop μ-loop
 returns c =
@@ -191,7 +194,8 @@ count-spec =
     part-highs-start
     part-highs-end
     loop-holds
-    words-at-requires
+    word-at-requires
+    word-at-requires-2
     add-used
     add-heads
     add-i
@@ -200,6 +204,6 @@ count-spec =
     last-words-requires
     add-used-2
     add-heads-2
-    cast-t13
-    cast-t16
+    cast-t14
+    cast-t17
     returns)
