@@ -6,21 +6,17 @@ use Prim.Native.Nat.{ℕ, _+_, _*_, _<_}
 use lib.Dec.{leb, ltb}
 use Rattle.rules.specs.Tests.{pick, both}
 use Rattle.rules.specs.Bits.{bitOf, bitAt}
-use Rattle.rules.specs.Tables.{entryAt, isFree}
+use Rattle.rules.specs.Tables.{entryAt}
 
 -- `bits` has the bits of byte i of a plane that are of the blocks from a to before b, and no other
 abbrev pub Span : ℕ → ℕ → ℕ → ℕ → Type 0
 Span i a b bits = (j : ℕ) → j < 8 → bitOf bits j ≡ pick (both (leb a (8 * i + j)) (ltb (8 * i + j) b)) 1 0
 
--- `bits` has a bit for each of the eight blocks from block 8 * i on that is FREE, as every block past the end of the table counts
-abbrev pub FreeByte : List ℕ → ℕ → ℕ → Type 0
-FreeByte es i bits = (j : ℕ) → j < 8 → bitOf bits j ≡ pick (isFree (entryAt es (8 * i + j))) 1 0
-
 -- entry j of two numbers that hold entries: the low bit of each in one, its high bit in the other
 abbrev pub lane : ℕ → ℕ → ℕ → ℕ
 lane low high j = bitOf low j + 2 * bitOf high j
 
--- they hold the n entries from block n * i on
+-- the two numbers hold the n entries from block n * i on
 abbrev pub InLanes : ℕ → List ℕ → ℕ → ℕ → ℕ → Type 0
 InLanes n es i low high = (j : ℕ) → j < n → entryAt es (n * i + j) ≡ lane low high j
 

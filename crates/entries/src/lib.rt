@@ -1,5 +1,5 @@
 // The allocation table: two bit planes for 4t blocks, the low bits of all entries and then their high bits, eight blocks to a byte.
-// Only this crate, `whole` and `packing` know where an entry's bits lie.
+// Only this crate, `whole` and `packing` know where an entry's bits lie; `freeruns` and `search` also know that the table is two planes, one behind the other.
 ghost use mathlib.Core.Path.{_≡_};
 ghost use mathlib.Core.Bool.{true};
 ghost use mathlib.Core.List.{List};
@@ -13,7 +13,7 @@ ghost use Rattle.rules.specs.Entries.{HEAD as head, MARK as mark};
 ghost use Rattle.rules.specs.Tables.{entryAt, isHead, isTail, wellFormed, blockCount};
 ghost use Rattle.rules.specs.Planes.{planeBytes, entriesIn, Sized, IsTable, Holds};
 ghost use Rattle.memory.specs.Bits.{BitsFrom};
-ghost use Rattle.entries.specs.Groups.{Span, FreeByte, InGroup, InWords};
+ghost use Rattle.entries.specs.Groups.{Span, InGroup, InWords};
 ghost use Rattle.entries.specs.Marking.{MarksHead};
 use numbers::Block;
 
@@ -196,14 +196,6 @@ pub fn clear(table: &mut [u8])
     memory::clear(table);
 }
 
-// A bit for each block of byte i of the planes that is FREE. Past the end of the table each is.
-pub fn free_byte(t: usize, table: &[u8], i: usize) -> u8
-    requires { ⌜ IsTable t (now table) × (i < planeBytes t) ⌝ }
-    ensures { λ r. ⌜ FreeByte (entriesIn t (now (table .entry))) i r ⌝ }
-{
-    !(table[i] | table[plane_bytes(t) + i])
-}
-
 // The entries of 64 blocks: a bit of each in two numbers, that of the first block the lowest.
 pub struct Lanes {
     pub low: u64,
@@ -257,7 +249,7 @@ pub fn last_words(lows: &[u8], highs: &[u8], i: usize) -> Words
     }
 }
 
-// The bits of word i of a plane. Where indices are checked at run time, a reader of one plane is short enough to be a part of every loop that calls it.
+// The bits of the 32 blocks from block 32 * i on, of one plane. It reads one plane only, so that the compiler puts it into the loops that call it.
 pub fn word_at(plane: &[u8], i: usize) -> u32
     requires { ⌜ 4 * i + 4 ≤ length (now plane) ⌝ }
     ensures { λ r. ⌜ BitsFrom (now (plane .entry)) (4 * i) 4 r ⌝ }
@@ -272,8 +264,8 @@ pub enum Met {
     Other,
 }
 
-// Block k becomes MARK if it is a HEAD; there may be no such block. The last byte of its high bit is looked for first: where it is in the table, so is the
-// other. A HEAD and a TAIL have one bit of the two.
+// Block k becomes MARK if it is a HEAD; there may be no such block. One test of the place of its high bit is enough: if that is in the table, so is its low
+// bit. A HEAD and a TAIL have one bit of the two.
 pub fn mark_head(t: usize, table: &mut [u8], k: Block) -> Met
     requires { ⌜ IsTable t (now table) × (k .0 < 2 ^ 32) ⌝ }
     ensures { λ r. ⌜ MarksHead t (entriesIn t (now (table .entry))) (k .0) (now (table .exit)) r ⌝ }

@@ -46,7 +46,7 @@ fn words(t: usize, table: &[u8], i: usize) -> Words
 }
 
 // A bit for each of the 32 blocks from block 32 * i on that is FREE. Past the end of the table there is none.
-pub fn free_bits(t: usize, table: &[u8], i: usize) -> u32
+fn free_bits(t: usize, table: &[u8], i: usize) -> u32
     requires { ⌜ IsTable t (now table) × (32 * i < length (entriesIn t (now table))) ⌝ }
     ensures { λ r. ⌜ FreeIn (entriesIn t (now (table .entry))) i r ⌝ }
 {
