@@ -137,7 +137,7 @@ pub file-examples-hold : map (λ (x : FileExample). x .is) fileExamples ≡ map 
 unfolding fileExamples count tabulate bitOf bitAt byteOf number firstTwo wordAt entryOf entriesOf planeBytes entryIn entriesIn spare spareFree plane planesOf mayFollow wellAfter wellFormed used addressOf goodBase unlessRefused firstOf goodShape sectionIn sectionTests fileOf fileTests faultOf poolOf goodTarget openImage step orRefused perform
 file-examples-hold = refl
 
--- The 33 bytes open for a root list of more than 4,096 entries too, whatever it holds.
+-- The 33 bytes open for a root list of more than 4,096 entries too, whatever it holds behind the first.
 abbrev pub LongList : Type 0
 LongList =
     (rest : List ℕ) → length rest ≡ 16384

@@ -83,7 +83,7 @@ imageExamples =
     ∷ writes middle (sevens 54) ((1 ∷ 0 ∷ 0 ∷ 16 ∷ 0 ∷ 0 ∷ 1 ∷ 0 ∷ 36 ∷ 2 ∷ 0 ∷ []) ++ fives 16 ++ zeros 16 ++ (2 ∷ 0 ∷ 239 ∷ 190 ∷ 173 ∷ 222 ∷ 5 ∷ 0 ∷ 0 ∷ 0 ∷ [])) (sevens 1)
     ∷ writes odd (zeros 191) ((1 ∷ 0 ∷ 16 ∷ 0 ∷ 0 ∷ 32 ∷ 3 ∷ 0 ∷ 101 ∷ 100 ∷ 165 ∷ 11 ∷ 0 ∷ []) ++ fives 176 ++ (0 ∷ 0 ∷ [])) []
     ∷ writes rooted (zeros 1041) ((1 ∷ 0 ∷ 0 ∷ 16 ∷ 0 ∷ 0 ∷ 1 ∷ 0 ∷ 0 ∷ 0 ∷ 0 ∷ 1 ∷ 1 ∷ []) ++ fives 1028) []
-    -- roots that are not whole words are 1, before a spare bit, which is 2; and these before a short buffer
+    -- roots that are not whole words are 1, before a spare bit and before a short buffer
     ∷ refuses (record { t = 1; base = 4096; memory = memory (zeros 64) (16 ∷ 0 ∷ []); roots = sevens 5 }) (sevens 8) 1
     ∷ []
 
@@ -97,7 +97,7 @@ pub image-examples-hold : map (λ (x : ImageExample). x .is) imageExamples ≡ m
 unfolding imageExamples count tabulate bitOf bitAt byteOf bytesOf twoBytesOf tableOf planeBytes entryIn entriesIn spare spareFree plane planesOf mayFollow wellAfter wellFormed used addressOf goodBase unlessRefused firstOf goodShape wholeWords section sections blockBytes usedFrom imageOf writeImage step orRefused perform
 image-examples-hold = refl
 
--- a heap with this low plane, and roots that are one word too many
+-- a heap with this low plane, and these roots
 abbrev pub manyRooted : ℕ → List ℕ → Source
 manyRooted low roots = record { t = 1; base = 4096; memory = memory (zeros 64) (low ∷ 0 ∷ []); roots = roots }
 

@@ -47,14 +47,14 @@ pub limits-hold : map (λ (x : Example). x .is) limits ≡ map (λ (x : Example)
 unfolding limits count leading number wordAt entryOf entriesOf tableOf mayFollow wellAfter wellFormed blockCount freeFrom aligned fits firstFrom firstFit used objects longest addressOf goodBase unlessRefused firstOf goodShape blocksFor allocate reallocate survey load
 limits-hold = refl
 
--- ---- by which number a call is refused. Only lengths count, so these are said of all lists that have them
+-- ---- by which number a call is refused. Of lists only the lengths count, of a table also that it is well-formed: so these are said of all that are so
 
--- a collection with so many bytes of roots and of mark stack
+-- a collection at base 4,096 with so many bytes of roots and of mark stack
 abbrev pub Collection : ℕ → ℕ → ℕ → Type 0
 Collection r s refusal =
     (roots stack : List ℕ) → length roots ≡ r → length stack ≡ s → firstOf (collectionTests 4096 (small 1 0) roots stack) ≡ refusal
 
--- a call on a well-formed heap of so many blocks
+-- a call at base 4,096 on a well-formed heap of so many blocks
 abbrev pub Blocks : ℕ → ℕ → Type 0
 Blocks n refusal =
     (h : Heap) → length (h .entries) ≡ n → length (h .pool) ≡ 16 * n → wellFormed (h .entries) ≡ true → firstOf (heapTests 4096 h) ≡ refusal

@@ -5,7 +5,7 @@ use mathlib.Core.List.{List, [], _∷_}
 use mathlib.Core.Option.{Option, some, none}
 use Prim.Native.Nat.{ℕ, zero, suc}
 
--- The first value if the test holds, else the second. Both are computed: a definition that went on in each would take twice as long for each element
+-- The first value if the test holds, else the second. Both are computed: a definition that calls itself in each takes twice as long with each element
 abbrev pub pick : {A : Type 0} → Bool → A → A → A
 pick true a b = a
 pick false a b = b

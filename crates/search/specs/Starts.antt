@@ -18,7 +18,7 @@ NoStart es b s e = (q : ℕ) → s ≤ q → q < e → Fits es b q → ⊥
 abbrev pub AllSet : ℕ → ℕ → ℕ → ℕ → Type 0
 AllSet free next b j = (d : ℕ) → d < b → j + d < 64 → bitOf (free + 2 ^ 32 * next) (j + d) ≡ 1
 
--- they are from no bit on at which b blocks are aligned
+-- at none of the first 32 bits at which b blocks are aligned are they all set
 abbrev pub NoneSet : ℕ → ℕ → ℕ → Type 0
 NoneSet free next b = (j : ℕ) → j < 32 → Aligned b j → AllSet free next b j → ⊥
 
