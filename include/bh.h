@@ -617,11 +617,11 @@ static inline const char *bh_refusal_text(uint32_t refusal)
     switch (refusal) {
     case BLOCKHEAP_OK: return "the call was accepted";
     case BLOCKHEAP_BAD_SHAPE: return "the base, t or a length breaks the rules";
-    case BLOCKHEAP_BAD_TABLE: return "the table is damaged";
+    case BLOCKHEAP_BAD_TABLE: return "the table has a mark, a tail at block 0 or after a free block, or a spare bit that is 1";
     case BLOCKHEAP_TOO_MANY_ROOTS: return "there are more than 4,096 root words, a log's first address among them";
     case BLOCKHEAP_STACK_TOO_LONG: return "the mark stack has more than 64 entries";
     case BLOCKHEAP_ZERO_BYTES: return "the request is for 0 bytes";
-    case BLOCKHEAP_NO_SUCH_BLOCK: return "the block number lies outside the pool";
+    case BLOCKHEAP_NO_SUCH_BLOCK: return "there is no such block";
     case BLOCKHEAP_NOT_A_HEAD: return "the block is not the head of an object";
     case BLOCKHEAP_NO_SUCH_WORD: return "the word lies outside the object";
     case BLOCKHEAP_NO_ROOM: return "no aligned run of free blocks is long enough";

@@ -100,8 +100,8 @@ impl Refusal {
                 (3, "there are more than 4,096 root words, a log's first address among them")
             }
             Refusal::StackTooLong => (4, "the mark stack has more than 64 entries"),
-            Refusal::ZeroBytes => (5, "a request must be for at least one byte"),
-            Refusal::NoSuchBlock => (6, "the block number lies outside the pool"),
+            Refusal::ZeroBytes => (5, "the request is for 0 bytes"),
+            Refusal::NoSuchBlock => (6, "there is no such block"),
             Refusal::NotAHead => (7, "the block is not the head of an object"),
             Refusal::NoSuchWord => (8, "the word lies outside the object"),
             Refusal::NoRoom => (9, "no aligned run of free blocks is long enough"),

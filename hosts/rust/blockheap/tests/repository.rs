@@ -83,6 +83,18 @@ fn the_refusals_are_the_headers() {
 }
 
 #[test]
+fn the_refusals_are_told_in_the_words_of_the_header() {
+    for refusal in blockheap::Refusal::ALL {
+        let said = refusal.to_string();
+        let reason = said.strip_prefix(&format!("refused ({}): ", refusal.number()));
+        let reason = reason.expect("the number, and then the reason");
+        let case = format!("case BLOCKHEAP_{}: return \"{reason}\";", name_of(refusal));
+        let rule = matches!(refusal, blockheap::Refusal::BadShape(_)); // told by bh_shape_fault
+        assert_eq!(HELPERS.contains(&case), !rule, "{said}");
+    }
+}
+
+#[test]
 fn the_rules_of_a_shape_are_told_in_the_words_of_the_header() {
     use blockheap::{Refusal, ShapeFault};
     for refusal in Refusal::ALL {
