@@ -158,6 +158,8 @@ static inline const char *bh_shape_fault(const struct blockheap *heap, size_t ro
         return "the pool's length is not 64 * t";
     if (heap->table_len != BLOCKHEAP_TABLE_BYTES_OF_T(t))
         return "the table's length is not t, rounded up to an even number";
+    if (heap->base == BH_HERE && base >= BH_ADDRESSES_END)
+        return "the base is 0, which stands for the pool's own address, and that has more than 32 bits";
     if (base < BLOCKHEAP_MIN_BASE)
         return "the base is below 16";
     if (base % BLOCKHEAP_BLOCK_BYTES != 0)

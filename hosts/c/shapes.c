@@ -83,6 +83,21 @@ static void compare_lists(void)
     }
 }
 
+/* A heap at its pool's own address, which has more than 32 bits on a host of 64, and is no multiple of 16. */
+static struct blockheap shape_here(void)
+{
+    struct blockheap shape = shape_of(BH_HERE, 16, 1024, 16);
+    shape.pool = (uint8_t *)UINTPTR_MAX;
+    return shape;
+}
+
+/* It is refused, and so nothing touches that address. */
+static void compare_here(void)
+{
+    struct blockheap here = shape_here();
+    compare_calls(&here);
+}
+
 static void say(struct blockheap shape, size_t roots_len, size_t stack_len)
 {
     const char *fault = bh_shape_fault(&shape, roots_len, stack_len);
@@ -97,6 +112,7 @@ static void say_faults(void)
     say(shape_of(4096, 0, 131072, 2048), 0, 0);
     say(shape_of(4096, 16, 1000, 16), 0, 0);
     say(shape_of(4096, 3, 192, 3), 0, 0);
+    say(shape_here(), 0, 0);
     say(shape_of(5, 16, 1024, 16), 0, 0);
     say(shape_of(4100, 16, 1024, 16), 0, 0);
     say(shape_of(0xFFFFFFF0, 16, 1024, 16), 0, 0);
@@ -109,6 +125,7 @@ int main(void)
     compare_around_borders();
     compare_every_t();
     compare_lists();
+    compare_here();
     printf("%u shapes are accepted, %u refused, and of %u the fault is another\n", accepted, refused, wrong);
     say_faults();
     return wrong != 0;
