@@ -1,4 +1,5 @@
 use crate::{raw, Refusal, ShapeFault};
+use core::cmp::Ordering;
 use core::fmt;
 
 /// An address as words in the pool spell it. [`Heap::address_of`](crate::Heap::address_of) and
@@ -11,6 +12,7 @@ use core::fmt;
 /// let base = Address::from(0x2000_0000);
 /// assert_eq!(base.word(), 0x2000_0000);
 /// assert_eq!(base.to_string(), "0x20000000");
+/// assert!(Address::NULL < base && u32::from(base) == base.word());
 /// ```
 #[derive(Clone, Copy, PartialEq, Eq, Hash)]
 #[repr(transparent)]
@@ -59,10 +61,43 @@ impl From<u32> for Address {
     }
 }
 
+impl From<Address> for u32 {
+    /// The same as [`Address::word`].
+    fn from(address: Address) -> u32 {
+        address.word()
+    }
+}
+
+impl Ord for Address {
+    /// By the words.
+    fn cmp(&self, other: &Address) -> Ordering {
+        self.word().cmp(&other.word())
+    }
+}
+
+impl PartialOrd for Address {
+    fn partial_cmp(&self, other: &Address) -> Option<Ordering> {
+        Some(self.cmp(other))
+    }
+}
+
 impl fmt::Display for Address {
-    /// All eight digits.
+    /// All eight digits, padded as a text is.
     fn fmt(&self, f: &mut fmt::Formatter<'_>) -> fmt::Result {
-        write!(f, "{:#010x}", self.word())
+        let mut text = *b"0x00000000";
+        let mut rest = self.word();
+        for digit in text[2..].iter_mut().rev() {
+            *digit = b"0123456789abcdef"[rest as usize % 16];
+            rest /= 16;
+        }
+        f.pad(core::str::from_utf8(&text).map_err(|_| fmt::Error)?)
+    }
+}
+
+impl fmt::LowerHex for Address {
+    /// As its word.
+    fn fmt(&self, f: &mut fmt::Formatter<'_>) -> fmt::Result {
+        fmt::LowerHex::fmt(&self.word(), f)
     }
 }
 

@@ -6,7 +6,7 @@ use core::fmt;
 ///
 /// ```
 /// let block = blockheap::Block::from(7);
-/// assert_eq!(block.number(), 7);
+/// assert_eq!((block.number(), u64::from(block)), (7, 7));
 /// assert_eq!(format!("block {block}"), "block 7");
 /// ```
 #[derive(Clone, Copy, Debug, PartialEq, Eq, PartialOrd, Ord, Hash)]
@@ -28,6 +28,13 @@ impl From<u32> for Block {
     /// The same as [`Block::from_number`].
     fn from(number: u32) -> Block {
         Block(number.into())
+    }
+}
+
+impl From<Block> for u64 {
+    /// The same as [`Block::number`].
+    fn from(block: Block) -> u64 {
+        block.number()
     }
 }
 

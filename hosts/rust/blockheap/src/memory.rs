@@ -1,7 +1,8 @@
 use crate::raw::TableBytes;
 use crate::{pool_bytes, Address, Heap, Opened, Refusal, MAX_T};
 
-/// All the memory that a heap of `4 * T` blocks wants, with `T` from 1 to 1,024. Another `T` does not compile:
+/// All the memory that a heap of `4 * T` blocks wants, with `T` from 1 to 1,024. Another `T` does not compile
+/// (`cargo check` may not notice):
 ///
 /// ```
 /// static HEAP: blockheap::Memory<1024> = blockheap::Memory::new();

@@ -132,7 +132,19 @@ fn blocks_and_addresses_are_made_of_numbers_and_written() {
     assert_eq!((Address::from(4096), Block::from(7)), (BASE, Block::from_number(7)));
     let addresses = [0, 4096, u32::MAX].map(|word| Address::from(word).to_string());
     assert_eq!(addresses, ["0x00000000", "0x00001000", "0xffffffff"]);
+    assert_eq!(
+        format!("{BASE:>12}|{BASE:12}|{BASE:4}|{BASE:#x}"),
+        "  0x00001000|0x00001000  |0x00001000|0x1000"
+    );
     assert_eq!(format!("{}, {:>4}", Block::from(7), Block::from(4095)), "7, 4095");
+    assert_eq!((u32::from(BASE), u64::from(Block::from(7))), (4096, 7));
+}
+
+#[test]
+fn addresses_are_in_the_order_of_their_words() {
+    let mut addresses = [0x0100_0000, 0x00FF_FFFF, u32::MAX, 0].map(Address::from);
+    addresses.sort();
+    assert_eq!(addresses.map(Address::word), [0, 0x00FF_FFFF, 0x0100_0000, u32::MAX]);
 }
 
 #[test]
