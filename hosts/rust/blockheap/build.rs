@@ -59,23 +59,43 @@ impl Target {
         (&*self.arch, &*self.os, &*self.pointer_width) == ("x86_64", "linux", "64")
     }
 
+    fn portable_folder(&self) -> String {
+        format!("target/portable/{}", self.name)
+    }
+
+    fn portable_command(&self) -> String {
+        format!("hosts/portable/build {}", self.name)
+    }
+
+    /// Where rt builds the archive: what does without it.
+    fn without_rt(&self, top: &Path) -> String {
+        if !self.is_of_proof() {
+            return String::new();
+        }
+        let (top, folder, command) =
+            (top.display(), self.portable_folder(), self.portable_command());
+        format!(
+            "Without rt: cd {top} && {command}\n\
+             then:       export BLOCKHEAP_LIB={top}/{folder}/libblockheap.a\n\
+             That one is not proved; the command says what tests it.\n"
+        )
+    }
+
     /// The archive of the repository for this target, or how to build it.
     pub fn archive_in(&self, top: &Path) -> Result<PathBuf, String> {
         let (folder, command) = if self.is_of_proof() {
             ("target/staticlib".into(), "rt staticlib blockheap".into())
         } else {
-            (
-                format!("target/portable/{}", self.name),
-                format!("hosts/portable/build {}", self.name),
-            )
+            (self.portable_folder(), self.portable_command())
         };
         file_at(&top.join(folder).join("libblockheap.a")).map_err(|error| {
             format!(
                 "The library is not built for {}: {error}\n\
                  Build it:   cd {} && {command}\n\
-                 or name another archive by its full path in BLOCKHEAP_LIB.",
+                 {}Or name another archive by its full path in BLOCKHEAP_LIB.",
                 self.name,
-                top.display()
+                top.display(),
+                self.without_rt(top)
             )
         })
     }

@@ -63,16 +63,22 @@ fn each_target_has_its_archive() {
 #[test]
 fn a_missing_archive_is_refused_with_the_command_that_builds_it() {
     let top = repository("without_archives");
-    let says = |target: &Target, command: &str| {
+    let says = |target: &Target, command: &str, without_rt: bool| {
         let message = target.archive_in(&top).expect_err("no archive");
-        let build = format!("\nBuild it:   cd {} && {command}\n", top.display());
-        assert!(message.contains(&build) && message.contains(&target.name), "{message}");
+        let (name, top) = (&target.name, top.display());
+        let build = format!("\nBuild it:   cd {top} && {command}\n");
+        assert!(message.contains(&build) && message.contains(name), "{message}");
+        let other = format!(
+            "\nWithout rt: cd {top} && hosts/portable/build {name}\n\
+             then:       export BLOCKHEAP_LIB={top}/target/portable/{name}/libblockheap.a\n"
+        );
+        assert_eq!(message.contains(&other), without_rt, "{message}");
     };
     for target in of_proof() {
-        says(&target, "rt staticlib blockheap");
+        says(&target, "rt staticlib blockheap", true);
     }
     for target in others() {
-        says(&target, &format!("hosts/portable/build {}", target.name));
+        says(&target, &format!("hosts/portable/build {}", target.name), false);
     }
     fs::remove_dir_all(&top).expect("an end");
 }
