@@ -23,6 +23,20 @@ need() { # TOOL WHAT_FOR
     on_machine "$1" || die "'$1' is not on this machine; it is needed to $2"
 }
 
+# For a script without arguments: --help shows the text, and any other word is refused.
+help_only() { # TEXT ARGUMENTS...
+    [ $# -gt 1 ] || return 0
+    case $2 in
+        -h | --help) echo "$1"; exit ;;
+        *) die "$(realpath --relative-to "$top" "$0") takes no arguments; --help says what it does" ;;
+    esac
+}
+
+# What a script that calls find_library says of it in its help.
+# shellcheck disable=SC2034
+library_help="The library is proved and built first, unless it is up to date. That takes some minutes, and needs rt.
+Where BLOCKHEAP_LIB names another archive, that is taken as it is."
+
 # The project's own archive, and beside it the mark that says what it was made of.
 own_library=$top/target/staticlib/libblockheap.a
 library_mark=$top/target/staticlib/libblockheap.mark
