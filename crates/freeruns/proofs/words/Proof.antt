@@ -25,7 +25,7 @@ part-lows-end : tie.Need-part-lows-end
 part-lows-end c = search needs
 
 mul-highs : tie.Need-mul-highs
-mul-highs c = search needs
+mul-highs c = in-32-bits (record { fits = omega (arith, c .before .plane-bytes .ensures, c .before .before .before .pre .0 .sized .few, room-entries (c .before .before .before .args .t) .1) })
 
 sub-highs : tie.Need-sub-highs
 sub-highs c = search needs

@@ -1,12 +1,13 @@
 -- `bits_from`: the mask of the law, or all bits where the word does not begin before `from`.
 -- Assumes nothing.
 use borrow.Author.Needs.{needs}
+use Rattle.laws.proofs.Widths.{in-32-bits}
 use Rattle.search.proofs.Searches.{mask-from, mask-all}
 use Rattle.search.proofs.bits_from.Statement.{statement}
 use Rattle.search.proofs.bits_from.Tie as tie
 
 mul-first : tie.Need-mul-first
-mul-first c = search needs
+mul-first c = in-32-bits (search needs)
 
 sub-result : tie.Need-sub-result
 sub-result c = search needs
