@@ -110,11 +110,14 @@ used_pool [] bs long = take_all 0 bs (omega arith)
 used_pool (e ∷ es) bs long = go (used_pool es) (is_free e) refl
   where
     go : ((cs : List ℕ) → length cs ≡ 16 * used es → used_from (pool_of es cs) 0 es ≡ cs) → (b : Bool) → is_free e ≡ b → used_from (pool_of (e ∷ es) bs) 0 (e ∷ es) ≡ bs
-    go rest true f = rw f (used_behind (replicate 16 0) (pool_of es bs) 0 es refl ∙ rest bs (rw f at long))
+    go rest true f =
+        let front : pool_of (e ∷ es) bs ≡ replicate 16 0 ++ pool_of es bs = rw f refl in
+        ap (λ (pool : List ℕ). used_from pool 0 (e ∷ es)) front ∙ rw f (used_behind (replicate 16 0) (pool_of es bs) 0 es refl ∙ rest bs (rw f at long))
     go rest false f =
         let all : length bs ≡ 16 * suc (used es) = rw f at long in
         let sixteen = length-take-le 16 bs (omega arith) in
-        rw (
+        let front : pool_of (e ∷ es) bs ≡ take 16 bs ++ pool_of es (drop 16 bs) = rw f refl in
+        ap (λ (pool : List ℕ). used_from pool 0 (e ∷ es)) front ∙ rw (
           f,
           block_front (take 16 bs) (pool_of es (drop 16 bs)) sixteen,
           used_behind (take 16 bs) (pool_of es (drop 16 bs)) 0 es sixteen,
