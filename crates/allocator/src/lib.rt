@@ -1,5 +1,7 @@
 // The calls that make, free and resize objects: allocate, free and reallocate. Each checks its arguments first and then acts:
 // a refused call has written nothing.
+#![tactic(auto)]
+
 ghost use Rattle.std.specs.Prelude.{◌≡◌, []};
 ghost use Rattle.rules.specs.Planes.{planes};
 ghost use Rattle.rules.specs.Runs.{Allocate, Free, Reallocate};
@@ -10,7 +12,7 @@ use numbers::{Address, Block, Bytes, Found};
 use objects::Placed;
 
 // The change in used blocks.
-#[derive(Drop)]
+#[derive(Clone, Copy)]
 pub struct Freed {
     pub refusal: u32,
     pub change: i32,

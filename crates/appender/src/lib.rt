@@ -1,4 +1,6 @@
 // A new entry of a rain log: room for it, with a collection where there is none, and its place behind the last entry. The heap has been checked.
+#![tactic(auto)]
+
 ghost use Rattle.std.specs.Prelude.{◌≡◌, List, [], ℕ, ◌/◌, ◌<◌, ◌^◌, length};
 ghost use Rattle.rules.specs.Pointers.{address_of};
 ghost use Rattle.rules.specs.Planes.{planes};
@@ -13,7 +15,7 @@ use chain::Walk;
 use numbers::{Address, Block, Bytes};
 
 // The log's first address, and the change in used blocks.
-#[derive(Drop)]
+#[derive(Clone, Copy)]
 pub struct Logged {
     pub refusal: u32,
     pub first: u32,

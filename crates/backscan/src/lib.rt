@@ -1,4 +1,6 @@
 // Back from a block to where its object starts, past TAILs: 64 blocks at a time.
+#![tactic(auto)]
+
 ghost use Rattle.std.specs.Prelude.{◌≡◌, ◌+◌, ◌*◌, ◌<◌, length};
 ghost use Rattle.rules.specs.Tables.{start_of};
 ghost use Rattle.rules.specs.Planes.{entries_in, IsTable};

@@ -1,5 +1,7 @@
-// The entry points for C: numbers and byte slices in, the refusal number out, every other answer through a pointer.
-// A slice is a pointer and a length; include/blockheap.h declares the same functions.
+// The calls as a caller that is not written in Rattle makes them: numbers and byte slices in, the refusal number out, every other answer through a
+// reference. The crate blockheap_c exports each for C under the same name.
+#![tactic(auto)]
+
 ghost use Rattle.std.specs.Prelude.{◌≡◌, [], length as length_of};
 ghost use Rattle.rules.specs.Outcomes.{only_refusal, placement, collection, findings, reading, writing, opening};
 ghost use Rattle.rules.specs.Runs.{Init, Allocate, Free, Reallocate, Collect, Survey, Load, Store, WriteImage, OpenImage};
@@ -9,16 +11,14 @@ ghost use Rattle.services.specs.Services.{HeapCall, Append, Read, Drop, answered
 
 use numbers::{Address, Block, Bytes};
 
-#[unsafe(no_mangle)]
-pub extern "C" fn blockheap_init(base: u64, t: u64, pool: &[u8], table: &mut [u8]) -> u32
+pub fn blockheap_init(base: u64, t: u64, pool: &[u8], table: &mut [u8]) -> u32
     ensures { served (answered (only_refusal result)) (lending pool.now table.new) [] []
         ≡ serve t (HeapCall (Init base)) [] (lending pool.now table.old) }
 {
     heap::init(Address::of_number(base), numbers::clamped(t), pool, table)
 }
 
-#[unsafe(no_mangle)]
-pub extern "C" fn blockheap_allocate(
+pub fn blockheap_allocate(
     base: u64,
     t: u64,
     pool: &mut [u8],
@@ -43,8 +43,7 @@ pub extern "C" fn blockheap_allocate(
     p.refusal
 }
 
-#[unsafe(no_mangle)]
-pub extern "C" fn blockheap_free(
+pub fn blockheap_free(
     base: u64,
     t: u64,
     pool: &[u8],
@@ -67,8 +66,7 @@ pub extern "C" fn blockheap_free(
     f.refusal
 }
 
-#[unsafe(no_mangle)]
-pub extern "C" fn blockheap_reallocate(
+pub fn blockheap_reallocate(
     base: u64,
     t: u64,
     pool: &mut [u8],
@@ -95,8 +93,7 @@ pub extern "C" fn blockheap_reallocate(
     p.refusal
 }
 
-#[unsafe(no_mangle)]
-pub extern "C" fn blockheap_collect(
+pub fn blockheap_collect(
     base: u64,
     t: u64,
     pool: &[u8],
@@ -125,8 +122,7 @@ pub extern "C" fn blockheap_collect(
     c.refusal
 }
 
-#[unsafe(no_mangle)]
-pub extern "C" fn blockheap_survey(
+pub fn blockheap_survey(
     base: u64,
     t: u64,
     pool: &[u8],
@@ -145,8 +141,7 @@ pub extern "C" fn blockheap_survey(
     s.refusal
 }
 
-#[unsafe(no_mangle)]
-pub extern "C" fn blockheap_load(
+pub fn blockheap_load(
     base: u64,
     t: u64,
     pool: &[u8],
@@ -170,8 +165,7 @@ pub extern "C" fn blockheap_load(
     l.refusal
 }
 
-#[unsafe(no_mangle)]
-pub extern "C" fn blockheap_store(
+pub fn blockheap_store(
     base: u64,
     t: u64,
     pool: &mut [u8],
@@ -194,8 +188,7 @@ pub extern "C" fn blockheap_store(
     )
 }
 
-#[unsafe(no_mangle)]
-pub extern "C" fn blockheap_write_image(
+pub fn blockheap_write_image(
     base: u64,
     t: u64,
     pool: &[u8],
@@ -219,8 +212,7 @@ pub extern "C" fn blockheap_write_image(
     w.refusal
 }
 
-#[unsafe(no_mangle)]
-pub extern "C" fn blockheap_open_image(
+pub fn blockheap_open_image(
     image: &[u8],
     t: u64,
     pool: &mut [u8],
@@ -238,8 +230,7 @@ pub extern "C" fn blockheap_open_image(
     o.refusal
 }
 
-#[unsafe(no_mangle)]
-pub extern "C" fn blockheap_log_append(
+pub fn blockheap_log_append(
     base: u64,
     t: u64,
     pool: &mut [u8],
@@ -272,8 +263,7 @@ pub extern "C" fn blockheap_log_append(
     l.refusal
 }
 
-#[unsafe(no_mangle)]
-pub extern "C" fn blockheap_log_read(
+pub fn blockheap_log_read(
     base: u64,
     t: u64,
     pool: &[u8],
@@ -299,8 +289,7 @@ pub extern "C" fn blockheap_log_read(
     e.refusal
 }
 
-#[unsafe(no_mangle)]
-pub extern "C" fn blockheap_log_drop(
+pub fn blockheap_log_drop(
     base: u64,
     t: u64,
     pool: &[u8],

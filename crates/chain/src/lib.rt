@@ -1,4 +1,6 @@
 // The walk along a log's entries, from its first address to the end. It is made of public calls of the heap alone: this layer reads no byte itself.
+#![tactic(auto)]
+
 ghost use Rattle.std.specs.Prelude.{◌≡◌, false, [], ◌<◌, eqb};
 ghost use Rattle.rules.specs.Tests.{pick};
 ghost use Rattle.rules.specs.Pointers.{target_of};
@@ -13,7 +15,7 @@ use numbers::{Address, Block, Found};
 
 // A walk along the entries: whether there has been one at each address so far, the address where it stands, how many entries it has passed, the block of the last of
 // them, and that of the one with the wanted index.
-#[derive(Drop)]
+#[derive(Clone, Copy)]
 pub struct Walk {
     pub whole: bool,
     pub at: Address,

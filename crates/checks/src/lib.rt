@@ -1,4 +1,6 @@
 // Each call's refusal, found before anything is written: the number of the first test that holds, or 0.
+#![tactic(auto)]
+
 ghost use Rattle.std.specs.Prelude.{◌≡◌, List, [], ◌∷◌, ◌++◌, ℕ, length};
 ghost use Rattle.rules.specs.Tests.{both};
 ghost use Rattle.rules.specs.Tables.{well_formed};

@@ -1,4 +1,6 @@
 // The collection: it checks its arguments first, and then marks, sweeps and clears the mark stack.
+#![tactic(auto)]
+
 ghost use Rattle.std.specs.Prelude.{◌≡◌, ◌∷◌, ◌++◌, ◌/◌, ◌≤◌, ◌<◌, length};
 ghost use Rattle.rules.specs.Words.{bytes_of, words_of};
 ghost use Rattle.rules.specs.Planes.{planes, entries_in, IsTable, heap_at};
@@ -12,7 +14,7 @@ ghost use Rattle.collector.specs.Answers.{outcome_of, result_of};
 use numbers::Address;
 
 // What a collection answers.
-#[derive(Drop)]
+#[derive(Clone, Copy)]
 pub struct Collected {
     pub refusal: u32,
     pub kept: u32,

@@ -1,5 +1,7 @@
 // The allocation table: two bit planes for 4t blocks, the low bits of all entries and then their high bits, eight blocks to a byte.
 // Only this crate, `whole` and `packing` know where an entry's bits lie; `freeruns` and `search` also know that the table is two planes, one behind the other.
+#![tactic(auto)]
+
 ghost use Rattle.std.specs.Prelude.{◌≡◌, true, List, ℕ, ◌+◌, ◌*◌, ◌^◌, ◌≤◌, ◌<◌, eqb, leb, ltb, length, set, replicate};
 ghost use Rattle.std.proofs.lemmas.List.Edits.{sets};
 ghost use Rattle.rules.specs.Tests.{pick, both};
@@ -193,7 +195,7 @@ pub fn clear(table: &mut [u8])
 }
 
 // The entries of 64 blocks: a bit of each in two numbers, that of the first block the lowest.
-#[derive(Drop)]
+#[derive(Clone, Copy)]
 pub struct Lanes {
     pub low: u64,
     pub high: u64,
@@ -219,7 +221,7 @@ pub fn group(t: usize, table: &[u8], i: usize) -> Lanes
 }
 
 // The entries of 32 blocks, as `Lanes` has those of 64.
-#[derive(Drop)]
+#[derive(Clone, Copy)]
 pub struct Words {
     pub low: u32,
     pub high: u32,
@@ -256,7 +258,7 @@ pub fn word_at(plane: &[u8], i: usize) -> u32
 }
 
 // What a block was when it was to be marked: a HEAD, which is then MARK, a TAIL, or another entry or none.
-#[derive(Drop)]
+#[derive(Clone, Copy)]
 pub enum Met {
     Head,
     Tail,

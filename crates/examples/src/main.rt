@@ -1,5 +1,7 @@
 // Runs the worked examples on heaps of 8, 12 and 16 blocks. A line for each call: the table before it, its arguments, what it answered, and the
 // table after it. A table is the bytes of its low plane, a bar, and those of its high plane.
+#![tactic(auto)]
+
 mod print;
 
 use numbers::{Address, Block, Bytes};

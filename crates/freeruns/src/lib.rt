@@ -1,4 +1,6 @@
 // FREE blocks as bits, 32 blocks at a time: which are, where rows of them start, and how long the longest run is.
+#![tactic(auto)]
+
 ghost use Rattle.std.specs.Prelude.{◌≡◌, ◌⊎◌, ◌+◌, ◌*◌, ◌≤◌, ◌<◌, length};
 ghost use Rattle.rules.specs.Tables.{longest as longest_of};
 ghost use Rattle.rules.specs.Planes.{entries_in, IsTable};
@@ -129,7 +131,7 @@ fn longest_row(bits: u32, n: usize) -> usize
 }
 
 // A run of `longest` blocks was read, and none is longer but maybe the one at the end, which has `ending` blocks so far.
-#[derive(Drop)]
+#[derive(Clone, Copy)]
 struct Scan {
     longest: usize,
     ending: usize,

@@ -1,5 +1,7 @@
 // The calls on a heap as a whole and on the words of its objects: init, survey, load and store. Each checks its arguments first
 // and then acts: a refused call has written nothing. `check` and then `load_checked`, `load_link` or `store_checked` are a call in two steps.
+#![tactic(auto)]
+
 ghost use Rattle.std.specs.Prelude.{◌≡◌, [], ℕ};
 ghost use Rattle.rules.specs.Planes.{planes};
 ghost use Rattle.rules.specs.Runs.{Init, Survey, Load, Store};
@@ -9,7 +11,7 @@ ghost use Rattle.heap.specs.Answers.{status, surveyed, loaded, linked, next_by};
 use numbers::{Address, Block};
 
 // What the table holds.
-#[derive(Drop)]
+#[derive(Clone, Copy)]
 pub struct Surveyed {
     pub refusal: u32,
     pub used: u32,
@@ -18,14 +20,14 @@ pub struct Surveyed {
 }
 
 // A word of an object.
-#[derive(Drop)]
+#[derive(Clone, Copy)]
 pub struct Loaded {
     pub refusal: u32,
     pub value: u32,
 }
 
 // The first word of an object of two blocks, or none.
-#[derive(Drop)]
+#[derive(Clone, Copy)]
 pub enum Link {
     Next(u32),
     None,

@@ -1,4 +1,6 @@
 // A heap image: it checks its arguments first, and then writes four sections from the front of the lent buffer on.
+#![tactic(auto)]
+
 ghost use Rattle.std.specs.Prelude.{◌≡◌, [], ◌+◌, ◌*◌, ◌≤◌, ◌<◌, ◌^◌, length};
 ghost use Rattle.std.proofs.lemmas.List.Edits.{sets};
 ghost use Rattle.rules.specs.Tables.{used as used_of};
@@ -11,7 +13,7 @@ ghost use Rattle.image.specs.Answers.{written, unwritten_by};
 use numbers::{Address, Bytes};
 
 // The refusal number, and how long the image is.
-#[derive(Drop)]
+#[derive(Clone, Copy)]
 pub struct Written {
     pub refusal: u32,
     pub length: u32,

@@ -1,4 +1,6 @@
 // Marking: the objects that are reachable from the roots become MARK, with a bounded mark stack and rescans after an overflow.
+#![tactic(auto)]
+
 ghost use Rattle.std.specs.Prelude.{◌≡◌, true, false, ◌∷◌, ◌/◌, ◌≤◌, ◌<◌, length, get_or};
 ghost use Rattle.rules.specs.Words.{words_of};
 ghost use Rattle.rules.specs.Planes.{entries_in, IsTable};

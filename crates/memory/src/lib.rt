@@ -1,6 +1,8 @@
 // Words, counts and bits in bytes, and parts that are cleared or copied. Only this crate knows the byte order.
 // The four or eight bytes of a number are one part: where indices are checked at run time, that takes one check.
 // What works on the pool alone takes `Bytes`; a place in bytes that may be a table, a list, a file or a part is a plain number.
+#![tactic(auto)]
+
 ghost use Rattle.std.specs.Prelude.{◌≡◌, ◌⊎◌, ◌+◌, ◌-◌, ◌*◌, ◌≤◌, length, take, drop, replicate};
 ghost use Rattle.std.proofs.lemmas.List.Edits.{sets};
 ghost use Rattle.rules.specs.Words.{number, bytes_of, two_bytes_of, first_two, word_at, with_word};

@@ -1,5 +1,7 @@
 // Numbers by kind: blocks, addresses and bytes, and the change in used blocks. Only this crate's functions make a number of a kind or pass between
 // the kinds: the fields are private.
+#![tactic(auto)]
+
 ghost use Rattle.std.specs.Prelude.{◌≡◌, ◌+◌, ◌-◌, ◌*◌, ◌^◌, ◌<◌, ◌≤◌, length, pos, neg_ℤ, ◌==◌, nat_le, nat_lt};
 ghost use Rattle.std.proofs.Math.IntN.{sub_ℕ};
 ghost use Rattle.rules.specs.Tables.{aligned};
@@ -9,15 +11,15 @@ ghost use Rattle.laws.specs.Clamped.{clamped as clamped_to};
 ghost use Rattle.numbers.specs.Places.{found, BlockOf};
 
 // A block's number in the pool, from 0.
-#[derive(Drop)]
+#[derive(Clone, Copy)]
 pub struct Block(usize);
 
 // An address. A base that is not tested yet may be any number; that of a block fits a word, and the end of the last is at most 2^32.
-#[derive(Drop)]
+#[derive(Clone, Copy)]
 pub struct Address(u64);
 
 // A count of bytes that a caller asks for or that blocks have, or an offset into the pool. A place in a file is none.
-#[derive(Drop)]
+#[derive(Clone, Copy)]
 pub struct Bytes(usize);
 
 // The first number that is no address.
@@ -38,7 +40,7 @@ pub fn clamped(n: u64) -> usize
 }
 
 // The block that a search found or that an address is of, or none.
-#[derive(Drop)]
+#[derive(Clone, Copy)]
 pub enum Found {
     At(Block),
     Nowhere,

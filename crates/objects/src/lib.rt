@@ -1,4 +1,6 @@
 // What allocate, free and reallocate do to pool and table once they are checked: an object is taken, freed, or gets fewer or more blocks.
+#![tactic(auto)]
+
 ghost use Rattle.std.specs.Prelude.{◌≡◌, ◌+◌, ◌*◌, ◌≤◌, ◌<◌, pos, neg_ℤ, length};
 ghost use Rattle.rules.specs.Tables.{block_count, first_fit, released};
 ghost use Rattle.laws.specs.Meaning.{GrowsInPlace};
@@ -11,7 +13,7 @@ ghost use Rattle.objects.specs.Answers.{placed_in, unplaced_by};
 use numbers::{Block, Bytes, Found};
 
 // Where an object is, and the change in used blocks.
-#[derive(Drop)]
+#[derive(Clone, Copy)]
 pub struct Placed {
     pub refusal: u32,
     pub block: Block,

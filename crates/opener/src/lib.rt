@@ -1,4 +1,6 @@
 // A heap image that is opened: the file is read, then held against what is lent, and only then written into it.
+#![tactic(auto)]
+
 ghost use Rattle.std.specs.Prelude.{◌≡◌, [], length};
 ghost use Rattle.rules.specs.Planes.{planes};
 ghost use Rattle.rules.specs.Refusals.{first_of};
@@ -12,7 +14,7 @@ use numbers::{Address, Bytes};
 use parser::File;
 
 // The refusal number, the base, and how many roots there are.
-#[derive(Drop)]
+#[derive(Clone, Copy)]
 pub struct Opened {
     pub refusal: u32,
     pub base: u32,

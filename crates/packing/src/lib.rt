@@ -1,4 +1,6 @@
 // The packed order of heap images, four blocks to a byte. Beside `entries` and `whole` only this crate knows how entries lie in bytes.
+#![tactic(auto)]
+
 ghost use Rattle.std.specs.Prelude.{◌≡◌, ◌+◌, ◌*◌, ◌≤◌, ◌<◌, length};
 ghost use Rattle.std.proofs.lemmas.List.Edits.{sets};
 ghost use Rattle.rules.specs.Entries.{entries_of, table_of};

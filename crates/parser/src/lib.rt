@@ -1,11 +1,13 @@
 // A file, read from the front as a heap image: the first fault counts. Nothing is written.
+#![tactic(auto)]
+
 ghost use Rattle.std.specs.Prelude.{◌≡◌, ◌≤◌, leb, length};
 ghost use Rattle.rules.specs.Tests.{both};
 ghost use Rattle.rules.specs.Files.{one_base, table_bytes, blocks_of, root_words, fault_of};
 ghost use Rattle.parser.specs.Reading.{kind_by, Small, Reads, Says};
 
 // What a section may hold: how many bytes each of what it counts has, the fewest and the most there may be, and the refusal if there are fewer or more.
-#[derive(Drop)]
+#[derive(Clone, Copy)]
 struct Kind {
     size: usize,
     fewest: usize,
@@ -14,7 +16,7 @@ struct Kind {
 }
 
 // A section: its fault; if it has none, its count and the place behind it.
-#[derive(Drop)]
+#[derive(Clone, Copy)]
 struct Section {
     fault: u32,
     count: usize,
@@ -22,7 +24,7 @@ struct Section {
 }
 
 // A file: its fault; if it has none, the base, the bytes of the table, the used blocks and the roots.
-#[derive(Drop)]
+#[derive(Clone, Copy)]
 pub struct File {
     pub fault: u32,
     pub base: u32,

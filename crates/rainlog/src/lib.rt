@@ -1,5 +1,7 @@
 // The rain log: a list of entries, the oldest first, each an object of two blocks. Words 0 to 2 of an entry are the address of the next one, a time and a tip count.
 // Every call here is made of public calls of the heap and of the collection: this layer reads and writes no byte itself.
+#![tactic(auto)]
+
 ghost use Rattle.std.specs.Prelude.{◌≡◌, []};
 ghost use Rattle.rules.specs.Planes.{planes};
 ghost use Rattle.rules.specs.Memory.{memory};
@@ -12,7 +14,7 @@ use appender::Logged;
 use numbers::Address;
 
 // An entry.
-#[derive(Drop)]
+#[derive(Clone, Copy)]
 pub struct Readout {
     pub refusal: u32,
     pub time: u32,

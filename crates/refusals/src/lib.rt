@@ -1,5 +1,6 @@
 // The numbers by which calls are refused, and the limits that they are held to. C has the same names: include/blockheap.h.
 // The tests behind the numbers, and their order, are in crates/rules/specs (Refusals, Files) and crates/logs/specs (Log). 0 is no refusal.
+#![tactic(auto)]
 
 // t, the length of pool or table or the base breaks the rules or is not that of the image, or a list is not whole words.
 pub const BAD_SHAPE: u32 = 1;

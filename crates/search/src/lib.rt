@@ -1,5 +1,7 @@
 // The search for room: where blocks may next start, and how many are FREE from a block on, 32 blocks at a time. Words of the planes in which the blocks may
 // not start are passed in a loop that does little else.
+#![tactic(auto)]
+
 ghost use Rattle.std.specs.Prelude.{◌≡◌, false, ◌⊎◌, ℕ, ◌+◌, ◌*◌, ◌≤◌, ◌<◌, leb, length};
 ghost use Rattle.rules.specs.Tests.{pick};
 ghost use Rattle.rules.specs.Bits.{bit_of};
@@ -116,7 +118,7 @@ pub fn next(t: usize, table: &[u8], from: Block, count: usize) -> Block
 }
 
 // How many blocks are FREE from a block on, as far as 32 blocks go of which it is one, and whether a used block or the table's end comes directly after them.
-#[derive(Drop)]
+#[derive(Clone, Copy)]
 pub struct Ahead {
     pub free: usize,
     pub ended: bool,

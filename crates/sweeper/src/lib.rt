@@ -1,9 +1,11 @@
 // The sweep: what is not marked becomes FREE, what is marked becomes HEAD again.
+#![tactic(auto)]
+
 ghost use Rattle.rules.specs.Planes.{entries_in, IsTable};
 ghost use Rattle.sweeper.specs.Sweeps.{TableSwept};
 
 // How many objects were kept and blocks freed.
-#[derive(Drop)]
+#[derive(Clone, Copy)]
 pub struct Swept {
     pub kept: usize,
     pub freed: usize,

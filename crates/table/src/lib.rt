@@ -1,4 +1,6 @@
 // Objects in the allocation table, and the search for room.
+#![tactic(auto)]
+
 ghost use Rattle.std.specs.Prelude.{◌≡◌, ◌+◌, ◌≤◌, ◌<◌, leb, length};
 ghost use Rattle.rules.specs.Tables.{block_count, free_from, first_fit, grows_in_place, placed, released, extended};
 ghost use Rattle.rules.specs.Planes.{entries_in, IsTable, Holds};

@@ -1,4 +1,6 @@
 // A trace of one object: its words are visited, and then those of the last pushed one, until the mark stack is empty.
+#![tactic(auto)]
+
 ghost use Rattle.std.specs.Prelude.{◌≡◌, ◌/◌, ◌≤◌, ◌<◌, ltb, length};
 ghost use Rattle.rules.specs.Planes.{entries_in, IsTable};
 ghost use Rattle.rules.specs.Marking.{walk as walk_of, trace as trace_of};

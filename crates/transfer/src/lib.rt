@@ -1,5 +1,7 @@
 // The used blocks between a pool and the section of an image that holds them, one after the other. A block is one of the pool's, and where its bytes start there is `Bytes`.
 // A place in an image is a plain number; so is that of a part, which may be of either.
+#![tactic(auto)]
+
 ghost use Rattle.std.specs.Prelude.{◌≡◌, ◌+◌, ◌*◌, ◌%◌, ◌≤◌, ◌<◌, min, length, drop};
 ghost use Rattle.std.proofs.lemmas.List.Edits.{sets};
 ghost use Rattle.rules.specs.Tables.{used as used_of};

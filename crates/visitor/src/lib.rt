@@ -1,4 +1,6 @@
 // A visit of one word: the object that it leads to becomes MARK and is pushed onto the bounded mark stack, or the overflow is set.
+#![tactic(auto)]
+
 ghost use Rattle.std.specs.Prelude.{◌≡◌, List, ℕ, ◌/◌, ◌^◌, ◌≤◌, ◌<◌, length};
 ghost use Rattle.std.proofs.Math.Option.{some};
 ghost use Rattle.rules.specs.Planes.{entries_in, IsTable};
@@ -12,7 +14,7 @@ use numbers::{Address, Block};
 
 // How many entries of the mark stack are in use, and whether a block has been lost because it was full: 1 if so, else 0, as a `bool` would
 // leave bytes of the struct unused and its copies slow. And the longest back scan from a TAIL so far: the object of block `last` starts at block `first`.
-#[derive(Drop)]
+#[derive(Clone, Copy)]
 pub struct Marking {
     pub depth: usize,
     pub lost: usize,

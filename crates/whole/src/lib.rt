@@ -1,5 +1,7 @@
 // The whole table at once: words of both planes, each of 32 blocks, and single bytes at the end, with no early exit. Beside `entries` and
 // `packing` only this crate knows where an entry's bits lie.
+#![tactic(auto)]
+
 ghost use Rattle.std.specs.Prelude.{◌≡◌, ◌+◌, ◌*◌, ◌<◌, ◌≤◌, length};
 ghost use Rattle.rules.specs.Tables.{used, objects, well_formed};
 ghost use Rattle.rules.specs.Marking.{sweep as sweep_of};
@@ -28,7 +30,7 @@ fn bad_bits(low: u32, high: u32, before: u32) -> u32
 }
 
 // What is found in some blocks: `bad` is 0 if each entry may stand after the one before it, and `before` is 1 if the last block is used, else 0.
-#[derive(Drop)]
+#[derive(Clone, Copy)]
 struct Tested {
     bad: u32,
     before: u32,
@@ -93,7 +95,7 @@ pub fn well_formed(t: usize, table: &[u8]) -> bool
 }
 
 // How many blocks are not FREE, and how many objects there are.
-#[derive(Drop)]
+#[derive(Clone, Copy)]
 pub struct Counts {
     pub used: usize,
     pub objects: usize,
@@ -128,7 +130,7 @@ pub fn count(t: usize, table: &[u8]) -> Counts
 }
 
 // Swept entries, a bit of each in two numbers, and a bit for each block behind which TAILs are kept.
-#[derive(Drop)]
+#[derive(Clone, Copy)]
 struct Swept {
     low: u32,
     high: u32,
