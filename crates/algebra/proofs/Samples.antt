@@ -118,6 +118,7 @@ members_swapped u v x = (swap, swap)
     swap : {a b : ℕ} → Memᴰ x (a ∷ b ∷ []) → Memᴰ x (b ∷ a ∷ [])
     swap (Memᴰ.head e) = Memᴰ.tail (Memᴰ.head e)
     swap (Memᴰ.tail (Memᴰ.head e)) = Memᴰ.head e
+    swap (Memᴰ.tail (Memᴰ.tail m)) = elim m [ ]
 
 members_trans : {xs ys zs : List ℕ} → SameMembers xs ys → SameMembers ys zs → SameMembers xs zs
 members_trans s t x = (λ m. (t x).0 ((s x).0 m), λ m. (s x).1 ((t x).1 m))

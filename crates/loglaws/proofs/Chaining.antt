@@ -184,11 +184,11 @@ module _ (base : ℕ) (h h' : Heap) (l v : ℕ) (ds : List Entry) (linked : Reli
   chain_append (e ∷ []) c distinct last same =
       let at : l ≡ e.head = some-injective l e.head (sym last) in
       as_front base h h' (chain_front base h c) (subst (λ (k : ℕ). Chain base h' (address_of base k) (entry_in h k ∷ ds)) at leads_linked)
-  chain_append (e ∷ d ∷ es) c distinct last same =
+  chain_append {w = w} (e ∷ d ∷ es) c distinct last same =
       let f = chain_front base h c in
       let last' : last_of (heads (d ∷ es)) ≡ some l = sym (last_behind e.head d.head (heads es)) ∙ last in
       let fresh_head = distinct_front distinct in
       let other : e.head ≢ l = λ q. fresh_head.0 (Memᴰ.cast q (last_among (heads (d ∷ es)) l last')) in
       as_front base h h' f
       (leads_same base h h' (same e.head (Memᴰ.head refl) other) f.blocks
-      (chain_append (d ∷ es) f.rest fresh_head.1 last' (λ o m. same o (Memᴰ.tail m))))
+      (chain_append {w = word_at h.pool (4 * e.head)} (d ∷ es) f.rest fresh_head.1 last' (λ o m. same o (Memᴰ.tail m))))

@@ -40,7 +40,7 @@ use Rattle.loglaws.proofs.Ending.{written_same, written_of, Ends, stops, acts, e
 -- an entry in a chain leads to the chain behind it
 pub chain_at : (base : ℕ) (h : Heap) {w : ℕ} (before : List Entry) {e : Entry} {after : List Entry} → Chain base h w (before ++ e ∷ after) → Front base h (address_of base e.head) e after
 chain_at base h [] c = let x = chain_front base h c in record { address = refl; object = x.object; blocks = x.blocks; entry = x.entry; rest = x.rest }
-chain_at base h (d ∷ before) c = chain_at base h before (chain_front base h c).rest
+chain_at base h {w = w} (d ∷ before) {e = e} {after = after} c = chain_at base h {w = word_at h.pool (4 * d.head)} before (chain_front base h c).rest
 
 -- two lists that are one, with an entry after as many, have one entry there
 pub split_same : (xs ys : List Entry) (d e : Entry) (ds es : List Entry) → length xs ≡ length ys → xs ++ d ∷ ds ≡ ys ++ e ∷ es → d ≡ e

@@ -173,11 +173,15 @@ all_alike t (next t' s {stack = stack} {stack' = stack'} same alike) w =
 
 -- ---- the first collection
 
+-- what is asked for behind it is asked for alike
+alike_behind : {x y : Asked} {xs ys : List Asked} → Alike (x ∷ xs) (y ∷ ys) → Alike xs ys
+alike_behind (next _ _ same alike) = alike
+
 pub noninterference : Noninterference
 unfolding act
-noninterference t base roots stack stack' l l' xs ys beside agree (next _ _ same alike) x x' =
+noninterference t base roots stack stack' l l' xs ys beside agree asked_alike x x' =
     let first = own_alike t l l' (pool_of_is t c stack l.memory refl (not_one z)) (pool_of_is t c stack' l'.memory refl (not_one z')) beside.beside (HeapCall c) stack stack' acted in
-    then_alike t (HeapCall c) first (all_alike t alike first.lent)
+    then_alike t (HeapCall c) first (all_alike t (alike_behind asked_alike) first.lent)
   where
     c : Call
     c = Collect base roots
