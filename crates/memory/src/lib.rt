@@ -148,7 +148,7 @@ pub fn clear_part(pool: &mut [u8], start: Bytes, end: Bytes)
 // The count bytes from `from` on are copied to `to`. The two parts do not overlap.
 pub fn copy(pool: &mut [u8], from: Bytes, to: Bytes, count: Bytes)
     requires count_in_bounds { (from.0 + count.0 ≤ length pool.old) × (to.0 + count.0 ≤ length pool.old) }
-    requires fact { (from.0 + count.0 ≤ to.0) ⊎ (to.0 + count.0 ≤ from.0) }
+    requires apart { (from.0 + count.0 ≤ to.0) ⊎ (to.0 + count.0 ≤ from.0) }
     ensures { pool.new ≡ sets pool.old to.0 (take count.0 (drop from.0 pool.old)) }
 {
     let source = from.index();

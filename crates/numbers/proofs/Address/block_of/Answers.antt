@@ -7,8 +7,7 @@ use borrow.Author.Tests.{lt-leb}
 use Rattle.rules.specs.Tests.{pick}
 use Rattle.rules.specs.Pointers.{address_of, target_of}
 use Rattle.laws.proofs.Widths.{as_u32}
-use Rattle.numbers.proofs.Address.block_of.Statement.{statement}
-use Rattle.numbers.proofs.Address.block_of.Tie as tie
+use Rattle.numbers.proofs.Address.block_of.Goals as goal
 
 -- the wrapped difference, of a word from the base on and of one below it
 module _ (base w d : ℕ) (hb : base ≤ 2 ^ 32) (hw : w < 2 ^ 32) (hd : d < 2 ^ 32) (e : (d + base) % 2 ^ 32 ≡ w) where
@@ -48,28 +47,16 @@ module _ (base w d n : ℕ) (hw : w < 2 ^ 32) (hd : d < 2 ^ 32) (e : (d + base) 
           let h : base ≤ w = omega (arith, l) in
           simp (le-leb base w h, difference base w d hb hw hd e h, ne_eqb (d % 16) 0 z, le-ltb k n (not_aligned base d n ends z))
 
-to_word_requires : tie.Need-to-word-requires
-to_word_requires c κs = search rules
+pub overflow_mul-k : goal.overflow_mul-k
+overflow_mul-k c = as_u32 (search rules)
 
-wrapping_sub_u32_requires : tie.Need-wrapping-sub-u32-requires
-wrapping_sub_u32_requires c κs = search rules
+pub overflow_add-k : goal.overflow_add-k
+overflow_add-k c = as_u32 (search rules)
 
-mul_k : tie.Need-overflow-mul-k
-mul_k c = as_u32 (search rules)
-
-add_k : tie.Need-overflow-add-k
-add_k c = as_u32 (search rules)
-
-cast_t8 : tie.Need-overflow-cast-t8
-cast_t8 c = search rules
-
-returns : tie.Need-returns
+pub returns : goal.returns
 unfolding address_of
 returns c =
     record {
       small = search rules;
-      target = λ n h. is_target _ _ _ n c.before.before.ranges.w.fits c.wrapping-sub-u32.type-inv (rw c.before.to_word.ensures at c.wrapping-sub-u32.ensures) h;
+      target = λ n h. is_target _ _ _ n c.ranges.w.fits c.wrapping_sub_u32-d.type_inv (rw c.to_word.ensures at c.wrapping_sub_u32-d.ensures.value) h;
     }
-
-pub block_of_spec : {M : Type 1} → statement M
-block_of_spec = tie.close (tie.spec to_word_requires wrapping_sub_u32_requires mul_k add_k cast_t8 returns)
