@@ -12,8 +12,7 @@ use Rattle.rules.specs.Bits.{bit_of}
 use Rattle.laws.proofs.Bits.{bit_of_ones}
 use Rattle.laws.proofs.Widths.{in_32_bits}
 use Rattle.entries.proofs.Masks.{lower_bits}
-use Rattle.entries.proofs.bits_to.Statement.{statement}
-use Rattle.entries.proofs.bits_to.Tie as tie
+use Rattle.entries.proofs.bits_to.Goals as goal
 
 -- places of the byte at `first` are compared as blocks are
 moved : (first to j : ℕ) → first < to → to < first + 8 → ltb j (8 - (first + 8 - to)) ≡ ltb (first + j) to
@@ -29,27 +28,14 @@ some first to l h j hj = rw (← (moved first to j l h)) (lower_bits (first + 8 
 all : (first to : ℕ) → first + 8 ≤ to → (j : ℕ) → j < 8 → bit_of 255 j ≡ pick (ltb (first + j) to) 1 0
 all first to h j hj = rw (lt-ltb (first + j) to (omega arith)) (bit_of_ones 8 j hj)
 
-mul_end : tie.Need-overflow-mul-end
-mul_end c = in_32_bits (search rules)
+pub overflow_mul-end : goal.overflow_mul-end
+overflow_mul-end c = in_32_bits (search rules)
 
-add_end : tie.Need-overflow-add-end
-add_end c = in_32_bits (search rules)
+pub overflow_add-end : goal.overflow_add-end
+overflow_add-end c = in_32_bits (search rules)
 
-sub_result : tie.Need-overflow-sub-result
-sub_result c = search rules
+pub returns-then-to-end : goal.returns-then-to-end
+returns-then-to-end c = some (8 * c.args.i) c.args.to (omega arith) (omega arith)
 
-cast_result : tie.Need-overflow-cast-result
-cast_result c = search rules
-
-shr_result : tie.Need-overflow-shr-result
-shr_result c = search rules
-
-returns : tie.Need-returns
-returns c = some (8 * c.before.args.i) c.before.args.to (omega arith) (omega arith)
-
-returns_2 : tie.Need-returns-2
-returns_2 c = all (8 * c.before.args.i) c.before.args.to (omega arith)
-
-pub bits_to_spec : {M : Type 1} → statement M
-bits_to_spec =
-    tie.close (tie.spec mul_end add_end sub_result cast_result shr_result returns returns_2)
+pub returns : goal.returns
+returns c = all (8 * c.args.i) c.args.to (omega arith)

@@ -10,8 +10,7 @@ use Rattle.rules.specs.Planes.{plane_bytes, entry_in, entries_in, Sized, Holds}
 use Rattle.laws.proofs.Bits.{bit_of_zero}
 use Rattle.laws.proofs.Planes.{length_entries_in, holds_of}
 use Rattle.entries.proofs.Holding.{entry_byte}
-use Rattle.entries.proofs.clear.Statement.{statement}
-use Rattle.entries.proofs.clear.Tie as tie
+use Rattle.entries.proofs.clear.Goals as goal
 
 -- zeros are read wherever
 zeros : (n i : ℕ) → get_or {A = ℕ} (replicate n 0) i 0 ≡ 0
@@ -31,14 +30,5 @@ cleared t table table' e sized =
     n : ℕ
     n = length (entries_in t table)
 
-clear_requires : tie.Need-clear-requires
-clear_requires c κs = search rules
-
-same_length : tie.Need-same-length
-same_length c = search rules
-
-returns : tie.Need-returns
-returns c = λ t sized. cleared t c.before.before.before.before.before.args.table.now _ c.before.before.clear.ensures sized
-
-pub clear_spec : {M : Type 1} → statement M
-clear_spec = tie.close (tie.spec clear_requires same_length returns)
+pub returns : goal.returns
+returns c = λ t sized. cleared t c.args.table.now _ c.clear.ensures sized

@@ -22,8 +22,7 @@ use Rattle.laws.proofs.Tables.{entry_inside, well_says, extent_of, count_is}
 use Rattle.laws.proofs.Widths.{in_32_bits}
 use Rattle.entries.specs.Groups.{InPlanes}
 use Rattle.entries.proofs.Cut.{held_in_planes}
-use Rattle.entries.proofs.is_pair.Statement.{statement}
-use Rattle.entries.proofs.is_pair.Tie as tie
+use Rattle.entries.proofs.is_pair.Goals as goal
 
 -- the entries es in two planes, with no MARK; i is the number of a block k
 module _ (es lows highs : List ℕ) (planes : InPlanes es lows highs) (well : well_formed es ≡ true) (k : ℕ) (inside : k < length es) {i : ℕ} (is : i ≡ k) where
@@ -77,84 +76,25 @@ module _ (es lows highs : List ℕ) (planes : InPlanes es lows highs) (well : we
             sym (eq-eqb (block_count es k) 2 (count_is es k 2 two))
         go false q = sym (ne_eqb (block_count es k) 2 (λ two. (extent_of es k inside).next (rw two (tail_of (k + 2) g eg (eqb-false g 0 q)))))
 
-plane_bytes_requires : tie.Need-plane-bytes-requires
-plane_bytes_requires c κs = search rules
+pub overflow_mul-highs : goal.overflow_mul-highs
+overflow_mul-highs c =
+    in_32_bits (record { fits = omega (arith, c.plane_bytes-half.ensures, c.requires.0.sized.few, (room_entries c.args.t).1) })
 
-sub_lows : tie.Need-overflow-sub-lows
-sub_lows c = search rules
+pub returns-then-plane_bit-eq0 : goal.returns-then-plane_bit-eq0
+returns-then-plane_bit-eq0 c =
+    no_head _ _ _ (held_in_planes c.args.t _ c.args.table.now c.requires.0 c.plane_bytes-half.ensures) c.requires.1.1 c.args.k.0 c.requires.1.0 c.index-i.ensures _ c.plane_bit.ensures c.if-plane_bit-eq0.true
 
-part_lows_start : tie.Need-slice-bounds-lows-start
-part_lows_start c = search rules
+pub overflow_add-i : goal.overflow_add-i
+overflow_add-i c = in_32_bits (record { fits = omega (arith, c.index-i.ensures, c.requires.1.0, few_entries _ _ c.requires.0) })
 
-part_lows_end : tie.Need-slice-bounds-lows-end
-part_lows_end c = search rules
+pub returns-then-plane_bit-eq0-2 : goal.returns-then-plane_bit-eq0-2
+returns-then-plane_bit-eq0-2 c =
+    one_block _ _ _ (held_in_planes c.args.t _ c.args.table.now c.requires.0 c.plane_bytes-half.ensures) c.requires.1.1 c.args.k.0 c.requires.1.0 c.index-i.ensures _ c.plane_bit-2.ensures c.if-plane_bit-eq0-2.true
 
-mul_highs : tie.Need-overflow-mul-highs
-mul_highs c =
-    let b = c.before.before.before in
-    in_32_bits (record { fits = omega (arith, c.before.all_bytes_plane.ensures, b.requires.0.sized.few, (room_entries b.args.t).1) })
+pub overflow_add-i-2 : goal.overflow_add-i-2
+overflow_add-i-2 c = in_32_bits (record { fits = omega (arith, c.index-i.ensures, c.requires.1.0, few_entries _ _ c.requires.0) })
 
-sub_highs : tie.Need-overflow-sub-highs
-sub_highs c = search rules
-
-part_highs_start : tie.Need-slice-bounds-highs-start
-part_highs_start c = search rules
-
-part_highs_end : tie.Need-slice-bounds-highs-end
-part_highs_end c = search rules
-
-index_requires : tie.Need-index-requires
-index_requires c κs = search rules
-
-plane_bit_requires : tie.Need-plane-bit-requires
-plane_bit_requires c κs = search rules
-
-returns : tie.Need-returns
+pub returns : goal.returns
 returns c =
-    let b = c.before.before.before.before.before.before.before in
-    no_head _ _ _ (held_in_planes b.args.t _ b.args.table.now b.requires.0 c.before.before.before.before.before.all_bytes_plane.ensures) b.requires.1.1 b.args.k.0 b.requires.1.0 c.before.before.index.ensures _ c.before.plane-bit.ensures c.if1.true
-
-add_plane_bit : tie.Need-overflow-add-plane-bit
-add_plane_bit c = in_32_bits (record { fits = omega (arith, c.before.before.index.ensures, c.before.before.before.before.before.before.before.requires.1.0, few_entries _ _ c.before.before.before.before.before.before.before.requires.0) })
-
-plane_bit_requires_2 : tie.Need-plane-bit-requires-2
-plane_bit_requires_2 c κs = search rules
-
-returns_2 : tie.Need-returns-2
-returns_2 c =
-    let b = c.before.before.before.before.before.before.before.before.before in
-    one_block _ _ _ (held_in_planes b.args.t _ b.args.table.now b.requires.0 c.before.before.before.before.before.before.before.all_bytes_plane.ensures) b.requires.1.1 b.args.k.0 b.requires.1.0 c.before.before.before.before.index.ensures _ c.before.plane-bit2.ensures c.if2.true
-
-add_plane_bit_2 : tie.Need-overflow-add-plane-bit-2
-add_plane_bit_2 c = in_32_bits (record { fits = omega (arith, c.before.before.before.before.index.ensures, c.before.before.before.before.before.before.before.before.before.requires.1.0, few_entries _ _ c.before.before.before.before.before.before.before.before.before.requires.0) })
-
-plane_bit_requires_3 : tie.Need-plane-bit-requires-3
-plane_bit_requires_3 c κs = search rules
-
-returns_3 : tie.Need-returns-3
-returns_3 c =
-    let b = c.before.before.before.before.before.before.before.before.before.before in
-    two_blocks _ _ _ (held_in_planes b.args.t _ b.args.table.now b.requires.0 c.before.before.before.before.before.before.before.before.all_bytes_plane.ensures) b.requires.1.1 b.args.k.0 b.requires.1.0 c.before.before.before.before.before.index.ensures
-    _ c.before.before.before.before.plane-bit.ensures c.before.before.before.if1.false _ c.before.before.plane-bit2.ensures c.before.if2.false _ c.plane-bit3.ensures
-
-pub is_pair_spec : {M : Type 1} → statement M
-is_pair_spec =
-    tie.close
-    (tie.spec
-    plane_bytes_requires
-    sub_lows
-    part_lows_start
-    part_lows_end
-    mul_highs
-    sub_highs
-    part_highs_start
-    part_highs_end
-    index_requires
-    plane_bit_requires
-    returns
-    add_plane_bit
-    plane_bit_requires_2
-    returns_2
-    add_plane_bit_2
-    plane_bit_requires_3
-    returns_3)
+    two_blocks _ _ _ (held_in_planes c.args.t _ c.args.table.now c.requires.0 c.plane_bytes-half.ensures) c.requires.1.1 c.args.k.0 c.requires.1.0 c.index-i.ensures
+    _ c.plane_bit.ensures c.if-plane_bit-eq0.false _ c.plane_bit-2.ensures c.if-plane_bit-eq0-2.false _ c.plane_bit-3.ensures

@@ -12,8 +12,7 @@ use Rattle.rules.specs.Bits.{bit_of}
 use Rattle.laws.proofs.Bits.{bit_of_ones}
 use Rattle.laws.proofs.Widths.{in_32_bits}
 use Rattle.entries.proofs.Masks.{upper_bits}
-use Rattle.entries.proofs.bits_from.Statement.{statement}
-use Rattle.entries.proofs.bits_from.Tie as tie
+use Rattle.entries.proofs.bits_from.Goals as goal
 
 -- places of the byte at `first` are compared as blocks are
 moved : (first from j : ℕ) → first ≤ from → leb (from - first) j ≡ leb from (first + j)
@@ -29,23 +28,11 @@ some first from l h j hj = rw (← (moved first from j (omega arith))) (upper_bi
 all : (first from : ℕ) → from ≤ first → (j : ℕ) → j < 8 → bit_of 255 j ≡ pick (leb from (first + j)) 1 0
 all first from h j hj = rw (le-leb from (first + j) (omega arith)) (bit_of_ones 8 j hj)
 
-mul_first : tie.Need-overflow-mul-first
-mul_first c = in_32_bits (search rules)
+pub overflow_mul-first : goal.overflow_mul-first
+overflow_mul-first c = in_32_bits (search rules)
 
-sub_result : tie.Need-overflow-sub-result
-sub_result c = search rules
+pub returns-then-first-from : goal.returns-then-first-from
+returns-then-first-from c = some (8 * c.args.i) c.args.from (omega arith) (omega arith)
 
-cast_result : tie.Need-overflow-cast-result
-cast_result c = search rules
-
-shl_result : tie.Need-overflow-shl-result
-shl_result c = search rules
-
-returns : tie.Need-returns
-returns c = some (8 * c.before.args.i) c.before.args.from (omega arith) (omega arith)
-
-returns_2 : tie.Need-returns-2
-returns_2 c = all (8 * c.before.args.i) c.before.args.from (omega arith)
-
-pub bits_from_spec : {M : Type 1} → statement M
-bits_from_spec = tie.close (tie.spec mul_first sub_result cast_result shl_result returns returns_2)
+pub returns : goal.returns
+returns c = all (8 * c.args.i) c.args.from (omega arith)

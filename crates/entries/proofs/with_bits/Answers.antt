@@ -12,8 +12,7 @@ use Rattle.rules.specs.Tests.{pick}
 use Rattle.rules.specs.Bits.{bit_of}
 use Rattle.laws.proofs.Bits.{bit_of_lt, bit_of_zero, bit_of_above, bit_of_and, bit_of_or, bit_of_not}
 use Rattle.laws.proofs.Widths.{as_u8}
-use Rattle.entries.proofs.with_bits.Statement.{statement}
-use Rattle.entries.proofs.with_bits.Tie as tie
+use Rattle.entries.proofs.with_bits.Goals as goal
 
 times_small : (bits to : ℕ) → bits < 256 → to < 2 → bits * to < 256
 times_small bits zero h l = omega arith
@@ -63,11 +62,8 @@ replaced b bits to hb h l j =
     one_of true = omega arith
     one_of false = omega arith
 
-mul_result : tie.Need-overflow-mul-result
-mul_result c = as_u8 (record { fits = times_small c.args.bits c.args.to c.ranges.bits.fits c.requires })
+pub overflow_mul-result : goal.overflow_mul-result
+overflow_mul-result c = as_u8 (record { fits = times_small c.args.bits c.args.to c.ranges.bits.fits c.requires })
 
-returns : tie.Need-returns
+pub returns : goal.returns
 returns c = replaced c.args.b c.args.bits c.args.to c.ranges.b.fits c.ranges.bits.fits c.requires
-
-pub with_bits_spec : {M : Type 1} → statement M
-with_bits_spec = tie.close (tie.spec mul_result returns)

@@ -1,0 +1,15 @@
+-- `bit`: the shift and the mask take one bit.
+-- Assumes nothing.
+use Prim.Native.Nat.{◌/◌, ◌^◌}
+use native.Mathlib.Omega.{arith}
+use lib.Bits.{and_mask, mask_lt}
+use borrow.Author.Rules.{rules}
+use Rattle.rules.specs.Bits.{bit_of}
+use Rattle.entries.proofs.bit.Goals as goal
+
+pub overflow_cast-result-3 : goal.overflow_cast-result-3
+overflow_cast-result-3 c = record { fits = omega (arith, mask_lt (c.args.b / 2 ^ c.args.j) 1) }
+
+pub returns : goal.returns
+unfolding bit_of
+returns c = and_mask (c.args.b / 2 ^ c.args.j) 1
