@@ -1,0 +1,17 @@
+-- `past_tails`: the blocks passed are TAILs; the first 64 that hold another end the scan.
+-- Assumes nothing.
+use mathlib.Core.Path.{◌≡◌}
+use Prim.Native.Nat.{◌+◌, ◌-◌, ◌*◌, ◌≤◌}
+use native.Mathlib.Omega.{arith}
+use borrow.Author.Rules.{rules}
+use Rattle.rules.specs.Planes.{entries_in}
+use Rattle.laws.proofs.Planes.{few_entries}
+use Rattle.laws.proofs.Widths.{in_32_bits}
+use Rattle.backscan.proofs.Tails.{Tails, tails_join, up_to_last, tails_here, back_to, back_first}
+use Rattle.backscan.proofs.past_tails.Given as goal
+
+abbrev pub invariant-loop-at : goal.invariant-loop-at
+invariant-loop-at l = (l.at ≤ l.i) × Tails (entries_in l.t l.table) (64 * l.at) (64 * l.i)
+
+abbrev pub decreases-loop-at : goal.decreases-loop-at
+decreases-loop-at l = l.at

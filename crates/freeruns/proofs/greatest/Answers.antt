@@ -1,0 +1,12 @@
+-- `greatest`: the branch says which of the two it is.
+-- Assumes nothing.
+use mathlib.Core.Path.{refl}
+use mathlib.Core.Logic.{inl, inr}
+use native.Mathlib.Omega.{arith}
+use Rattle.freeruns.proofs.greatest.Goals as goal
+
+pub returns-then-a-b : goal.returns-then-a-b
+returns-then-a-b c = (omega arith, (omega arith, inr refl))
+
+pub returns : goal.returns
+returns c = (omega arith, (omega arith, inl refl))
