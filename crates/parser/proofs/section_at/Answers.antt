@@ -19,8 +19,7 @@ use Rattle.laws.proofs.Sections.{right_count, count_cut, count_wrong, body_cut}
 use Rattle.laws.proofs.Widths.{in_32_bits, in_slice}
 use Rattle.parser.specs.declared.Section.{Section}
 use Rattle.parser.specs.Reading.{kind_by, Small, Reads}
-use Rattle.parser.proofs.section_at.Statement.{statement}
-use Rattle.parser.proofs.section_at.Tie as tie
+use Rattle.parser.proofs.section_at.Goals as goal
 
 -- what is counted, and all of its bytes, are few
 few : (k : Kind) (bs : List ℕ) {n : ℕ} → Small k → right_count k bs ≡ true → n ≡ first_two bs → k.size * n ≤ 65536
@@ -58,78 +57,31 @@ module _ (image : List ℕ) (at : ℕ) (k : Kind) where
         end = λ z. refl;
       }
 
-returns : tie.Need-returns
-returns c = cut _ _ _ c.no-section.ensures c.before.if1.true
+pub returns-then-left-lt2 : goal.returns-then-left-lt2
+returns-then-left-lt2 c = cut _ _ _ c.no_section.ensures c.if-left-lt2.true
 
-sub_left : tie.Need-overflow-sub-left
-sub_left c = search rules
+pub returns-then-not-allows : goal.returns-then-not-allows
+returns-then-not-allows c =
+    wrong _ _ _ c.if-left-lt2.false c.no_section-then-not-allows.ensures c.requires.1.wrong
+    (rw c.two_bytes-count.ensures at (sym c.allows.ensures ∙ c.if-not-allows.true))
 
-no_section_requires : tie.Need-no-section-requires
-no_section_requires c κs = search rules
+pub overflow_mul-size : goal.overflow_mul-size
+overflow_mul-size c =
+    let is_right : let a = c.args in right_count (kind_by a.kind) (drop a.at a.image.now) ≡ true = rw c.two_bytes-count.ensures at (sym c.allows.ensures ∙ c.if-not-allows.false) in
+    in_32_bits (record { fits = omega (arith, few _ _ c.requires.1 is_right c.two_bytes-count.ensures) })
 
-two_bytes_requires : tie.Need-two-bytes-requires
-two_bytes_requires c κs = search rules
+pub returns-then-left-size : goal.returns-then-left-size
+returns-then-left-size c =
+    let is_right : let a = c.args in right_count (kind_by a.kind) (drop a.at a.image.now) ≡ true = rw c.two_bytes-count.ensures at (sym c.allows.ensures ∙ c.if-not-allows.false) in
+    short _ _ _ c.if-left-lt2.false is_right c.two_bytes-count.ensures c.no_section-then-left-size.ensures c.if-left-size.true
 
-allows_requires : tie.Need-allows-requires
-allows_requires c κs = search rules
+pub overflow_add-result : goal.overflow_add-result
+overflow_add-result c = in_slice c.args.image.now (search rules) (search rules)
 
-no_section_requires_2 : tie.Need-no-section-requires-2
-no_section_requires_2 c κs = search rules
+pub overflow_add-result-2 : goal.overflow_add-result-2
+overflow_add-result-2 c = in_slice c.args.image.now (search rules) (search rules)
 
-returns_2 : tie.Need-returns-2
-returns_2 c =
-    let counted = c.before.before.before in
-    let start = counted.before.before.before in
-    wrong _ _ _ counted.before.if1.false c.no-section2.ensures start.requires.1.wrong
-    (rw counted.two_bytes.ensures at (sym c.before.before.allows.ensures ∙ not-true _ c.before.if2.true))
-
-abbrev start : tie.Else2 → tie.Start
-start c = c.before.before.before.before.before
-
--- there may be as many as it counts
-is_right : (c : tie.Else2) → let a = (start c).args in right_count (kind_by a.kind) (drop a.at a.image.now) ≡ true
-is_right c = rw c.before.before.two_bytes.ensures at (sym c.before.allows.ensures ∙ not-false _ c.if2.false)
-
-mul_size : tie.Need-overflow-mul-size
-mul_size c =
-    let counted = c.before.before.before in
-    in_32_bits (record { fits = omega (arith, few _ _ counted.before.before.before.requires.1 (is_right c.before) counted.two_bytes.ensures) })
-
-no_section_requires_3 : tie.Need-no-section-requires-3
-no_section_requires_3 c κs = search rules
-
-returns_3 : tie.Need-returns-3
-returns_3 c =
-    let right = c.before.before.before in
-    let counted = right.before.before in
-    short _ _ _ counted.before.if1.false (is_right right) counted.two_bytes.ensures c.no-section3.ensures c.before.if3.true
-
-add_t7 : tie.Need-overflow-add-t7
-add_t7 c = in_slice (start c.before.before).args.image.now (search rules) (search rules)
-
-add_t10 : tie.Need-overflow-add-t10
-add_t10 c = in_slice (start c.before.before).args.image.now (search rules) (search rules)
-
-returns_4 : tie.Need-returns-4
-returns_4 c =
-    let right = c.before.before in
-    let counted = right.before.before in
-    whole _ _ _ counted.before.if1.false (is_right right) counted.two_bytes.ensures c.if3.false
-
-pub section_at_spec : {M : Type 1} → statement M
-section_at_spec =
-    tie.close
-    (tie.spec
-    sub_left
-    no_section_requires
-    returns
-    two_bytes_requires
-    allows_requires
-    no_section_requires_2
-    returns_2
-    mul_size
-    no_section_requires_3
-    returns_3
-    add_t7
-    add_t10
-    returns_4)
+pub returns : goal.returns
+returns c =
+    let is_right : let a = c.args in right_count (kind_by a.kind) (drop a.at a.image.now) ≡ true = rw c.two_bytes-count.ensures at (sym c.allows.ensures ∙ c.if-not-allows.false) in
+    whole _ _ _ c.if-left-lt2.false is_right c.two_bytes-count.ensures c.if-left-size.false
