@@ -47,15 +47,15 @@ module _ (t : ℕ) (table : List ℕ) (good : Bool) where
       go true true true false = refl
       go true true true true = refl
 
-  pub ill_shaped : {g : Bool} → g ≡ shapely → not g ≡ true → 1 ≡ first
-  ill_shaped e n = sym (rw (sym e ∙ not-true _ n) at by_two)
+  pub ill_shaped : {g : Bool} → g ≡ shapely → g ≡ false → 1 ≡ first
+  ill_shaped e n = sym (rw (sym e ∙ n) at by_two)
 
-  module _ {g w : Bool} (e : g ≡ shapely) (fine : not g ≡ false) (q : w ≡ sound) where
-    pub ill_formed : not w ≡ true → 2 ≡ first
-    ill_formed n = sym (rw (sym e ∙ not-false _ fine, sym q ∙ not-true _ n) at by_two)
+  module _ {g w : Bool} (e : g ≡ shapely) (fine : g ≡ true) (q : w ≡ sound) where
+    pub ill_formed : w ≡ false → 2 ≡ first
+    ill_formed n = sym (rw (sym e ∙ fine, sym q ∙ n) at by_two)
 
-    pub neither : not w ≡ false → 0 ≡ first
-    neither n = sym (rw (sym e ∙ not-false _ fine, sym q ∙ not-false _ n) at by_two)
+    pub neither : w ≡ true → 0 ≡ first
+    neither n = sym (rw (sym e ∙ fine, sym q ∙ n) at by_two)
 
 -- 1, whatever the shape: a list is no whole number of words
 pub torn : (t : ℕ) (pool table : List ℕ) (good : Bool) (us : List Test) → later us ≡ true → good ≡ false → 1 ≡ refusal_by t pool table (λ (h : Heap). first_tests good h ++ us)

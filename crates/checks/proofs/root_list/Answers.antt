@@ -12,8 +12,7 @@ use Rattle.laws.proofs.Refusals.{first_yes, first_last, both_false, both_true}
 use Rattle.laws.proofs.Memory.{refused_first_in, refused_next_in}
 use Rattle.checks.specs.Refusal.{refusal_by}
 use Rattle.checks.proofs.FirstTests.{torn}
-use Rattle.checks.proofs.root_list.Statement.{statement}
-use Rattle.checks.proofs.root_list.Tie as tie
+use Rattle.checks.proofs.root_list.Goals as goal
 
 module _ (base t : ℕ) (pool table roots : List ℕ) {n : ℕ} (long : length roots ≡ n) where
   abbrev h : Heap
@@ -47,20 +46,17 @@ module _ (base t : ℕ) (pool table roots : List ℕ) {n : ℕ} (long : length r
     none : {r : ℕ} → r ≡ refusal_by t pool table (λ (h : Heap). heap_tests base h) → r ≡ 0 → n / 4 ≤ 4096 → 0 ≡ answer
     none e z q = passed e z (sym (first_last _ (rw long (le-ltb _ _ q))))
 
-returns : tie.Need-returns
-returns c = λ roots long. torn_roots _ _ _ _ roots long c.if1.true
+pub returns-then-bytes-ne0 : goal.returns-then-bytes-ne0
+returns-then-bytes-ne0 c = λ roots long. torn_roots _ _ _ _ roots long c.if-bytes-ne0.true
 
-heap_requires : tie.Need-heap-requires
-heap_requires c κs = tt
+pub heap-r-requires : goal.heap-r-requires
+heap-r-requires c = tt
 
-returns_2 : tie.Need-returns-2
-returns_2 c = λ roots long. refused _ _ _ _ roots long c.before.before.if1.false c.before.heap.ensures c.if2.true
+pub returns-then-r-ne0 : goal.returns-then-r-ne0
+returns-then-r-ne0 c = λ roots long. refused _ _ _ _ roots long c.if-bytes-ne0.false c.heap-r.ensures c.if-r-ne0.true
 
-returns_3 : tie.Need-returns-3
-returns_3 c = λ roots long. many _ _ _ _ roots long c.before.before.before.if1.false c.before.before.heap.ensures c.before.if2.false c.if3.true
+pub returns-then-bytes-gt-MAX_ROOTS : goal.returns-then-bytes-gt-MAX_ROOTS
+returns-then-bytes-gt-MAX_ROOTS c = λ roots long. many _ _ _ _ roots long c.if-bytes-ne0.false c.heap-r.ensures c.if-r-ne0.false c.if-bytes-gt-MAX_ROOTS.true
 
-returns_4 : tie.Need-returns-4
-returns_4 c = λ roots long. none _ _ _ _ roots long c.before.before.before.if1.false c.before.before.heap.ensures c.before.if2.false c.if3.false
-
-pub root_list_spec : {M : Type 1} → statement M
-root_list_spec = tie.close (tie.spec returns heap_requires returns_2 returns_3 returns_4)
+pub returns : goal.returns
+returns c = λ roots long. none _ _ _ _ roots long c.if-bytes-ne0.false c.heap-r.ensures c.if-r-ne0.false c.if-bytes-gt-MAX_ROOTS.false

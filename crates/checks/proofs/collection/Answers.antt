@@ -12,8 +12,7 @@ use Rattle.laws.proofs.Refusals.{first_yes, first_last, both_false, both_true}
 use Rattle.laws.proofs.Memory.{refused_first_in, refused_next_in}
 use Rattle.checks.specs.Refusal.{refusal_by}
 use Rattle.checks.proofs.FirstTests.{torn}
-use Rattle.checks.proofs.collection.Statement.{statement}
-use Rattle.checks.proofs.collection.Tie as tie
+use Rattle.checks.proofs.collection.Goals as goal
 
 module _ (base t : ℕ) (pool table roots stack : List ℕ) where
   abbrev h : Heap
@@ -47,20 +46,17 @@ module _ (base t : ℕ) (pool table roots stack : List ℕ) where
     none : {r : ℕ} → r ≡ refusal_by t pool table (λ (h : Heap). root_tests base h roots) → r ≡ 0 → length stack / 4 ≤ 64 → 0 ≡ answer
     none e z q = passed e z (sym (first_last _ (le-ltb _ _ q)))
 
-returns : tie.Need-returns
-returns c = λ roots e. torn_stack _ _ _ _ roots _ c.if1.true
+pub returns-then-stack-ne0 : goal.returns-then-stack-ne0
+returns-then-stack-ne0 c = λ roots e. torn_stack _ _ _ _ roots _ c.if-stack-ne0.true
 
-root_list_requires : tie.Need-root-list-requires
-root_list_requires c κs = tt
+pub root_list-r-requires : goal.root_list-r-requires
+root_list-r-requires c = tt
 
-returns_2 : tie.Need-returns-2
-returns_2 c = λ roots e. refused _ _ _ _ roots _ c.before.before.if1.false (c.before.root_list.ensures roots e) c.if2.true
+pub returns-then-r-ne0 : goal.returns-then-r-ne0
+returns-then-r-ne0 c = λ roots e. refused _ _ _ _ roots _ c.if-stack-ne0.false (c.root_list-r.ensures roots e) c.if-r-ne0.true
 
-returns_3 : tie.Need-returns-3
-returns_3 c = λ roots e. long _ _ _ _ roots _ c.before.before.before.if1.false (c.before.before.root_list.ensures roots e) c.before.if2.false c.if3.true
+pub returns-then-stack-gt-MAX_STACK_ENTRIES : goal.returns-then-stack-gt-MAX_STACK_ENTRIES
+returns-then-stack-gt-MAX_STACK_ENTRIES c = λ roots e. long _ _ _ _ roots _ c.if-stack-ne0.false (c.root_list-r.ensures roots e) c.if-r-ne0.false c.if-stack-gt-MAX_STACK_ENTRIES.true
 
-returns_4 : tie.Need-returns-4
-returns_4 c = λ roots e. none _ _ _ _ roots _ c.before.before.before.if1.false (c.before.before.root_list.ensures roots e) c.before.if2.false c.if3.false
-
-pub collection_spec : {M : Type 1} → statement M
-collection_spec = tie.close (tie.spec returns root_list_requires returns_2 returns_3 returns_4)
+pub returns : goal.returns
+returns c = λ roots e. none _ _ _ _ roots _ c.if-stack-ne0.false (c.root_list-r.ensures roots e) c.if-r-ne0.false c.if-stack-gt-MAX_STACK_ENTRIES.false

@@ -11,8 +11,7 @@ use Rattle.rules.specs.Planes.{heap_at}
 use Rattle.laws.proofs.Planes.{few_entries}
 use Rattle.laws.proofs.Refusals.{first_yes, first_last, first_more, refused_first, named}
 use Rattle.laws.proofs.Widths.{in_32_bits}
-use Rattle.checks.proofs.object_word.Statement.{statement}
-use Rattle.checks.proofs.object_word.Tie as tie
+use Rattle.checks.proofs.object_word.Goals as goal
 
 -- what the last test says, of an object of b blocks
 module _ (h : Heap) (k i : ℕ) {r b : ℕ} (test : r ≡ first_of (name_tests h k)) (ok : r ≡ 0) (count : b ≡ block_count h.entries k) where
@@ -22,28 +21,25 @@ module _ (h : Heap) (k i : ℕ) {r b : ℕ} (test : r ≡ first_of (name_tests h
   within : i < 4 * b → 0 ≡ first_of (name_tests h k ++ no_word h k i ∷ [])
   within l = sym (first_more (name_tests h k) _ refl (sym test ∙ ok) ∙ first_last _ (lt-leb _ _ (rw count at l)))
 
-named_requires : tie.Need-named-requires
-named_requires c κs = c.before.requires
+pub named-r-requires : goal.named-r-requires
+named-r-requires c = c.requires
 
-returns : tie.Need-returns
-returns c = refused_first _ _ c.before.named.ensures c.if1.true
+pub returns-then-r-ne0 : goal.returns-then-r-ne0
+returns-then-r-ne0 c = refused_first _ _ c.named-r.ensures c.if-r-ne0.true
 
-block_count_requires : tie.Need-block-count-requires
-block_count_requires c κs =
-    let a = c.before.before.before.args in
-    (c.before.before.before.requires, (named (heap_at a.t [] a.table.now) a.k.0 [] (sym c.before.named.ensures ∙ c.if1.false)).inside)
+pub block_count-requires : goal.block_count-requires
+block_count-requires c =
+    let a = c.args in
+    (c.requires, (named (heap_at a.t [] a.table.now) a.k.0 [] (sym c.named-r.ensures ∙ c.if-r-ne0.false)).inside)
 
-mul_if2 : tie.Need-overflow-mul-if2
-mul_if2 c =
-    let few = few_entries _ _ c.before.before.before.before.requires in
-    let end = c.block_count_is.ensures.1 in
+pub overflow_mul-block_count : goal.overflow_mul-block_count
+overflow_mul-block_count c =
+    let few = few_entries _ _ c.requires in
+    let end = c.block_count.ensures.1 in
     in_32_bits (omega arith)
 
-returns_2 : tie.Need-returns-2
-returns_2 c = past (heap_at _ [] _) _ _ c.before.before.before.named.ensures c.before.before.if1.false c.before.block_count_is.ensures.0 c.if2.true
+pub returns-then-block_count-i : goal.returns-then-block_count-i
+returns-then-block_count-i c = past (heap_at _ [] _) _ _ c.named-r.ensures c.if-r-ne0.false c.block_count.ensures.0 c.if-block_count-i.true
 
-returns_3 : tie.Need-returns-3
-returns_3 c = within (heap_at _ [] _) _ _ c.before.before.before.named.ensures c.before.before.if1.false c.before.block_count_is.ensures.0 c.if2.false
-
-pub object_word_spec : {M : Type 1} → statement M
-object_word_spec = tie.close (tie.spec named_requires returns block_count_requires mul_if2 returns_2 returns_3)
+pub returns : goal.returns
+returns c = within (heap_at _ [] _) _ _ c.named-r.ensures c.if-r-ne0.false c.block_count.ensures.0 c.if-block_count-i.false

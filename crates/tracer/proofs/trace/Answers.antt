@@ -1,0 +1,67 @@
+-- Tracing the next object from the present state ends where tracing the first one ends. The measure is the HEADs and the depth.
+-- Assumes nothing.
+use mathlib.Core.Path.{◌≡◌, refl, ap, ◌∙◌}
+use mathlib.Core.Bool.{Bool}
+use Prim.Native.Nat.{◌-◌, ◌<◌}
+use native.Mathlib.Omega.{arith}
+use borrow.Author.Rules.{rules}
+use lib.ListN.{length}
+use Rattle.rules.specs.Planes.{entries_in}
+use Rattle.rules.specs.Marking.{trace}
+use Rattle.laws.proofs.Marking.{to_drain}
+use Rattle.visitor.specs.Variables.{context_of, state_of, idle, CanTrace}
+use Rattle.tracer.proofs.Turning.{can_start, Popped, popped, trace_end}
+use Rattle.tracer.proofs.trace.Goals as goal
+
+pub loop-base-init : goal.loop-base-init
+loop-base-init c =
+    let a = c.args in
+    (can_start a.base.0 a.t a.pool.now a.table.now a.stack.now _ c.requires.shape refl c.first.ensures c.first-2.ensures, c.requires.k_in_bounds, refl, refl, refl)
+
+pub walk-walked-requires : goal.walk-walked-requires
+walk-walked-requires c =
+    let l = c.loop-base in record { shape = l.invariant.0.shape; depth_in_bounds = (l.invariant.0.deep, (l.invariant.1, l.invariant.0.knows)) }
+
+pub returns-then-walked-eq0 : goal.returns-then-walked-eq0
+returns-then-walked-eq0 c =
+    let a = c.args in
+    let l = c.loop-base in
+    let w = c.walk-walked in (
+      w.ensures.is_table,
+      trace_end a.base.0 a.t a.pool.now a.stack.now l.table l.stack l.left l.invariant.0 l.invariant.3 l.next.0 w.new.table w.new.stack w.result
+          w.ensures c.if-walked-eq0.true ∙ l.invariant.4
+          ∙ ap (λ (o : Bool). trace (context_of a.base.0 a.pool.now a.stack.now) a.k.0 (idle a.t a.table.now o)) c.lost_by.ensures,
+    )
+
+pub word-requires : goal.word-requires
+word-requires c = omega (arith, c.walk-walked.ensures.deep, c.if-walked-eq0.false)
+
+pub loop-base-smaller : goal.loop-base-smaller
+loop-base-smaller c =
+    let turned : let a = c.args in
+    let l = c.loop-base in
+    let w = c.walk-walked in
+    Popped a.base.0 a.t a.pool.now a.stack.now l.table l.stack l.left l.next.0 w.new.table w.new.stack
+    (record { depth = w.result.depth - 1; lost = w.result.lost; first = w.result.first; last = w.result.last }) c.of_word-next.result.0 =
+    let a = c.args in
+    let l = c.loop-base in
+    let w = c.walk-walked in
+    popped a.base.0 a.t a.pool.now a.stack.now l.table l.stack l.left l.invariant.0 l.invariant.3 l.next.0 w.new.table w.new.stack w.result
+    w.ensures c.of_word-next.result.0 (omega (arith, c.if-walked-eq0.false)) (c.of_word-next.ensures ∙ c.word.ensures) in
+    turned.less
+
+pub loop-base-preserved : goal.loop-base-preserved
+loop-base-preserved c =
+    let turned : let a = c.args in
+    let l = c.loop-base in
+    let w = c.walk-walked in
+    Popped a.base.0 a.t a.pool.now a.stack.now l.table l.stack l.left l.next.0 w.new.table w.new.stack
+    (record { depth = w.result.depth - 1; lost = w.result.lost; first = w.result.first; last = w.result.last }) c.of_word-next.result.0 =
+    let a = c.args in
+    let l = c.loop-base in
+    let w = c.walk-walked in
+    popped a.base.0 a.t a.pool.now a.stack.now l.table l.stack l.left l.invariant.0 l.invariant.3 l.next.0 w.new.table w.new.stack w.result
+    w.ensures c.of_word-next.result.0 (omega (arith, c.if-walked-eq0.false)) (c.of_word-next.ensures ∙ c.word.ensures) in
+    let l = c.loop-base in
+    let w = c.walk-walked in
+    (turned.can, turned.inside, w.auto.table ∙ l.invariant.2, w.auto.stack ∙ l.invariant.3, turned.same ∙ l.invariant.4)
