@@ -21,7 +21,7 @@ use Rattle.rules.specs.Memory.{Memory, memory, Sound, Result, result, AcceptedIn
 use Rattle.laws.proofs.Planes.{planes_faithful, is_table, table_sound}
 use Rattle.laws.proofs.Tables.{extent_of}
 use Rattle.checks.proofs.FirstTests.{sized_by}
-use Rattle.laws.proofs.Refusals.{refusal_is, true_not_false, both_false, both_left, both_right, not-false, not-true, first_last, first_none, accepts, passed, named_object, after_names}
+use Rattle.laws.proofs.Refusals.{refusal_is, true_not_false, both_false, both_left, both_right, first_last, first_none, accepts, passed, named_object, after_names}
 use Rattle.laws.proofs.Memory.{fault_refuses, tests_own, passes_in, refusal_in, sound_of, refused_first_in, refused_next_in, left_in, acted_in}
 use Rattle.checks.specs.Refusal.{refusal_by}
 use Rattle.heap.specs.Answers.{status, surveyed, loaded}
@@ -78,18 +78,18 @@ module _ (t base : ℕ) (pool table : List ℕ) where
   -- ---- init
 
   module _ {g : Bool} (test : g ≡ both (good_shape base h) ((planes t).fits table)) where
-    pub init_refused : not g ≡ true → status 1 pool table ≡ perform (planes t) (Init base) [] m
+    pub init_refused : g ≡ false → status 1 pool table ≡ perform (planes t) (Init base) [] m
     unfolding step init first_of
     init_refused n =
         refused (Init base) (refusal_is (first_of (init_tests base h)) h [] _ (λ _. refl))
-        (sym (init_number (good_shape base h) ((planes t).fits table) (sym test ∙ not-true _ n))) (λ z. omega arith)
+        (sym (init_number (good_shape base h) ((planes t).fits table) (sym test ∙ n))) (λ z. omega arith)
 
-    pub init_done : (after : List ℕ) → not g ≡ false → AllBytes after → ((t : ℕ) → Sized t table → Holds t (replicate (length (entries_in t table)) 0) after)
+    pub init_done : (after : List ℕ) → g ≡ true → AllBytes after → ((t : ℕ) → Sized t table → Holds t (replicate (length (entries_in t table)) 0) after)
         → status 0 pool after ≡ perform (planes t) (Init base) [] m
     unfolding step init
     init_done after n bytes done =
-        let e = sym test ∙ not-false _ n in
-        let d = done t (sized_by base t pool table test (not-false _ n)) in
+        let e = sym test ∙ n in
+        let d = done t (sized_by base t pool table test n) in
         acted_in (planes t) (planes_faithful t) (Init base) [] m (memory pool after) [] (only_refusal 0) (both_right (good_shape base h) _ e) refl bytes (table_sound t pool after d.is_table) refl
         (rw d.entries (sym (accepts _ _ _ (first_last (bad_shape (good_shape base h)) (ap not (both_left (good_shape base h) _ e))))))
 

@@ -15,8 +15,7 @@ use Rattle.rules.specs.Calls.{placing, shrunk}
 use Rattle.laws.proofs.Calls.{shrink_change}
 use Rattle.objects.specs.Held.{Held}
 use Rattle.objects.proofs.Held.{held_few, held_room, change_is}
-use Rattle.objects.proofs.shrink.Statement.{statement}
-use Rattle.objects.proofs.shrink.Tie as tie
+use Rattle.objects.proofs.shrink.Goals as goal
 
 shrinks : (t : ℕ) (pool table after : List ℕ) (k old new end : ℕ) (d : ℤ) → Held t pool table k old → (0 < new) × (new ≤ old) → end ≡ k + new
     → Holds t (released (entries_in t table) end (old - new)) after → d ≡ sub_ℕ new old
@@ -28,33 +27,21 @@ shrinks t pool table after k old new end d held (some, fewer) e q p =
     let change = shrink_change (entries_in t table) k new held.head some (rw held.count at fewer) in
     (q.is_table, rw (change_is new old d (omega arith) (omega arith) p, q.entries, e, rw (sym held.count) at change))
 
-plus_requires : tie.Need-plus-requires
-plus_requires c κs =
-    let held = c.before.before.before.requires.0 in
+pub plus-requires : goal.plus-requires
+plus-requires c =
+    let held = c.requires.held in
     omega (arith, held_room held, held_few held)
 
-sub_release : tie.Need-overflow-sub-release
-sub_release c = search rules
+pub release-requires : goal.release-requires
+release-requires c = let held = c.requires.held in (held.is_table, omega (arith, held_room held))
 
-release_requires : tie.Need-release-requires
-release_requires c κs = let held = c.before.before.before.before.requires.0 in (held.is_table, omega (arith, held_room held))
-
-difference_requires : tie.Need-difference-requires
-difference_requires c κs =
-    let held = c.before.before.before.before.before.before.before.requires.0 in
+pub difference-requires : goal.difference-requires
+difference-requires c =
+    let held = c.requires.held in
     let room = held_room held in
     let few = held_few held in
     (omega arith, omega arith)
 
-same_length : tie.Need-same-length
-same_length c = search rules
-
-returns : tie.Need-returns
+pub returns : goal.returns
 returns c =
-    let s = c.before.before.before.before.before.before.before.before in
-    shrinks _ _ _ _ _ _ _ _ _ s.requires.0 s.requires.1 c.before.before.before.before.plus.ensures c.before.before.before.release.ensures c.difference.ensures
-
-pub shrink_spec : {M : Type 1} → statement M
-shrink_spec =
-    tie.close
-    (tie.spec plus_requires sub_release release_requires difference_requires same_length returns)
+    shrinks _ _ _ _ _ _ _ _ _ c.requires.held c.requires.nonzero c.plus.ensures c.release.ensures c.difference.ensures

@@ -1,0 +1,12 @@
+-- `heap::init` meets its contract. Assumes nothing.
+use borrow.Author.Rules.{rules}
+use Rattle.heap.proofs.Ends.{init_refused, init_done}
+use Rattle.heap.proofs.init.Goals as goal
+
+pub returns-then-not-good_shape : goal.returns-then-not-good_shape
+returns-then-not-good_shape c = init_refused _ _ _ _ c.good_shape.ensures c.if-not-good_shape.true
+
+pub returns : goal.returns
+returns c =
+    init_done _ _ _ _ c.good_shape.ensures _ c.if-not-good_shape.false
+    (λ i. (c.slice_known-2-1.given i).fits) c.clear.ensures

@@ -1,0 +1,29 @@
+-- The roots that are left, from the present state, end where all the roots end from the first. The measure is how many are left.
+-- Assumes nothing.
+use mathlib.Core.Path.{◌≡◌, refl, ◌∙◌}
+use mathlib.Core.Bool.{false}
+use mathlib.Core.List.{◌∷◌}
+use Prim.Native.Nat.{◌+◌, ◌-◌, ◌/◌}
+use native.Mathlib.Omega.{arith}
+use borrow.Author.Rules.{rules}
+use lib.ListN.{length, drop}
+use Rattle.rules.specs.Words.{words_of}
+use Rattle.rules.specs.Planes.{IsTable}
+use Rattle.rules.specs.Marking.{mark_roots}
+use Rattle.laws.proofs.Words.{length_words_of}
+use Rattle.laws.proofs.Marking.{roots_end}
+use Rattle.laws.proofs.Widths.{in_32_bits}
+use Rattle.visitor.specs.Variables.{context_of, idle}
+use Rattle.tracer.proofs.Turning.{shape_same}
+use Rattle.marker.proofs.Turning.{roots_next}
+use Rattle.marker.proofs.mark_roots.Given as goal
+
+abbrev pub invariant-loop-i : goal.invariant-loop-i
+invariant-loop-i l =
+    IsTable l.t l.table
+    × (length l.table ≡ length l.initial.table)
+    × (length l.stack ≡ length l.initial.stack)
+    × (mark_roots (context_of l.base.0 l.pool l.initial.stack) (drop l.i (l.first ∷ words_of l.roots)) (idle l.t l.table l.overflow) ≡ mark_roots (context_of l.base.0 l.pool l.initial.stack) (l.first ∷ words_of l.roots) (idle l.t l.initial.table false))
+
+abbrev pub decreases-loop-i : goal.decreases-loop-i
+decreases-loop-i l = length l.roots / 4 + 1 - l.i
