@@ -1,0 +1,19 @@
+-- What is left of the heads leads to what all of them come to. The measure is how many entries may still be passed.
+-- Assumes nothing.
+use mathlib.Core.Path.{◌≡◌, refl, sym, ◌∙◌}
+use Prim.Native.Nat.{suc, ◌-◌}
+use native.Mathlib.Omega.{arith}
+use borrow.Author.Rules.{rules}
+use borrow.Author.Tests.{eqb-true, eqb-false}
+use Rattle.laws.proofs.Refusals.{not-true, not-false}
+use Rattle.logs.specs.Heads.{heads_from}
+use Rattle.chain.specs.Walks.{loads_in}
+use Rattle.chain.proofs.Walking.{walk_on, Walks, ended, too_many, stopped}
+use Rattle.chain.proofs.follow.Given as goal
+
+abbrev pub invariant-loop-w : goal.invariant-loop-w
+invariant-loop-w l =
+    Walks (loads_in l.base.0 l.t l.pool l.table) l.base.0 l.index l.initial.w.last.0 l.initial.w.wanted.0 (heads_from (loads_in l.base.0 l.t l.pool l.table) l.base.0 4096 l.initial.w.at.0) l.w
+
+abbrev pub decreases-loop-w : goal.decreases-loop-w
+decreases-loop-w l = 4096 - l.w.count
