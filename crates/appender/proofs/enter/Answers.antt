@@ -1,0 +1,39 @@
+-- The three stores, one behind the other. Assumes nothing.
+use mathlib.Core.Path.{◌∙◌}
+use mathlib.Core.List.{[]}
+use borrow.Author.Rules.{rules}
+use mir.Syntax.{w32}
+use mir.ValLaws.{to_z-of_z}
+use Rattle.appender.proofs.Asking.{stays_checked}
+use Rattle.appender.proofs.Bounds.{below_address}
+use Rattle.appender.proofs.Replies.{enters_first, enters_behind}
+use Rattle.appender.proofs.enter.Goals as goal
+
+pub of_block-requires : goal.of_block-requires
+of_block-requires c = below_address _ _ c.requires.0
+
+pub to_word-own-requires : goal.to_word-own-requires
+to_word-own-requires c = rw c.of_block.ensures c.requires.0
+
+pub store_checked-requires : goal.store_checked-requires
+store_checked-requires c = c.requires.1
+
+pub store_checked-requires-2 : goal.store_checked-requires-2
+store_checked-requires-2 c = stays_checked _ _ _ [] _ c.store_checked.ensures c.requires.1
+
+pub returns-then-w-eq0 : goal.returns-then-w-eq0
+returns-then-w-eq0 c ks stack last =
+    let a = c.args in
+    rw (to_z-of_z w32 a.change (search (rules, c.ranges)))
+    (enters_first a.t a.base.0 a.first a.time a.tips a.k.0 a.w a.change a.table.now a.pool.now _ _ c.store_checked.ensures c.store_checked-2.ensures
+    (c.to_word-own.ensures ∙ c.of_block.ensures) ks stack last c.if-w-eq0.true)
+
+pub store_checked-requires-3 : goal.store_checked-requires-3
+store_checked-requires-3 c = stays_checked _ _ _ [] _ c.store_checked-2.ensures (stays_checked _ _ _ [] _ c.store_checked.ensures c.requires.1)
+
+pub returns : goal.returns
+returns c ks stack last =
+    let a = c.args in
+    rw (to_z-of_z w32 a.change (search (rules, c.ranges)))
+    (enters_behind a.t a.base.0 a.first a.time a.tips a.k.0 a.w a.change a.table.now a.pool.now _ _ c.store_checked.ensures c.store_checked-2.ensures
+    (c.to_word-own.ensures ∙ c.of_block.ensures) ks stack last _ c.if-w-eq0.false c.store_checked-3.ensures)

@@ -1,0 +1,14 @@
+-- `blockheap::blockheap_survey` meets its contract: clamping changes no answer. Assumes nothing.
+use mathlib.Core.Path.{◌∙◌}
+use mathlib.Core.List.{[]}
+use borrow.Author.Rules.{rules}
+use Rattle.rules.specs.Runs.{Survey}
+use Rattle.laws.proofs.Clamped.{call_clamped}
+use Rattle.services.proofs.Entries.{call_served}
+use Rattle.blockheap.proofs.blockheap_survey.Goals as goal
+
+pub returns : goal.returns
+returns c =
+    let a = c.args in
+    call_served a.t [] _ (Survey a.base) _
+    ((rw (c.of_number.ensures, c.clamped.ensures) at c.survey-s.ensures) ∙ call_clamped a.t (Survey a.base) [] _)

@@ -1,0 +1,27 @@
+-- Each test in turn, with what is known once those before it have passed.
+-- Assumes nothing.
+use mathlib.Core.Path.{sym, ◌∙◌}
+use borrow.Author.Rules.{rules}
+use Rattle.rainlog.proofs.Replies.{torn_roots, torn_stack, whole_lists, bad_heap, many_roots, long_stack, all_passed}
+use Rattle.rainlog.proofs.check.Goals as goal
+
+pub returns-then-roots-ne0 : goal.returns-then-roots-ne0
+returns-then-roots-ne0 c = torn_roots _ _ _ _ (λ i. (c.shared_slice_known-2-1.given i).fits) _ _ c.if-roots-ne0.true
+
+pub returns-then-stack-ne0 : goal.returns-then-stack-ne0
+returns-then-stack-ne0 c = torn_stack _ _ _ _ (λ i. (c.shared_slice_known-2-1.given i).fits) _ _ c.if-roots-ne0.false c.if-stack-ne0.true
+
+pub returns-then-r-ne0 : goal.returns-then-r-ne0
+returns-then-r-ne0 c = bad_heap _ _ _ _ (λ i. (c.shared_slice_known-2-1.given i).fits) _ _ (whole_lists _ _ c.if-roots-ne0.false c.if-stack-ne0.false) c.check-r.ensures c.if-r-ne0.true
+
+pub returns-then-roots-ge-MAX_ROOTS : goal.returns-then-roots-ge-MAX_ROOTS
+returns-then-roots-ge-MAX_ROOTS c = many_roots _ _ _ _ (λ i. (c.shared_slice_known-2-1.given i).fits) _ _ (whole_lists _ _ c.if-roots-ne0.false c.if-stack-ne0.false)
+    (sym c.check-r.ensures ∙ c.if-r-ne0.false) c.if-roots-ge-MAX_ROOTS.true
+
+pub returns-then-stack-gt-MAX_STACK_ENTRIES : goal.returns-then-stack-gt-MAX_STACK_ENTRIES
+returns-then-stack-gt-MAX_STACK_ENTRIES c = long_stack _ _ _ _ (λ i. (c.shared_slice_known-2-1.given i).fits) _ _ (whole_lists _ _ c.if-roots-ne0.false c.if-stack-ne0.false)
+    (sym c.check-r.ensures ∙ c.if-r-ne0.false) c.if-roots-ge-MAX_ROOTS.false c.if-stack-gt-MAX_STACK_ENTRIES.true
+
+pub returns : goal.returns
+returns c = all_passed _ _ _ _ (λ i. (c.shared_slice_known-2-1.given i).fits) _ _ (whole_lists _ _ c.if-roots-ne0.false c.if-stack-ne0.false)
+    (sym c.check-r.ensures ∙ c.if-r-ne0.false) c.if-roots-ge-MAX_ROOTS.false c.if-stack-gt-MAX_STACK_ENTRIES.false
