@@ -10,8 +10,8 @@ use Rattle.blockheap.proofs.blockheap_collect.Met as collect
 use Rattle.blockheap.proofs.blockheap_survey.Met as survey
 use Rattle.blockheap.proofs.blockheap_load.Met as load
 use Rattle.blockheap.proofs.blockheap_store.Met as store
-use Rattle.blockheap.proofs.blockheap_write_image.Met as write-image
-use Rattle.blockheap.proofs.blockheap_open_image.Met as open-image
+use Rattle.blockheap.proofs.blockheap_write_image.Met as write_image
+use Rattle.blockheap.proofs.blockheap_open_image.Met as open_image
 use Rattle.blockheap.proofs.blockheap_log_append.Met as log_append
 use Rattle.blockheap.proofs.blockheap_log_read.Met as log_read
 use Rattle.blockheap.proofs.blockheap_log_drop.Met as log_drop
@@ -42,10 +42,10 @@ entry_points = record {
   store_meets = store.met;
   store_asks_nothing = λ M 𝓤 𝓛 mem run κs a. (tt, refl);
   store_says = λ M 𝓤 𝓛 mem run κs a g r. refl;
-  write_image_meets = write-image.met;
+  write_image_meets = write_image.met;
   write_image_asks_nothing = λ M 𝓤 𝓛 mem run κs a. (tt, refl);
   write_image_says = λ M 𝓤 𝓛 mem run κs a g r. refl;
-  open_image_meets = open-image.met;
+  open_image_meets = open_image.met;
   open_image_asks_nothing = λ M 𝓤 𝓛 mem run κs a. (tt, refl);
   open_image_says = λ M 𝓤 𝓛 mem run κs a g r. refl;
   log_append_meets = log_append.met;
