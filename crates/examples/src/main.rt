@@ -5,6 +5,7 @@
 mod print;
 
 use numbers::{Address, Block, Bytes};
+use std::io;
 
 const BASE: u64 = 4096;
 
@@ -13,21 +14,28 @@ fn size(pool: &[u8]) -> usize {
     pool.len() / 64
 }
 
-fn init(example: u64, base: u64) {
+fn init(out: &impl Print, example: u64, base: u64) -> io::Result<()> {
     let pool = [0u8; 128];
     let mut table = [17u8, 0];
-    print::begin(example, &table);
-    print::text(b" init at base ");
-    print::number(base);
+    print::begin(out, example, &table)?;
+    print::text(out, b" init at base ")?;
+    print::number(out, base)?;
     let refusal = heap::init(Address::of_number(base), size(&pool), &pool, &mut table);
-    print::refusal(refusal);
-    print::end(&table);
+    print::refusal(out, refusal)?;
+    print::end(out, &table)?;
+    Ok(())
 }
 
-fn allocate(example: u64, pool: &mut [u8], table: &mut [u8], bytes: u64) {
-    print::begin(example, &*table);
-    print::text(b" allocate ");
-    print::bytes(bytes);
+fn allocate(
+    out: &impl Print,
+    example: u64,
+    pool: &mut [u8],
+    table: &mut [u8],
+    bytes: u64,
+) -> io::Result<()> {
+    print::begin(out, example, &*table)?;
+    print::text(out, b" allocate ")?;
+    print::bytes(out, bytes)?;
     let t = size(&*pool);
     let r = allocator::allocate(
         Address::of_number(BASE),
@@ -36,16 +44,17 @@ fn allocate(example: u64, pool: &mut [u8], table: &mut [u8], bytes: u64) {
         &mut *table,
         Bytes::of_number(bytes),
     );
-    print::refusal(r.refusal);
-    print::block(r.block);
-    print::change(r.change);
-    print::end(&*table);
+    print::refusal(out, r.refusal)?;
+    print::block(out, r.block)?;
+    print::change(out, r.change)?;
+    print::end(out, &*table)?;
+    Ok(())
 }
 
-fn free(example: u64, pool: &[u8], table: &mut [u8], k: u64) {
-    print::begin(example, &*table);
-    print::text(b" free block ");
-    print::number(k);
+fn free(out: &impl Print, example: u64, pool: &[u8], table: &mut [u8], k: u64) -> io::Result<()> {
+    print::begin(out, example, &*table)?;
+    print::text(out, b" free block ")?;
+    print::number(out, k)?;
     let r = allocator::free(
         Address::of_number(BASE),
         size(pool),
@@ -53,17 +62,25 @@ fn free(example: u64, pool: &[u8], table: &mut [u8], k: u64) {
         &mut *table,
         Block::of_number(k),
     );
-    print::refusal(r.refusal);
-    print::change(r.change);
-    print::end(&*table);
+    print::refusal(out, r.refusal)?;
+    print::change(out, r.change)?;
+    print::end(out, &*table)?;
+    Ok(())
 }
 
-fn reallocate(example: u64, pool: &mut [u8], table: &mut [u8], k: u64, bytes: u64) {
-    print::begin(example, &*table);
-    print::text(b" reallocate block ");
-    print::number(k);
-    print::text(b" to ");
-    print::bytes(bytes);
+fn reallocate(
+    out: &impl Print,
+    example: u64,
+    pool: &mut [u8],
+    table: &mut [u8],
+    k: u64,
+    bytes: u64,
+) -> io::Result<()> {
+    print::begin(out, example, &*table)?;
+    print::text(out, b" reallocate block ")?;
+    print::number(out, k)?;
+    print::text(out, b" to ")?;
+    print::bytes(out, bytes)?;
     let t = size(&*pool);
     let r = allocator::reallocate(
         Address::of_number(BASE),
@@ -73,29 +90,38 @@ fn reallocate(example: u64, pool: &mut [u8], table: &mut [u8], k: u64, bytes: u6
         Block::of_number(k),
         Bytes::of_number(bytes),
     );
-    print::refusal(r.refusal);
-    print::block(r.block);
-    print::change(r.change);
-    print::end(&*table);
+    print::refusal(out, r.refusal)?;
+    print::block(out, r.block)?;
+    print::change(out, r.change)?;
+    print::end(out, &*table)?;
+    Ok(())
 }
 
-fn survey(example: u64, pool: &[u8], table: &[u8]) {
-    print::begin(example, table);
-    print::text(b" survey");
+fn survey(out: &impl Print, example: u64, pool: &[u8], table: &[u8]) -> io::Result<()> {
+    print::begin(out, example, table)?;
+    print::text(out, b" survey")?;
     let r = heap::survey(Address::of_number(BASE), size(pool), pool, table);
-    print::refusal(r.refusal);
-    print::part(b"used", r.used);
-    print::part(b"objects", r.objects);
-    print::part(b"longest", r.longest);
-    print::end(table);
+    print::refusal(out, r.refusal)?;
+    print::part(out, b"used", r.used)?;
+    print::part(out, b"objects", r.objects)?;
+    print::part(out, b"longest", r.longest)?;
+    print::end(out, table)?;
+    Ok(())
 }
 
-fn load(example: u64, pool: &[u8], table: &[u8], k: u64, i: usize) {
-    print::begin(example, table);
-    print::text(b" load word ");
-    print::number(i as u64);
-    print::text(b" of block ");
-    print::number(k);
+fn load(
+    out: &impl Print,
+    example: u64,
+    pool: &[u8],
+    table: &[u8],
+    k: u64,
+    i: usize,
+) -> io::Result<()> {
+    print::begin(out, example, table)?;
+    print::text(out, b" load word ")?;
+    print::number(out, i as u64)?;
+    print::text(out, b" of block ")?;
+    print::number(out, k)?;
     let r = heap::load(
         Address::of_number(BASE),
         size(pool),
@@ -104,19 +130,28 @@ fn load(example: u64, pool: &[u8], table: &[u8], k: u64, i: usize) {
         Block::of_number(k),
         i,
     );
-    print::refusal(r.refusal);
-    print::part(b"value", r.value);
-    print::end(table);
+    print::refusal(out, r.refusal)?;
+    print::part(out, b"value", r.value)?;
+    print::end(out, table)?;
+    Ok(())
 }
 
-fn store(example: u64, pool: &mut [u8], table: &[u8], k: u64, i: usize, w: u32) {
-    print::begin(example, table);
-    print::text(b" store ");
-    print::number(w as u64);
-    print::text(b" in word ");
-    print::number(i as u64);
-    print::text(b" of block ");
-    print::number(k);
+fn store(
+    out: &impl Print,
+    example: u64,
+    pool: &mut [u8],
+    table: &[u8],
+    k: u64,
+    i: usize,
+    w: u32,
+) -> io::Result<()> {
+    print::begin(out, example, table)?;
+    print::text(out, b" store ")?;
+    print::number(out, w as u64)?;
+    print::text(out, b" in word ")?;
+    print::number(out, i as u64)?;
+    print::text(out, b" of block ")?;
+    print::number(out, k)?;
     let t = size(&*pool);
     let refusal = heap::store(
         Address::of_number(BASE),
@@ -127,16 +162,24 @@ fn store(example: u64, pool: &mut [u8], table: &[u8], k: u64, i: usize, w: u32) 
         i,
         w,
     );
-    print::refusal(refusal);
-    print::end(table);
+    print::refusal(out, refusal)?;
+    print::end(out, table)?;
+    Ok(())
 }
 
-fn collect(example: u64, pool: &[u8], table: &mut [u8], roots: &[u8], stack: &mut [u8]) {
-    print::begin(example, &*table);
-    print::text(b" collect from");
-    print::root(roots);
-    print::text(b" with a stack of ");
-    print::number((stack.len() / 4) as u64);
+fn collect(
+    out: &impl Print,
+    example: u64,
+    pool: &[u8],
+    table: &mut [u8],
+    roots: &[u8],
+    stack: &mut [u8],
+) -> io::Result<()> {
+    print::begin(out, example, &*table)?;
+    print::text(out, b" collect from")?;
+    print::root(out, roots)?;
+    print::text(out, b" with a stack of ")?;
+    print::number(out, (stack.len() / 4) as u64)?;
     let r = collector::collect(
         Address::of_number(BASE),
         size(pool),
@@ -145,15 +188,21 @@ fn collect(example: u64, pool: &[u8], table: &mut [u8], roots: &[u8], stack: &mu
         roots,
         stack,
     );
-    print::refusal(r.refusal);
-    print::part(b"kept", r.kept);
-    print::part(b"rescans", r.rescans);
-    print::change(r.change);
-    print::end(&*table);
+    print::refusal(out, r.refusal)?;
+    print::part(out, b"kept", r.kept)?;
+    print::part(out, b"rescans", r.rescans)?;
+    print::change(out, r.change)?;
+    print::end(out, &*table)?;
+    Ok(())
 }
 
 // The heap of examples 9 to 11, where word 0 of block 4 leads to block 0, collected from these roots with this mark stack.
-fn collect_linked(example: u64, roots: &[u8], stack: &mut [u8]) {
+fn collect_linked(
+    out: &impl Print,
+    example: u64,
+    roots: &[u8],
+    stack: &mut [u8],
+) -> io::Result<()> {
     let mut pool = [0u8; 128];
     let mut table = [19u8, 236];
     heap::store(
@@ -165,127 +214,138 @@ fn collect_linked(example: u64, roots: &[u8], stack: &mut [u8]) {
         0,
         4096,
     );
-    collect(example, &pool, &mut table, roots, stack);
+    collect(out, example, &pool, &mut table, roots, stack)?;
+    Ok(())
 }
 
 // An empty heap is filled, and its objects are freed, shrunk and grown.
-fn examples_1_to_7() {
+fn examples_1_to_7(out: &impl Print) -> io::Result<()> {
     let mut pool = [0u8; 128];
     let mut table = [0u8; 2];
-    allocate(1, &mut pool, &mut table, 1);
-    allocate(2, &mut pool, &mut table, 33);
-    allocate(3, &mut pool, &mut table, 64);
-    allocate(4, &mut pool, &mut table, 1);
-    free(5, &pool, &mut table, 1);
-    free(5, &pool, &mut table, 5);
-    free(5, &pool, &mut table, 8);
-    reallocate(6, &mut pool, &mut table, 4, 16);
-    reallocate(7, &mut pool, &mut table, 0, 65);
-    reallocate(7, &mut pool, &mut table, 0, 64);
-    reallocate(7, &mut pool, &mut table, 0, 65);
-    survey(7, &pool, &table);
+    allocate(out, 1, &mut pool, &mut table, 1)?;
+    allocate(out, 2, &mut pool, &mut table, 33)?;
+    allocate(out, 3, &mut pool, &mut table, 64)?;
+    allocate(out, 4, &mut pool, &mut table, 1)?;
+    free(out, 5, &pool, &mut table, 1)?;
+    free(out, 5, &pool, &mut table, 5)?;
+    free(out, 5, &pool, &mut table, 8)?;
+    reallocate(out, 6, &mut pool, &mut table, 4, 16)?;
+    reallocate(out, 7, &mut pool, &mut table, 0, 65)?;
+    reallocate(out, 7, &mut pool, &mut table, 0, 64)?;
+    reallocate(out, 7, &mut pool, &mut table, 0, 65)?;
+    survey(out, 7, &pool, &table)?;
+    Ok(())
 }
 
 // An object that has to move.
-fn example_8() {
+fn example_8(out: &impl Print) -> io::Result<()> {
     let mut pool = [0u8; 128];
     let mut table = [3u8, 0];
-    reallocate(8, &mut pool, &mut table, 0, 17);
+    reallocate(out, 8, &mut pool, &mut table, 0, 17)?;
+    Ok(())
 }
 
 // The roots: the address of a head, none, the address of a TAIL, and one inside a block; each as bytes, the lowest first.
-fn examples_9_to_11() {
+fn examples_9_to_11(out: &impl Print) -> io::Result<()> {
     let head = [64u8, 16, 0, 0];
     let none = [0u8; 0];
     let tail = [32u8, 16, 0, 0];
     let inside = [1u8, 16, 0, 0];
     let mut stack = [238u8; 256];
     let mut no_stack = [0u8; 0];
-    collect_linked(9, &head, &mut stack);
-    collect_linked(9, &head, &mut no_stack);
-    collect_linked(10, &none, &mut stack);
-    collect_linked(10, &none, &mut no_stack);
-    collect_linked(11, &tail, &mut stack);
-    collect_linked(11, &tail, &mut no_stack);
-    collect_linked(11, &inside, &mut stack);
-    collect_linked(11, &inside, &mut no_stack);
+    collect_linked(out, 9, &head, &mut stack)?;
+    collect_linked(out, 9, &head, &mut no_stack)?;
+    collect_linked(out, 10, &none, &mut stack)?;
+    collect_linked(out, 10, &none, &mut no_stack)?;
+    collect_linked(out, 11, &tail, &mut stack)?;
+    collect_linked(out, 11, &tail, &mut no_stack)?;
+    collect_linked(out, 11, &inside, &mut stack)?;
+    collect_linked(out, 11, &inside, &mut no_stack)?;
+    Ok(())
 }
 
 // A table that is not well-formed.
-fn example_12(low: u8, high: u8) {
+fn example_12(out: &impl Print, low: u8, high: u8) -> io::Result<()> {
     let mut pool = [0u8; 128];
     let mut table = [low, high];
-    allocate(12, &mut pool, &mut table, 1);
-    allocate(12, &mut pool, &mut table, 0);
+    allocate(out, 12, &mut pool, &mut table, 1)?;
+    allocate(out, 12, &mut pool, &mut table, 0)?;
+    Ok(())
 }
 
 // The last word of an object and the one after it, and a request that two refusals fit.
-fn examples_14_and_15() {
+fn examples_14_and_15(out: &impl Print) -> io::Result<()> {
     let mut pool = [0u8; 128];
     let mut table = [19u8, 236];
-    store(14, &mut pool, &table, 4, 15, 77);
-    load(14, &pool, &table, 4, 15);
-    load(14, &pool, &table, 4, 16);
-    reallocate(15, &mut pool, &mut table, 8, 0);
+    store(out, 14, &mut pool, &table, 4, 15, 77)?;
+    load(out, 14, &pool, &table, 4, 15)?;
+    load(out, 14, &pool, &table, 4, 16)?;
+    reallocate(out, 15, &mut pool, &mut table, 8, 0)?;
+    Ok(())
 }
 
 // A chain through the third block of one object to the second of another.
-fn example_16() {
+fn example_16(out: &impl Print) -> io::Result<()> {
     let root = [96u8, 16, 0, 0];
     let mut stack = [238u8; 256];
     let mut no_stack = [0u8; 0];
     let mut pool = [0u8; 128];
     let mut table = [81u8, 46];
-    store(16, &mut pool, &table, 6, 0, 4128);
-    store(16, &mut pool, &table, 0, 0, 4176);
-    collect(16, &pool, &mut table, &root, &mut stack);
-    collect(16, &pool, &mut table, &root, &mut no_stack);
+    store(out, 16, &mut pool, &table, 6, 0, 4128)?;
+    store(out, 16, &mut pool, &table, 0, 0, 4176)?;
+    collect(out, 16, &pool, &mut table, &root, &mut stack)?;
+    collect(out, 16, &pool, &mut table, &root, &mut no_stack)?;
+    Ok(())
 }
 
 // Four blocks pass by block 1, three get it, and growing to four they move.
-fn example_17() {
+fn example_17(out: &impl Print) -> io::Result<()> {
     let mut pool = [0u8; 192];
     let mut table = [1u8, 0, 0, 0];
-    allocate(17, &mut pool, &mut table, 64);
-    allocate(17, &mut pool, &mut table, 48);
-    reallocate(17, &mut pool, &mut table, 1, 64);
+    allocate(out, 17, &mut pool, &mut table, 64)?;
+    allocate(out, 17, &mut pool, &mut table, 48)?;
+    reallocate(out, 17, &mut pool, &mut table, 1, 64)?;
+    Ok(())
 }
 
 // Four blocks at block 1, as an old table may hold them: to as many and to fewer they stay, to more they are refused or move.
-fn example_18() {
+fn example_18(out: &impl Print) -> io::Result<()> {
     let mut pool = [0u8; 192];
     let mut table = [3u8, 0, 28, 0];
-    reallocate(18, &mut pool, &mut table, 1, 64);
-    reallocate(18, &mut pool, &mut table, 1, 65);
-    reallocate(18, &mut pool, &mut table, 1, 33);
+    reallocate(out, 18, &mut pool, &mut table, 1, 64)?;
+    reallocate(out, 18, &mut pool, &mut table, 1, 65)?;
+    reallocate(out, 18, &mut pool, &mut table, 1, 33)?;
     let mut larger_pool = [0u8; 256];
     let mut larger_table = [3u8, 0, 28, 0];
-    reallocate(18, &mut larger_pool, &mut larger_table, 1, 65);
+    reallocate(out, 18, &mut larger_pool, &mut larger_table, 1, 65)?;
+    Ok(())
 }
 
 // Freed, they are the longest run, and yet no start for four blocks.
-fn example_19() {
+fn example_19(out: &impl Print) -> io::Result<()> {
     let mut pool = [0u8; 128];
     let mut table = [227u8, 28];
-    free(19, &pool, &mut table, 1);
-    survey(19, &pool, &table);
-    allocate(19, &mut pool, &mut table, 64);
-    allocate(19, &mut pool, &mut table, 48);
+    free(out, 19, &pool, &mut table, 1)?;
+    survey(out, 19, &pool, &table)?;
+    allocate(out, 19, &mut pool, &mut table, 64)?;
+    allocate(out, 19, &mut pool, &mut table, 48)?;
+    Ok(())
 }
 
-fn main() {
-    examples_1_to_7();
-    example_8();
-    examples_9_to_11();
-    example_12(0, 1);
-    example_12(1, 1);
-    example_12(0, 2);
-    init(13, 4294967168);
-    init(13, 4294967184);
-    init(13, 0);
-    examples_14_and_15();
-    example_16();
-    example_17();
-    example_18();
-    example_19();
+fn main(rt: HostRuntime) -> io::Result<()> {
+    examples_1_to_7(&rt)?;
+    example_8(&rt)?;
+    examples_9_to_11(&rt)?;
+    example_12(&rt, 0, 1)?;
+    example_12(&rt, 1, 1)?;
+    example_12(&rt, 0, 2)?;
+    init(&rt, 13, 4294967168)?;
+    init(&rt, 13, 4294967184)?;
+    init(&rt, 13, 0)?;
+    examples_14_and_15(&rt)?;
+    example_16(&rt)?;
+    example_17(&rt)?;
+    example_18(&rt)?;
+    example_19(&rt)?;
+    Ok(())
 }

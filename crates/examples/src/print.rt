@@ -1,57 +1,64 @@
 // The parts of a line.
 use numbers::Block;
+use std::io;
 
-pub fn text(bytes: &[u8]) {
-    io::write_all(1, bytes);
+pub fn text(out: &impl Print, bytes: &[u8]) -> io::Result<()> {
+    out.write_all(bytes)
 }
 
-pub fn number(n: u64) {
-    io::print_decimal(1, n);
+pub fn number(out: &impl Print, n: u64) -> io::Result<()> {
+    print!(out; "{n}")
 }
 
-pub fn bytes(n: u64) {
-    number(n);
-    text(b" byte");
+pub fn bytes(out: &impl Print, n: u64) -> io::Result<()> {
+    number(out, n)?;
+    text(out, b" byte")?;
     if n != 1 {
-        text(b"s");
+        text(out, b"s")?;
     }
+    Ok(())
 }
 
 // The example's number, and the table before its call.
-pub fn begin(example: u64, planes: &[u8]) {
-    text(b"example ");
-    number(example);
-    text(b": ");
-    table(planes);
+pub fn begin(out: &impl Print, example: u64, planes: &[u8]) -> io::Result<()> {
+    text(out, b"example ")?;
+    number(out, example)?;
+    text(out, b": ")?;
+    table(out, planes)?;
+    Ok(())
 }
 
 // The first word of the roots.
-pub fn root(roots: &[u8]) {
+pub fn root(out: &impl Print, roots: &[u8]) -> io::Result<()> {
     if roots.len() < 4 {
-        text(b" no root");
-        return;
+        text(out, b" no root")?;
+        return Ok(());
     }
-    text(b" root ");
-    number(memory::word(roots, 0) as u64);
+    text(out, b" root ")?;
+    number(out, memory::word(roots, 0) as u64)?;
+    Ok(())
 }
 
-pub fn refusal(n: u32) {
-    text(b": refusal ");
-    number(n as u64);
+pub fn refusal(out: &impl Print, n: u32) -> io::Result<()> {
+    text(out, b": refusal ")?;
+    number(out, n as u64)?;
+    Ok(())
 }
 
-pub fn block(k: Block) {
-    text(b", block ");
-    number(k.number());
+pub fn block(out: &impl Print, k: Block) -> io::Result<()> {
+    text(out, b", block ")?;
+    number(out, k.number())?;
+    Ok(())
 }
 
 // A change in used blocks, with its sign.
-pub fn change(d: i32) {
-    text(b", change ");
+pub fn change(out: &impl Print, d: i32) -> io::Result<()> {
+    text(out, b", change ")?;
     if d < 0 {
-        text(b"-");
+        text(out, b"-")?;
     }
-    number(magnitude(d));
+    number(out, magnitude(d))?;
+    Ok(())
 }
 
 fn magnitude(d: i32) -> u64 {
@@ -63,39 +70,44 @@ fn magnitude(d: i32) -> u64 {
 }
 
 // A count or a word, behind its name.
-pub fn part(name: &[u8], n: u32) {
-    text(b", ");
-    text(name);
-    text(b" ");
-    number(n as u64);
+pub fn part(out: &impl Print, name: &[u8], n: u32) -> io::Result<()> {
+    text(out, b", ")?;
+    text(out, name)?;
+    text(out, b" ")?;
+    number(out, n as u64)?;
+    Ok(())
 }
 
 // The table after the call.
-pub fn end(planes: &[u8]) {
-    text(b", table ");
-    table(planes);
-    text(b"\n");
+pub fn end(out: &impl Print, planes: &[u8]) -> io::Result<()> {
+    text(out, b", table ")?;
+    table(out, planes)?;
+    text(out, b"\n")?;
+    Ok(())
 }
 
 // Its bytes, those of the low plane first.
-fn table(planes: &[u8]) {
+fn table(out: &impl Print, planes: &[u8]) -> io::Result<()> {
     let mut i = 0;
     while i < planes.len() {
-        border(i, planes.len() / 2);
-        byte(planes[i]);
+        border(out, i, planes.len() / 2)?;
+        byte(out, planes[i])?;
         i += 1;
     }
+    Ok(())
 }
 
 // What stands before byte i: a bar where the high plane begins, a comma between the bytes of a plane.
-fn border(i: usize, high: usize) {
+fn border(out: &impl Print, i: usize, high: usize) -> io::Result<()> {
     if i == high {
-        text(b"|");
+        text(out, b"|")?;
     } else if i != 0 {
-        text(b",");
+        text(out, b",")?;
     }
+    Ok(())
 }
 
-fn byte(b: u8) {
-    number(b as u64);
+fn byte(out: &impl Print, b: u8) -> io::Result<()> {
+    number(out, b as u64)?;
+    Ok(())
 }
