@@ -3,8 +3,7 @@ use mathlib.Core.Path.{◌≡◌, sym, ap, ◌∙◌}
 use mathlib.Core.List.{[], ◌∷◌}
 use mathlib.Core.Option.{some}
 use native.Mathlib.Omega.{arith}
-use borrow.Author.Rules.{rules}
-use borrow.Author.Tests.{leb-true, leb-false, not-true, not-false}
+use borrow.Author.Tests.{leb-true, leb-false}
 use Prim.Native.Nat.{◌≤◌, ◌<◌}
 use lib.IntN.{pos}
 use lib.ListN.{length}
@@ -13,7 +12,6 @@ use Rattle.laws.proofs.Tables.{first_fits}
 use Rattle.rules.specs.Planes.{entries_in}
 use Rattle.rules.specs.Refusals.{no_bytes}
 use Rattle.laws.proofs.Calls.{blocks_some, blocks_least, request_nowhere}
-use Rattle.numbers.specs.Places.{found}
 use Rattle.objects.proofs.Held.{signed}
 use Rattle.heap.proofs.Ends.{Checked}
 use Rattle.allocator.proofs.Ends.{gained, allocate_refused, allocate_checked, allocate_asks, allocate_full, allocate_done}

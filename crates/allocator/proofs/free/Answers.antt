@@ -1,6 +1,5 @@
 -- `allocator::free` meets its contract. Assumes nothing.
 use mathlib.Core.Path.{◌∙◌}
-use borrow.Author.Rules.{rules}
 use Rattle.objects.proofs.Held.{signed}
 use Rattle.allocator.proofs.Ends.{free_refused, free_checked, free_named, free_done}
 use Rattle.allocator.proofs.free.Goals as goal

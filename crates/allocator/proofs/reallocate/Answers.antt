@@ -7,8 +7,7 @@ use mathlib.Core.List.{List, [], ◌∷◌}
 use Prim.Native.Nat.{ℕ, ◌+◌, ◌≤◌, ◌<◌}
 use native.Mathlib.Omega.{arith}
 use lib.ListN.{length}
-use borrow.Author.Rules.{rules}
-use borrow.Author.Tests.{leb-true, leb-false, not-true, not-false}
+use borrow.Author.Tests.{leb-true, leb-false}
 use Rattle.rules.specs.Tables.{block_count, grows_in_place}
 use Rattle.rules.specs.Outcomes.{Outcome, only_refusal, leaves}
 use Rattle.rules.specs.Planes.{planes, entries_in, IsTable, heap_at}

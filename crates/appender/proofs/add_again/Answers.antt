@@ -3,7 +3,6 @@ use mathlib.Core.Path.{◌∙◌}
 use mathlib.Core.List.{[]}
 use Prim.Native.Nat.{◌≤◌}
 use lib.IntN.{nat_abs}
-use borrow.Author.Rules.{rules}
 use Rattle.rules.specs.Memory.{memory}
 use Rattle.laws.proofs.Widths.{as_i32}
 use Rattle.appender.proofs.Asking.{stays_checked}
@@ -35,8 +34,7 @@ overflow_add-change c =
 
 pub enter-requires : goal.enter-requires
 enter-requires c =
-    let a = c.args in
-    (
+    let a = c.args in (
       entry_address a.t a.base.0 _ (rw c.of_blocks.ensures at c.allocate-a.ensures) c.if-a-ne0.false,
       stays_checked _ _ _ [] _ c.allocate-a.ensures (stays_checked _ _ _ _ _ c.collect_with-c.ensures c.requires.1),
     )

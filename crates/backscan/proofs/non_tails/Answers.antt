@@ -1,7 +1,6 @@
 -- `non_tails`: a block is TAIL if its low bit is clear and its high bit is set.
 -- Assumes nothing.
 use native.Mathlib.Omega.{arith}
-use borrow.Author.Rules.{rules}
 use Rattle.rules.specs.Planes.{entries_in}
 use Rattle.backscan.proofs.Tails.{non_tails_are}
 use Rattle.backscan.proofs.non_tails.Goals as goal

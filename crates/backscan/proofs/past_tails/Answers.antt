@@ -7,7 +7,7 @@ use borrow.Author.Rules.{rules}
 use Rattle.rules.specs.Planes.{entries_in}
 use Rattle.laws.proofs.Planes.{few_entries}
 use Rattle.laws.proofs.Widths.{in_32_bits}
-use Rattle.backscan.proofs.Tails.{Tails, tails_join, up_to_last, tails_here, back_to, back_first}
+use Rattle.backscan.proofs.Tails.{tails_join, up_to_last, tails_here, back_to, back_first}
 use Rattle.backscan.proofs.past_tails.Goals as goal
 
 pub loop-at-init : goal.loop-at-init

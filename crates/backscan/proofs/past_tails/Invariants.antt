@@ -1,13 +1,8 @@
 -- `past_tails`: the blocks passed are TAILs; the first 64 that hold another end the scan.
 -- Assumes nothing.
-use mathlib.Core.Path.{◌≡◌}
-use Prim.Native.Nat.{◌+◌, ◌-◌, ◌*◌, ◌≤◌}
-use native.Mathlib.Omega.{arith}
-use borrow.Author.Rules.{rules}
+use Prim.Native.Nat.{◌-◌, ◌*◌, ◌≤◌}
 use Rattle.rules.specs.Planes.{entries_in}
-use Rattle.laws.proofs.Planes.{few_entries}
-use Rattle.laws.proofs.Widths.{in_32_bits}
-use Rattle.backscan.proofs.Tails.{Tails, tails_join, up_to_last, tails_here, back_to, back_first}
+use Rattle.backscan.proofs.Tails.{Tails}
 use Rattle.backscan.proofs.past_tails.Given as goal
 
 abbrev pub invariant-loop-at : goal.invariant-loop-at

@@ -1,7 +1,6 @@
 -- `blockheap::blockheap_log_read` meets its contract: clamping changes no answer. Assumes nothing.
 use mathlib.Core.Path.{◌∙◌}
 use mathlib.Core.List.{[]}
-use borrow.Author.Rules.{rules}
 use Rattle.programs.proofs.Laws.{run_clamped}
 use Rattle.logs.specs.Log.{read}
 use Rattle.services.proofs.Entries.{read_served}

@@ -1,7 +1,6 @@
 -- `blockheap::blockheap_survey` meets its contract: clamping changes no answer. Assumes nothing.
 use mathlib.Core.Path.{◌∙◌}
 use mathlib.Core.List.{[]}
-use borrow.Author.Rules.{rules}
 use Rattle.rules.specs.Runs.{Survey}
 use Rattle.laws.proofs.Clamped.{call_clamped}
 use Rattle.services.proofs.Entries.{call_served}

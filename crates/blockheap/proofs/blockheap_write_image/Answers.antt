@@ -2,7 +2,6 @@
 use mathlib.Core.Path.{ap, ◌∙◌}
 use mathlib.Core.List.{[]}
 use lib.ListN.{length}
-use borrow.Author.Rules.{rules}
 use Rattle.rules.specs.Runs.{WriteImage}
 use Rattle.rules.specs.Memory.{with_buffer}
 use Rattle.laws.proofs.Clamped.{call_clamped}

@@ -1,12 +1,9 @@
 -- The three ends: an address of no block, an object that has not two blocks, and an entry that is passed.
 -- Assumes nothing.
-use mathlib.Core.Path.{◌≡◌, refl, sym, ap, ◌∙◌}
+use mathlib.Core.Path.{◌≡◌, refl}
 use mathlib.Core.Option.{some}
 use Prim.Native.Nat.{suc, ◌+◌}
 use native.Mathlib.Omega.{arith}
-use borrow.Author.Rules.{rules}
-use Rattle.numbers.specs.Places.{found}
-use Rattle.heap.specs.Answers.{linked}
 use Rattle.rules.specs.Pointers.{target_of}
 use Rattle.laws.proofs.Widths.{in_32_bits}
 use Rattle.chain.specs.Walks.{passed_by, pass, loads_in}

@@ -1,14 +1,9 @@
 -- What is left of the heads leads to what all of them come to. The measure is how many entries may still be passed.
 -- Assumes nothing.
-use mathlib.Core.Path.{◌≡◌, refl, sym, ◌∙◌}
-use Prim.Native.Nat.{suc, ◌-◌}
-use native.Mathlib.Omega.{arith}
-use borrow.Author.Rules.{rules}
-use borrow.Author.Tests.{eqb-true, eqb-false}
-use Rattle.laws.proofs.Refusals.{not-true, not-false}
+use Prim.Native.Nat.{◌-◌}
 use Rattle.logs.specs.Heads.{heads_from}
 use Rattle.chain.specs.Walks.{loads_in}
-use Rattle.chain.proofs.Walking.{walk_on, Walks, ended, too_many, stopped}
+use Rattle.chain.proofs.Walking.{Walks}
 use Rattle.chain.proofs.follow.Given as goal
 
 abbrev pub invariant-loop-w : goal.invariant-loop-w

@@ -1,5 +1,4 @@
 -- `checks::heap` meets its contract. Assumes nothing.
-use borrow.Author.Tests.{not-false}
 use Rattle.rules.specs.Planes.{heap_at}
 use Rattle.rules.specs.Refusals.{good_shape}
 use Rattle.checks.proofs.FirstTests.{ill_shaped, ill_formed, neither, sized_by}

@@ -1,7 +1,6 @@
 -- `checks::is_sound` meets its contract: once no spare bit is set, the entries decide. Assumes nothing.
 use mathlib.Core.Path.{◌≡◌, sym, ◌∙◌}
 use mathlib.Core.Bool.{Bool, true, false}
-use borrow.Author.Tests.{not-true, not-false}
 use Rattle.rules.specs.Tests.{both}
 use Rattle.checks.proofs.is_sound.Goals as goal
 

@@ -1,7 +1,6 @@
 -- `checks::request` meets its contract. Assumes nothing.
 use mathlib.Core.List.{[]}
 use mathlib.Core.Path.{refl, sym, ◌∙◌}
-use borrow.Author.Rules.{rules}
 use Rattle.laws.proofs.Refusals.{first_yes, first_last}
 use Rattle.rules.specs.Memory.{memory}
 use Rattle.rules.specs.Planes.{planes}

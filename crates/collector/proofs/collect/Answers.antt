@@ -1,7 +1,6 @@
 -- A refused call returns before anything is written; an accepted one has a heap of good shape, and acts.
 -- Assumes nothing.
 use mathlib.Core.Path.{refl}
-use borrow.Author.Rules.{rules}
 use Rattle.rules.specs.Words.{words_of}
 use Rattle.rules.specs.Planes.{entries_in}
 use Rattle.visitor.specs.Variables.{context_of}

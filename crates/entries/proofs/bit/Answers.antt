@@ -3,7 +3,6 @@
 use Prim.Native.Nat.{◌/◌, ◌^◌}
 use native.Mathlib.Omega.{arith}
 use lib.Bits.{and_mask, mask_lt}
-use borrow.Author.Rules.{rules}
 use Rattle.rules.specs.Bits.{bit_of}
 use Rattle.entries.proofs.bit.Goals as goal
 

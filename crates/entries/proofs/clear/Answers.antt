@@ -5,7 +5,6 @@ use mathlib.Core.List.{List}
 use Prim.Native.Nat.{ℕ, zero, suc, ◌+◌, ◌/◌, ◌%◌}
 use native.Mathlib.Omega.{arith}
 use lib.ListN.{length, get_or, replicate, length-replicate}
-use borrow.Author.Rules.{rules}
 use Rattle.rules.specs.Planes.{plane_bytes, entry_in, entries_in, Sized, Holds}
 use Rattle.laws.proofs.Bits.{bit_of_zero}
 use Rattle.laws.proofs.Planes.{length_entries_in, holds_of}

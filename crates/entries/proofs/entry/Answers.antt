@@ -1,7 +1,6 @@
 -- `entry`: block k has bit k mod 8 of byte k / 8 of each plane.
 -- Assumes nothing.
 use native.Mathlib.Omega.{arith}
-use borrow.Author.Rules.{rules}
 use Rattle.laws.proofs.Widths.{in_32_bits, as_u8}
 use Rattle.entries.proofs.Holding.{block_byte, high_byte, bit_small, both_read}
 use Rattle.entries.proofs.entry.Goals as goal

@@ -1,7 +1,6 @@
 -- `fits` compares the lengths.
 -- Assumes nothing.
 use native.Mathlib.Omega.{arith}
-use borrow.Author.Rules.{rules}
 use Rattle.laws.proofs.Planes.{room_entries}
 use Rattle.laws.proofs.Widths.{in_32_bits}
 use Rattle.entries.proofs.fits.Goals as goal

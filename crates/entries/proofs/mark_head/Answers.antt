@@ -2,7 +2,6 @@
 -- Assumes nothing.
 use Prim.Native.Nat.{ℕ, ◌+◌, ◌/◌}
 use native.Mathlib.Omega.{arith}
-use borrow.Author.Rules.{rules}
 use Rattle.laws.proofs.Planes.{room_entries}
 use Rattle.laws.proofs.Widths.{in_32_bits}
 use Rattle.entries.proofs.Marked.{met_outside, met_other, met_tail, met_head, byte_stored}

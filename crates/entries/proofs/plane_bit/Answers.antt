@@ -5,7 +5,6 @@ use mathlib.Core.List.{List}
 use Prim.Native.Nat.{ℕ, ◌/◌, ◌%◌, ◌≤◌}
 use native.Mathlib.Omega.{arith}
 use lib.ListN.{length, get_or-eq_default}
-use borrow.Author.Rules.{rules}
 use Rattle.rules.specs.Bits.{bit_at}
 use Rattle.laws.proofs.Bits.{bit_of_zero}
 use Rattle.entries.proofs.plane_bit.Goals as goal

@@ -3,7 +3,6 @@
 use Prim.Native.Nat.{◌+◌, ◌/◌, ◌<◌}
 use native.Mathlib.Omega.{arith}
 use lib.ListN.{length}
-use borrow.Author.Rules.{rules}
 use Rattle.laws.proofs.Widths.{in_32_bits}
 use Rattle.entries.proofs.Holding.{block_byte, high_byte}
 use Rattle.entries.proofs.Marked.{head_inside, marked}

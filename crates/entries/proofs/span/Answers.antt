@@ -4,7 +4,6 @@ use mathlib.Core.Path.{◌≡◌, refl, ◌∙◌}
 use mathlib.Core.Bool.{Bool, true, false}
 use Prim.Native.Nat.{◌+◌, ◌*◌, min}
 use lib.Dec.{leb, ltb}
-use borrow.Author.Rules.{rules}
 use Rattle.rules.specs.Tests.{pick, both}
 use Rattle.laws.proofs.Bits.{bit_of_and}
 use Rattle.entries.proofs.span.Goals as goal

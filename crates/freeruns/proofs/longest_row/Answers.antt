@@ -3,7 +3,6 @@
 use mathlib.Core.Path.{refl}
 use mathlib.Core.Logic.{inl}
 use native.Mathlib.Omega.{arith}
-use borrow.Author.Rules.{rules}
 use Rattle.freeruns.proofs.Rows.{no_four}
 use Rattle.freeruns.proofs.longest_row.Goals as goal
 

@@ -1,7 +1,6 @@
 -- `row_from`: the first bit that is not set ends the row, or the last bit does.
 -- Assumes nothing.
 use native.Mathlib.Omega.{arith}
-use borrow.Author.Rules.{rules}
 use Rattle.freeruns.proofs.Rows.{to_the_end, to_the_first}
 use Rattle.freeruns.proofs.row_from.Goals as goal
 

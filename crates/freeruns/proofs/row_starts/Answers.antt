@@ -1,10 +1,10 @@
 -- `row_starts`: the two numbers have the starts of rows of `length`, and a shifted copy of both makes the rows longer by the shift.
 -- Assumes nothing.
-use Prim.Native.Nat.{◌+◌, ◌-◌, ◌*◌, ◌^◌, ◌≤◌, ◌<◌}
+use Prim.Native.Nat.{◌+◌, ◌-◌, ◌*◌, ◌^◌}
 use native.Mathlib.Omega.{arith}
 use borrow.Author.Rules.{rules}
 use Rattle.laws.proofs.Widths.{in_32_bits}
-use Rattle.freeruns.proofs.Rows.{Begins, row_one, begins_turn, starts_turn, starts_done}
+use Rattle.freeruns.proofs.Rows.{row_one, begins_turn, starts_turn, starts_done}
 use Rattle.freeruns.proofs.row_starts.Goals as goal
 
 pub loop-length-init : goal.loop-length-init

@@ -1,10 +1,7 @@
 -- `row_starts`: the two numbers have the starts of rows of `length`, and a shifted copy of both makes the rows longer by the shift.
 -- Assumes nothing.
 use Prim.Native.Nat.{◌+◌, ◌-◌, ◌*◌, ◌^◌, ◌≤◌, ◌<◌}
-use native.Mathlib.Omega.{arith}
-use borrow.Author.Rules.{rules}
-use Rattle.laws.proofs.Widths.{in_32_bits}
-use Rattle.freeruns.proofs.Rows.{Begins, row_one, begins_turn, starts_turn, starts_done}
+use Rattle.freeruns.proofs.Rows.{Begins}
 use Rattle.freeruns.proofs.row_starts.Given as goal
 
 abbrev pub invariant-loop-length : goal.invariant-loop-length

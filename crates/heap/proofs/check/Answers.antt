@@ -1,5 +1,4 @@
 -- `heap::check` gives the number of a survey. Assumes nothing.
-use borrow.Author.Rules.{rules}
 use Rattle.heap.proofs.Ends.{survey_number}
 use Rattle.heap.proofs.check.Goals as goal
 

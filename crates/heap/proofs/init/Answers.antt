@@ -1,5 +1,4 @@
 -- `heap::init` meets its contract. Assumes nothing.
-use borrow.Author.Rules.{rules}
 use Rattle.heap.proofs.Ends.{init_refused, init_done}
 use Rattle.heap.proofs.init.Goals as goal
 

@@ -1,6 +1,5 @@
 -- `heap::load` meets its contract: once the heap is checked it is `load_checked`. Assumes nothing.
 use mathlib.Core.Path.{sym, ◌∙◌}
-use borrow.Author.Rules.{rules}
 use Rattle.heap.proofs.Ends.{load_refused, survey_number, word_first}
 use Rattle.heap.proofs.load.Goals as goal
 

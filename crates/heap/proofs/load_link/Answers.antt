@@ -5,8 +5,7 @@ use mathlib.Core.Option.{some}
 use Prim.Native.Nat.{ℕ, ◌<◌}
 use native.Mathlib.Omega.{arith}
 use lib.ListN.{length}
-use borrow.Author.Rules.{rules}
-use borrow.Author.Tests.{ltb-true, ltb-false, not-true, not-false}
+use borrow.Author.Tests.{ltb-true, ltb-false}
 use Rattle.rules.specs.Words.{word_at}
 use Rattle.rules.specs.Planes.{planes, entries_in, heap_at}
 use Rattle.rules.specs.Runs.{Survey}

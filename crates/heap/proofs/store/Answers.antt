@@ -1,6 +1,5 @@
 -- `heap::store` meets its contract: once the heap is checked it is `store_checked`. Assumes nothing.
 use mathlib.Core.Path.{sym, ◌∙◌}
-use borrow.Author.Rules.{rules}
 use Rattle.heap.proofs.Ends.{store_refused, survey_number, word_first}
 use Rattle.heap.proofs.store.Goals as goal
 

@@ -1,7 +1,6 @@
 -- `heap::store_checked` meets its contract: with the check that was passed before, its tests are those of a store. Assumes nothing.
 use mathlib.Core.Path.{◌≡◌, refl}
 use native.Mathlib.Omega.{arith}
-use borrow.Author.Rules.{rules}
 use Rattle.rules.specs.Outcomes.{Heap}
 use Rattle.rules.specs.Refusals.{word_tests}
 use Rattle.checks.specs.Refusal.{refusal_by}

@@ -1,6 +1,5 @@
 -- `heap::survey` meets its contract. Assumes nothing.
 use native.Mathlib.Omega.{arith}
-use borrow.Author.Rules.{rules}
 use mathlib.Core.List.{[]}
 use Rattle.rules.specs.Planes.{entries_in}
 use Rattle.laws.proofs.Tables.{used_le, objects_le, longest_says}

@@ -3,7 +3,6 @@
 use mathlib.Core.Path.{◌≡◌, refl}
 use Prim.Native.Nat.{◌*◌, ◌≤◌}
 use native.Mathlib.Omega.{arith}
-use borrow.Author.Rules.{rules}
 use Rattle.laws.proofs.Widths.{in_32_bits}
 use Rattle.image.proofs.Ends.{Known, known, image_refused, image_short, image_done}
 use Rattle.image.proofs.write.Goals as goal

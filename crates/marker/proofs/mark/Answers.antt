@@ -1,18 +1,13 @@
 -- The rescans that are left, from the present state, end where all end from the state after the roots; a rescan lowers how many there can be.
 -- Assumes nothing.
-use mathlib.Core.Path.{◌≡◌, refl, ◌∙◌}
+use mathlib.Core.Path.{refl, ◌∙◌}
 use mathlib.Core.List.{◌∷◌}
-use Prim.Native.Nat.{◌+◌, ◌≤◌}
 use native.Mathlib.Omega.{arith}
-use borrow.Author.Rules.{rules}
-use lib.ListN.{length}
 use Rattle.rules.specs.Words.{words_of}
-use Rattle.rules.specs.Planes.{IsTable}
-use Rattle.rules.specs.Marking.{rescan}
 use Rattle.laws.proofs.Planes.{few_entries}
-use Rattle.laws.proofs.Marking.{to_rescan, rescan_most}
+use Rattle.laws.proofs.Marking.{rescan_most}
 use Rattle.laws.proofs.Widths.{as_u32}
-use Rattle.visitor.specs.Variables.{context_of, idle}
+use Rattle.visitor.specs.Variables.{idle}
 use Rattle.tracer.proofs.Turning.{shape_same}
 use Rattle.marker.proofs.Turning.{Rescanned, rescanned, mark_end}
 use Rattle.marker.proofs.mark.Goals as goal

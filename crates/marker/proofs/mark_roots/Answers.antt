@@ -1,15 +1,12 @@
 -- The roots that are left, from the present state, end where all the roots end from the first. The measure is how many are left.
 -- Assumes nothing.
-use mathlib.Core.Path.{◌≡◌, refl, ◌∙◌}
+use mathlib.Core.Path.{refl, ◌∙◌}
 use mathlib.Core.Bool.{false}
 use mathlib.Core.List.{◌∷◌}
-use Prim.Native.Nat.{◌+◌, ◌-◌, ◌/◌}
+use Prim.Native.Nat.{◌-◌}
 use native.Mathlib.Omega.{arith}
 use borrow.Author.Rules.{rules}
-use lib.ListN.{length, drop}
 use Rattle.rules.specs.Words.{words_of}
-use Rattle.rules.specs.Planes.{IsTable}
-use Rattle.rules.specs.Marking.{mark_roots}
 use Rattle.laws.proofs.Words.{length_words_of}
 use Rattle.laws.proofs.Marking.{roots_end}
 use Rattle.laws.proofs.Widths.{in_32_bits}

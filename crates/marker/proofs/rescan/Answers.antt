@@ -4,13 +4,9 @@ use mathlib.Core.Path.{◌≡◌, refl, sym, ◌∙◌}
 use mathlib.Core.Bool.{false}
 use Prim.Native.Nat.{◌-◌, ◌<◌}
 use native.Mathlib.Omega.{arith}
-use borrow.Author.Rules.{rules}
 use borrow.Author.Tests.{ltb-true, ltb-false}
-use lib.ListN.{length}
-use Rattle.rules.specs.Planes.{IsTable}
-use Rattle.rules.specs.Marking.{pass_from}
 use Rattle.laws.proofs.Planes.{few_entries}
-use Rattle.visitor.specs.Variables.{context_of, idle}
+use Rattle.visitor.specs.Variables.{idle}
 use Rattle.tracer.proofs.Turning.{shape_same}
 use Rattle.marker.proofs.Turning.{pass_next, pass_last}
 use Rattle.marker.proofs.rescan.Goals as goal

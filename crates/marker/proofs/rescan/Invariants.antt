@@ -1,18 +1,12 @@
 -- The blocks that are left, from the present state, end where all the blocks end from the first. The measure is how many are left.
 -- Assumes nothing.
-use mathlib.Core.Path.{◌≡◌, refl, sym, ◌∙◌}
+use mathlib.Core.Path.{◌≡◌}
 use mathlib.Core.Bool.{false}
-use Prim.Native.Nat.{◌-◌, ◌<◌}
-use native.Mathlib.Omega.{arith}
-use borrow.Author.Rules.{rules}
-use borrow.Author.Tests.{ltb-true, ltb-false}
+use Prim.Native.Nat.{◌-◌}
 use lib.ListN.{length}
 use Rattle.rules.specs.Planes.{IsTable}
 use Rattle.rules.specs.Marking.{pass_from}
-use Rattle.laws.proofs.Planes.{few_entries}
 use Rattle.visitor.specs.Variables.{context_of, idle}
-use Rattle.tracer.proofs.Turning.{shape_same}
-use Rattle.marker.proofs.Turning.{pass_next, pass_last}
 use Rattle.marker.proofs.rescan.Given as goal
 
 abbrev pub invariant-loop-base : goal.invariant-loop-base

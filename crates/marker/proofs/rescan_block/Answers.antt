@@ -1,7 +1,6 @@
 -- What is not MARK is passed over, what is MARK is traced.
 -- Assumes nothing.
 use mathlib.Core.Path.{sym, ◌∙◌}
-use borrow.Author.Rules.{rules}
 use Rattle.laws.proofs.Marking.{pass_skips}
 use Rattle.visitor.specs.Variables.{context_of, idle}
 use Rattle.marker.proofs.Turning.{block_end}

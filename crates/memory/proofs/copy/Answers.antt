@@ -3,11 +3,11 @@
 use mathlib.Core.Path.{◌≡◌, refl}
 use mathlib.Core.Logic.{◌⊎◌, ⊎_elim}
 use mathlib.Core.List.{List}
-use Prim.Native.Nat.{ℕ, ◌+◌, ◌-◌, ◌≤◌, ◌<◌}
+use Prim.Native.Nat.{ℕ, ◌+◌, ◌≤◌, ◌<◌}
 use native.Mathlib.Numerals.{add-one}
 use native.Mathlib.Omega.{arith}
 use lib.ListN.{length, get_or, set, take, drop, length-set, length-drop}
-use lib.Seq.{sets, take-suc, get_or-drop, length-take-le}
+use lib.Seq.{take-suc, get_or-drop, length-take-le}
 use borrow.Author.Rules.{rules}
 use Rattle.laws.proofs.Lists.{sets_before, sets_after, sets_snoc}
 use Rattle.laws.proofs.Widths.{in_slice}

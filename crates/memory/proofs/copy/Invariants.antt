@@ -1,16 +1,10 @@
 -- `copy`: after i turns the first i bytes are stored at the target. The byte read next is still the one at the start, because the parts do not overlap.
 -- Assumes nothing.
-use mathlib.Core.Path.{◌≡◌, refl}
-use mathlib.Core.Logic.{◌⊎◌, ⊎_elim}
+use mathlib.Core.Path.{◌≡◌}
 use mathlib.Core.List.{List}
-use Prim.Native.Nat.{ℕ, ◌+◌, ◌-◌, ◌≤◌, ◌<◌}
-use native.Mathlib.Numerals.{add-one}
-use native.Mathlib.Omega.{arith}
-use lib.ListN.{length, get_or, set, take, drop, length-set, length-drop}
-use lib.Seq.{sets, take-suc, get_or-drop, length-take-le}
-use borrow.Author.Rules.{rules}
-use Rattle.laws.proofs.Lists.{sets_before, sets_after, sets_snoc}
-use Rattle.laws.proofs.Widths.{in_slice}
+use Prim.Native.Nat.{ℕ, ◌-◌, ◌≤◌}
+use lib.ListN.{length, take, drop}
+use lib.Seq.{sets}
 use Rattle.memory.proofs.copy.Given as goal
 
 -- the pool p with the first i bytes from `from` on stored at `to`

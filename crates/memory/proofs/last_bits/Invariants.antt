@@ -1,15 +1,8 @@
 -- `last_bits`: each turn puts a byte below those that are read already.
 -- Assumes nothing.
-use mathlib.Core.Path.{◌≡◌}
 use mathlib.Core.List.{List}
-use Prim.Native.Nat.{ℕ, suc, ◌+◌, ◌-◌, ◌*◌, ◌%◌, ◌^◌, ◌≤◌, ◌<◌}
-use native.Mathlib.Omega.{arith}
-use lib.Bits.{bit_or, or_shifted}
-use lib.ListN.{get_or}
-use lib.Pow.{pow-add, shl_exact}
-use borrow.Author.Rules.{rules}
+use Prim.Native.Nat.{ℕ, ◌-◌, ◌*◌, ◌^◌, ◌≤◌, ◌<◌}
 use Rattle.memory.specs.Bits.{BitsFrom}
-use Rattle.memory.proofs.Reading.{no_bytes, one_more}
 use Rattle.memory.proofs.last_bits.Given as goal
 
 -- n bytes from `at` on are read

@@ -7,8 +7,6 @@ use native.Mathlib.Omega.{arith}
 use lib.Bits.{bit_or, or_shifted}
 use lib.ListN.{length, get_or}
 use lib.Pow.{pow-add, shl_exact}
-use borrow.Author.Rules.{rules}
-use Rattle.memory.specs.Bits.{BitsFrom}
 use Rattle.memory.proofs.Reading.{past_bytes, one_more}
 use Rattle.memory.proofs.last_four_bits.Invariants.{Read}
 use Rattle.memory.proofs.last_four_bits.Goals as goal

@@ -1,15 +1,9 @@
 -- `last_four_bits`: each turn puts a byte below those that are read already, as `last_bits` does.
 -- Assumes nothing.
-use mathlib.Core.Path.{◌≡◌}
 use mathlib.Core.List.{List}
-use Prim.Native.Nat.{ℕ, suc, ◌+◌, ◌-◌, ◌*◌, ◌%◌, ◌^◌, ◌≤◌, ◌<◌}
-use native.Mathlib.Omega.{arith}
-use lib.Bits.{bit_or, or_shifted}
-use lib.ListN.{length, get_or}
-use lib.Pow.{pow-add, shl_exact}
-use borrow.Author.Rules.{rules}
+use Prim.Native.Nat.{ℕ, ◌+◌, ◌-◌, ◌*◌, ◌^◌, ◌≤◌, ◌<◌}
+use lib.ListN.{length}
 use Rattle.memory.specs.Bits.{BitsFrom}
-use Rattle.memory.proofs.Reading.{past_bytes, one_more}
 use Rattle.memory.proofs.last_four_bits.Given as goal
 
 -- the bytes from i on are read, of the four from `at` on

@@ -1,13 +1,9 @@
 -- `set_part`: what is left of the part, stored from where the loop stands, gives what all of it would.
 -- Assumes nothing.
-use mathlib.Core.Path.{◌≡◌, refl, ◌∙◌}
-use mathlib.Core.List.{List}
-use Prim.Native.Nat.{ℕ, suc, ◌+◌, ◌-◌, ◌≤◌, ◌<◌}
-use native.Mathlib.Omega.{arith}
-use lib.ListN.{length, get_or, set, drop, length-set}
-use lib.Seq.{sets, drop-cons, drop-length}
-use borrow.Author.Rules.{rules}
-use Rattle.laws.proofs.Widths.{in_slice}
+use mathlib.Core.Path.{◌≡◌}
+use Prim.Native.Nat.{◌+◌, ◌-◌, ◌≤◌}
+use lib.ListN.{length, drop}
+use lib.Seq.{sets}
 use Rattle.memory.proofs.set_part.Given as goal
 
 abbrev pub invariant-loop-i : goal.invariant-loop-i

@@ -1,5 +1,4 @@
 -- `numbers::difference` meets its contract. Assumes nothing.
-use Rattle.std.proofs.Common.{rules}
 use Rattle.numbers.proofs.Signed.{difference_fits, difference_is}
 use Rattle.numbers.proofs.difference.Goals as goal
 

@@ -1,5 +1,5 @@
 -- `numbers::negated` meets its contract. Assumes nothing.
-use Rattle.std.proofs.Common.{arith, rules}
+use Rattle.std.proofs.Common.{arith}
 use Rattle.numbers.proofs.Signed.{difference_fits, negated_is}
 use Rattle.numbers.proofs.negated.Goals as goal
 

@@ -4,7 +4,6 @@ use mathlib.Core.List.{List}
 use Prim.Native.Nat.{ℕ}
 use native.Mathlib.Omega.{arith}
 use lib.IntN.{neg_ℤ, pos}
-use borrow.Author.Rules.{rules}
 use Rattle.rules.specs.Tables.{block_count, released}
 use Rattle.rules.specs.Planes.{entries_in, Holds}
 use Rattle.laws.proofs.Planes.{few_entries}

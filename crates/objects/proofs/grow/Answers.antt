@@ -7,7 +7,6 @@ use native.Mathlib.Omega.{arith}
 use lib.IntN.{ℤ, sub_ℕ}
 use mir.Syntax.{w32}
 use mir.Val.{to_z, of_z}
-use borrow.Author.Rules.{rules}
 use Rattle.rules.specs.Tables.{extended}
 use Rattle.laws.specs.Meaning.{GrowsInPlace}
 use Rattle.rules.specs.Outcomes.{placed_at, leaves, cleared_blocks}

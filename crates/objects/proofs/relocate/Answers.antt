@@ -12,7 +12,6 @@ use lib.ListN.{length, take, drop}
 use lib.Seq.{sets}
 use mir.Syntax.{w32}
 use mir.Val.{to_z, of_z}
-use borrow.Author.Rules.{rules}
 use Rattle.rules.specs.Tables.{first_fit, placed, released}
 use Rattle.rules.specs.Outcomes.{placed_at, leaves, cleared_blocks}
 use Rattle.rules.specs.Planes.{entries_in, IsTable, Holds, heap_at}
@@ -22,7 +21,6 @@ use Rattle.laws.proofs.Tables.{first_fits}
 use Rattle.laws.proofs.Changes.{placed_length}
 use Rattle.laws.proofs.Pools.{moved_steps}
 use Rattle.laws.proofs.Calls.{move_change, run_beside}
-use Rattle.numbers.specs.Places.{found}
 use Rattle.objects.specs.Held.{Held}
 use Rattle.objects.specs.Answers.{placed_in, unplaced_by}
 use Rattle.objects.proofs.Held.{held_few, held_room, change_is}

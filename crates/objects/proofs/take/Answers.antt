@@ -3,7 +3,6 @@ use mathlib.Core.Path.{◌≡◌}
 use mathlib.Core.List.{List}
 use Prim.Native.Nat.{ℕ}
 use native.Mathlib.Omega.{arith}
-use borrow.Author.Rules.{rules}
 use Rattle.rules.specs.Tables.{placed}
 use Rattle.rules.specs.Outcomes.{cleared_blocks}
 use Rattle.rules.specs.Planes.{entries_in, IsTable, Holds, heap_at}

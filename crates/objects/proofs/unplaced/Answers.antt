@@ -1,5 +1,4 @@
 -- `objects::unplaced` meets its contract. Assumes nothing.
-use borrow.Author.Rules.{rules}
 use Rattle.objects.proofs.unplaced.Goals as goal
 
 pub returns : goal.returns

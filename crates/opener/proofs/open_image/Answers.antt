@@ -2,7 +2,6 @@
 -- Assumes nothing.
 use mathlib.Core.Path.{◌≡◌, sym, ◌∙◌}
 use native.Mathlib.Omega.{arith}
-use borrow.Author.Rules.{rules}
 use Rattle.rules.specs.Files.{fault_of}
 use Rattle.parser.specs.Reading.{Says}
 use Rattle.opener.proofs.Ends.{open_faulty, open_unsuited, suits, open_done}

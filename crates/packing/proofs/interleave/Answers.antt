@@ -4,7 +4,6 @@ use mathlib.Core.Path.{◌≡◌}
 use Prim.Native.Nat.{ℕ, ◌*◌, ◌%◌}
 use native.Mathlib.Omega.{arith}
 use lib.Bits.{bit_or}
-use borrow.Author.Rules.{rules}
 use Rattle.rules.specs.Bits.{bit_of}
 use Rattle.laws.proofs.Bits.{bit_of_lt}
 use Rattle.packing.specs.Packing.{Spread, Interleaved}

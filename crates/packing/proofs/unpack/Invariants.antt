@@ -1,18 +1,9 @@
 -- `unpack`: the table is unpacked from its front on. Past the end of the packed table a byte reads as zero, which is four FREE entries.
 -- Assumes nothing.
-use mathlib.Core.Path.{◌≡◌, refl, sym, ap, ◌∙◌}
-use mathlib.Core.List.{List}
-use Prim.Native.Nat.{ℕ, ◌+◌, ◌-◌, ◌*◌, ◌/◌, ◌%◌, ◌≤◌, ◌<◌}
-use native.Mathlib.Decide.{dec_lt}
-use native.Mathlib.Omega.{arith}
-use lib.ListN.{length, get_or, get_or-eq_default}
-use borrow.Author.Rules.{rules}
-use Rattle.rules.specs.Entries.{entry_of, entries_of}
-use Rattle.rules.specs.Tables.{entry_at}
-use Rattle.rules.specs.Planes.{plane_bytes, Sized, Holds}
-use Rattle.laws.proofs.Entries.{four, length_entries_of, get_d_entries_of}
-use Rattle.laws.proofs.Planes.{room_entries, holds_of}
-use Rattle.laws.proofs.Widths.{in_32_bits}
+use mathlib.Core.Path.{◌≡◌}
+use Prim.Native.Nat.{◌-◌, ◌/◌, ◌≤◌}
+use lib.ListN.{length}
+use Rattle.rules.specs.Entries.{entries_of}
 use Rattle.packing.specs.Packing.{UnpackedTo}
 use Rattle.packing.proofs.unpack.Given as goal
 

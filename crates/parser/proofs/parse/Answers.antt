@@ -5,7 +5,6 @@ use mathlib.Core.List.{List}
 use Prim.Native.Nat.{ℕ, ◌-◌}
 use native.Mathlib.Omega.{arith}
 use lib.ListN.{drop, length-take}
-use borrow.Author.Rules.{rules}
 use Rattle.rules.specs.Entries.{entries_of}
 use Rattle.rules.specs.Tables.{used}
 use Rattle.rules.specs.Files.{one_base, table_bytes, blocks_of, root_words, entries_for, used_in, file_of}

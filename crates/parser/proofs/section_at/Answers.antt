@@ -9,7 +9,7 @@ use native.Mathlib.Omega.{arith}
 use lib.Dec.{leb}
 use lib.ListN.{length, drop, length-drop}
 use borrow.Author.Rules.{rules}
-use borrow.Author.Tests.{leb-true, not-true, not-false}
+use borrow.Author.Tests.{leb-true}
 use Rattle.rules.specs.Words.{first_two}
 use Rattle.rules.specs.Refusals.{first_of}
 use Rattle.rules.specs.Files.{Kind, section_tests}

@@ -1,7 +1,6 @@
 -- Each test in turn, with what is known once those before it have passed.
 -- Assumes nothing.
 use mathlib.Core.Path.{sym, ◌∙◌}
-use borrow.Author.Rules.{rules}
 use Rattle.rainlog.proofs.Replies.{torn_roots, torn_stack, whole_lists, bad_heap, many_roots, long_stack, all_passed}
 use Rattle.rainlog.proofs.check.Goals as goal
 

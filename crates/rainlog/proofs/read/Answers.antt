@@ -1,7 +1,6 @@
 -- `rainlog::read` meets its contract. Assumes nothing.
 use mathlib.Core.Path.{sym, ◌∙◌}
 use native.Mathlib.Omega.{arith}
-use borrow.Author.Rules.{rules}
 use Rattle.laws.proofs.Refusals.{not-true, not-false}
 use Rattle.rainlog.proofs.Replies.{read_refused, read_no_log, read_past, read_done}
 use Rattle.rainlog.proofs.read.Goals as goal

@@ -4,7 +4,6 @@ use mathlib.Core.Path.{subst}
 use mathlib.Core.Bool.{true, false}
 use Prim.Native.Nat.{ℕ, ◌-◌, ◌%◌}
 use native.Mathlib.Omega.{arith}
-use borrow.Author.Rules.{rules}
 use Rattle.rules.specs.Planes.{entries_in}
 use Rattle.laws.proofs.Planes.{few_entries}
 use Rattle.search.specs.Starts.{FreeFor}

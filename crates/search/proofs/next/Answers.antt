@@ -1,7 +1,7 @@
 -- `next`: before the word in hand the blocks may start nowhere, so the first bit that is found in it is the next start.
 -- Assumes nothing.
 use mathlib.Core.Path.{◌≡◌, subst}
-use Prim.Native.Nat.{ℕ, ◌+◌, ◌-◌, ◌*◌, ◌≤◌, ◌<◌}
+use Prim.Native.Nat.{ℕ, ◌+◌, ◌-◌, ◌*◌, ◌<◌}
 use native.Mathlib.Omega.{arith}
 use lib.ListN.{length}
 use borrow.Author.Rules.{rules}
@@ -9,7 +9,7 @@ use Rattle.rules.specs.Planes.{entries_in}
 use Rattle.laws.proofs.Planes.{few_entries}
 use Rattle.laws.proofs.Widths.{in_32_bits}
 use Rattle.freeruns.proofs.Rows.{first_of}
-use Rattle.search.specs.Starts.{NoStart, Next}
+use Rattle.search.specs.Starts.{Next}
 use Rattle.search.proofs.Searches.{no_start_join, found_next, none_here, end_next}
 use Rattle.search.proofs.next.Goals as goal
 

@@ -11,7 +11,7 @@ use Rattle.laws.proofs.Planes.{room_entries}
 use Rattle.laws.proofs.Widths.{in_32_bits}
 use Rattle.entries.proofs.Cut.{held_in_planes, in_words}
 use Rattle.freeruns.proofs.Frees.{word_free}
-use Rattle.search.proofs.Searches.{Passed, passed_first, passed_on, passed_to}
+use Rattle.search.proofs.Searches.{passed_first, passed_on, passed_to}
 use Rattle.search.proofs.pass.Goals as goal
 
 -- the answer is one of at most 128 words

@@ -1,7 +1,6 @@
 -- `starts`: fewer than four blocks may start where a row does, four or more only where four are FREE at an aligned block.
 -- Assumes nothing.
 use native.Mathlib.Omega.{arith}
-use borrow.Author.Rules.{rules}
 use Rattle.search.proofs.Searches.{starts_few, starts_fours, starts_none, starts_many}
 use Rattle.search.proofs.starts.Goals as goal
 

@@ -1,6 +1,5 @@
 -- `extend`: the run of stores is what extended says.
 -- Assumes nothing.
-use borrow.Author.Rules.{rules}
 use Rattle.rules.specs.Tables.{extended}
 use Rattle.table.proofs.extend.Goals as goal
 

@@ -1,24 +1,11 @@
 -- `first_fit`: blocks may start nowhere before the start in hand, nor where they would hold a block that is not FREE, so the search may go on after that
 -- block. The answer is the lowest start, and there is one lowest start.
 -- Assumes nothing.
-use mathlib.Core.Path.{◌≡◌, sym}
-use mathlib.Core.Logic.{◌≢◌}
-use mathlib.Core.Option.{some, none}
-use mathlib.Core.List.{List}
-use Prim.Native.Nat.{ℕ, ◌+◌, ◌-◌, ◌≤◌, ◌<◌}
-use native.Mathlib.Decide.{dec_lt}
-use native.Mathlib.Omega.{arith}
-use lib.ListN.{length, get_or}
-use borrow.Author.Rules.{rules}
-use Rattle.rules.specs.Entries.{FREE, HEAD}
-use Rattle.rules.specs.Tables.{entry_at, first_fit}
+use mathlib.Core.Path.{◌≡◌}
+use Prim.Native.Nat.{◌-◌}
 use Rattle.rules.specs.Planes.{entries_in}
-use Rattle.laws.specs.Meaning.{Run, Lowest}
-use Rattle.laws.proofs.Planes.{few_entries}
-use Rattle.laws.proofs.Tables.{first_is, none_first, run_shorter}
-use Rattle.laws.proofs.Widths.{in_32_bits}
+use Rattle.laws.specs.Meaning.{Run}
 use Rattle.search.specs.Starts.{Next}
-use Rattle.search.proofs.Searches.{next_join, none_over}
 use Rattle.table.proofs.first_fit.Given as goal
 
 abbrev pub invariant-loop-i : goal.invariant-loop-i

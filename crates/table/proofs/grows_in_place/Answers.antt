@@ -6,8 +6,6 @@ use mathlib.Core.List.{List}
 use Prim.Native.Nat.{ℕ, ◌+◌, ◌-◌}
 use native.Mathlib.Omega.{arith}
 use lib.Dec.{leb}
-use borrow.Author.Rules.{rules}
-use borrow.Author.Tests.{not-true, not-false}
 use Rattle.rules.specs.Tables.{free_from, aligned, grows_in_place}
 use Rattle.rules.specs.Planes.{entries_in}
 use Rattle.laws.proofs.Planes.{few_entries}

@@ -1,18 +1,11 @@
 -- `is_free`: every block passed is FREE, so a block that is not, or too few blocks, is no run, and the loop's end is one.
 -- Assumes nothing.
-use mathlib.Core.Path.{◌≡◌, sym, ◌∙◌}
+use mathlib.Core.Path.{◌≡◌}
 use Prim.Native.Nat.{ℕ, ◌+◌, ◌-◌, ◌≤◌, ◌<◌}
-use native.Mathlib.Omega.{arith}
 use lib.ListN.{length}
-use borrow.Author.Rules.{rules}
-use borrow.Author.Count.{below_more}
-use borrow.Author.Tests.{le-leb, lt-leb}
 use Rattle.rules.specs.Entries.{FREE}
-use Rattle.rules.specs.Tables.{entry_at, free_from}
+use Rattle.rules.specs.Tables.{entry_at}
 use Rattle.rules.specs.Planes.{entries_in}
-use Rattle.laws.proofs.Planes.{few_entries}
-use Rattle.laws.proofs.Tables.{free_room, no_run_lt, run_le}
-use Rattle.laws.proofs.Widths.{in_32_bits}
 use Rattle.table.proofs.is_free.Given as goal
 
 abbrev pub invariant-loop-i : goal.invariant-loop-i

@@ -5,7 +5,6 @@ use Prim.Native.Nat.{suc}
 use native.Mathlib.Numerals.{add-one}
 use native.Mathlib.Omega.{arith}
 use lib.ListN.{length, length-set}
-use borrow.Author.Rules.{rules}
 use Rattle.rules.specs.Tables.{placed}
 use Rattle.rules.specs.Planes.{entries_in}
 use Rattle.laws.proofs.Planes.{few_entries}

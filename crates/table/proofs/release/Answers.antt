@@ -1,6 +1,5 @@
 -- `release`: the run of stores is what released says.
 -- Assumes nothing.
-use borrow.Author.Rules.{rules}
 use Rattle.rules.specs.Tables.{released}
 use Rattle.table.proofs.release.Goals as goal
 

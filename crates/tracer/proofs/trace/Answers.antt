@@ -1,15 +1,11 @@
 -- Tracing the next object from the present state ends where tracing the first one ends. The measure is the HEADs and the depth.
 -- Assumes nothing.
-use mathlib.Core.Path.{◌≡◌, refl, ap, ◌∙◌}
+use mathlib.Core.Path.{refl, ap, ◌∙◌}
 use mathlib.Core.Bool.{Bool}
-use Prim.Native.Nat.{◌-◌, ◌<◌}
+use Prim.Native.Nat.{◌-◌}
 use native.Mathlib.Omega.{arith}
-use borrow.Author.Rules.{rules}
-use lib.ListN.{length}
-use Rattle.rules.specs.Planes.{entries_in}
 use Rattle.rules.specs.Marking.{trace}
-use Rattle.laws.proofs.Marking.{to_drain}
-use Rattle.visitor.specs.Variables.{context_of, state_of, idle, CanTrace}
+use Rattle.visitor.specs.Variables.{context_of, idle}
 use Rattle.tracer.proofs.Turning.{can_start, Popped, popped, trace_end}
 use Rattle.tracer.proofs.trace.Goals as goal
 

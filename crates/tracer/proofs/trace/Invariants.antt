@@ -1,16 +1,12 @@
 -- Tracing the next object from the present state ends where tracing the first one ends. The measure is the HEADs and the depth.
 -- Assumes nothing.
-use mathlib.Core.Path.{◌≡◌, refl, ap, ◌∙◌}
-use mathlib.Core.Bool.{Bool}
+use mathlib.Core.Path.{◌≡◌}
 use Prim.Native.Nat.{◌-◌, ◌<◌}
-use native.Mathlib.Omega.{arith}
-use borrow.Author.Rules.{rules}
 use lib.ListN.{length}
 use Rattle.rules.specs.Planes.{entries_in}
 use Rattle.rules.specs.Marking.{trace}
 use Rattle.laws.proofs.Marking.{to_drain}
-use Rattle.visitor.specs.Variables.{context_of, state_of, idle, CanTrace}
-use Rattle.tracer.proofs.Turning.{can_start, Popped, popped, trace_end}
+use Rattle.visitor.specs.Variables.{context_of, state_of, CanTrace}
 use Rattle.tracer.proofs.trace.Given as goal
 
 abbrev pub invariant-loop-base : goal.invariant-loop-base

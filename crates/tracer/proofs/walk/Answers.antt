@@ -1,15 +1,12 @@
 -- What is left to walk from the present state ends where all the words end from the state at the start. The measure is the words left.
 -- Assumes nothing.
-use mathlib.Core.Path.{◌≡◌, refl, ◌∙◌}
-use Prim.Native.Nat.{◌+◌, ◌*◌, ◌/◌, ◌≤◌}
+use mathlib.Core.Path.{refl, ◌∙◌}
+use Prim.Native.Nat.{◌+◌, ◌*◌, ◌≤◌}
 use native.Mathlib.Omega.{arith}
-use borrow.Author.Rules.{rules}
 use lib.ListN.{length}
-use Rattle.rules.specs.Planes.{entries_in, IsTable}
-use Rattle.rules.specs.Marking.{walk_words}
 use Rattle.laws.proofs.Planes.{few_entries}
 use Rattle.laws.proofs.Widths.{in_32_bits}
-use Rattle.visitor.specs.Variables.{context_of, state_of, Knows}
+use Rattle.visitor.specs.Variables.{state_of}
 use Rattle.tracer.proofs.Turning.{in_space, walk_turn, walk_end}
 use Rattle.tracer.proofs.walk.Goals as goal
 

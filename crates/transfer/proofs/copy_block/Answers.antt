@@ -5,7 +5,6 @@ use mathlib.Core.List.{List}
 use Prim.Native.Nat.{ℕ}
 use lib.ListN.{length}
 use lib.Seq.{sets}
-use borrow.Author.Rules.{rules}
 use Rattle.rules.specs.Words.{bytes_of, word_at}
 use Rattle.laws.specs.Meaning.{AllBytes}
 use Rattle.laws.proofs.Lists.{sets_all}

@@ -2,7 +2,7 @@
 -- Assumes nothing.
 use mathlib.Core.Path.{◌≡◌}
 use mathlib.Core.List.{List}
-use Prim.Native.Nat.{ℕ, ◌+◌, ◌-◌, ◌*◌, ◌^◌, ◌≤◌, ◌<◌}
+use Prim.Native.Nat.{ℕ, ◌+◌, ◌-◌, ◌*◌, ◌≤◌}
 use native.Mathlib.Omega.{arith}
 use lib.ListN.{length}
 use lib.Seq.{sets}
@@ -11,8 +11,7 @@ use borrow.Rule.Slice.PartMut.{put_mid}
 use Rattle.rules.specs.Images.{block_bytes}
 use Rattle.laws.proofs.Images.{length_block}
 use Rattle.laws.proofs.Widths.{in_32_bits, in_slice}
-use Rattle.transfer.specs.Copying.{Inside, blocks_in}
-use Rattle.transfer.proofs.Copying.{Remains, remains_all, remains_none, remains_room, remains_next, cut_length, moved, blocks_none, First, first_bit, first_split, first_inside, others_inside}
+use Rattle.transfer.proofs.Copying.{remains_all, remains_none, remains_room, remains_next, cut_length, moved, blocks_none, First, first_bit, first_split, first_inside, others_inside}
 use Rattle.transfer.proofs.copy_group.Goals as goal
 
 pub loop-left-init : goal.loop-left-init

@@ -9,7 +9,7 @@ use lib.Seq.{drop-drop, length-take-le}
 use borrow.Author.Rules.{rules}
 use Rattle.laws.proofs.Lists.{sets_all}
 use Rattle.laws.proofs.Widths.{in_slice}
-use Rattle.transfer.proofs.Copying.{Remains, Splits, remains_all, remains_none, remains_next, cut_length, moved}
+use Rattle.transfer.proofs.Copying.{Splits, remains_all, remains_none, remains_next, cut_length, moved}
 use Rattle.transfer.proofs.copy_run.Goals as goal
 
 -- the next block comes first, and the others follow

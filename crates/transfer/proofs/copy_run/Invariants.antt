@@ -1,15 +1,9 @@
 -- `copy_run`: block by block. What remains is the source from the next block on.
 -- Assumes nothing.
-use mathlib.Core.Path.{◌≡◌, refl, sym, ◌∙◌}
-use mathlib.Core.List.{List}
-use Prim.Native.Nat.{ℕ, ◌+◌, ◌-◌, ◌%◌, ◌≤◌, ◌<◌}
-use native.Mathlib.Omega.{arith}
-use lib.ListN.{length, take, drop, take-append-drop, length-drop, drop_of_length-le}
-use lib.Seq.{drop-drop, length-take-le}
-use borrow.Author.Rules.{rules}
-use Rattle.laws.proofs.Lists.{sets_all}
-use Rattle.laws.proofs.Widths.{in_slice}
-use Rattle.transfer.proofs.Copying.{Remains, Splits, remains_all, remains_none, remains_next, cut_length, moved}
+use mathlib.Core.Path.{◌≡◌}
+use Prim.Native.Nat.{◌-◌, ◌%◌, ◌≤◌}
+use lib.ListN.{length, drop}
+use Rattle.transfer.proofs.Copying.{Remains}
 use Rattle.transfer.proofs.copy_run.Given as goal
 
 abbrev pub invariant-loop-at : goal.invariant-loop-at

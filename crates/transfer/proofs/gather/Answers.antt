@@ -1,8 +1,8 @@
 -- `gather`: what remains is the used blocks from the next 64 on.
 -- Assumes nothing.
-use Prim.Native.Nat.{◌+◌, ◌-◌, ◌*◌, ◌≤◌, ◌<◌}
+use Prim.Native.Nat.{◌+◌, ◌-◌, ◌≤◌, ◌<◌}
 use native.Mathlib.Omega.{arith}
-use lib.ListN.{length, drop}
+use lib.ListN.{length}
 use borrow.Author.Rules.{rules}
 use Rattle.rules.specs.Planes.{entries_in}
 use Rattle.rules.specs.Images.{used_from}
@@ -10,7 +10,7 @@ use Rattle.laws.proofs.Bits.{bit_of_or}
 use Rattle.laws.proofs.Planes.{few_entries}
 use Rattle.laws.proofs.Images.{length_used}
 use Rattle.laws.proofs.Widths.{in_32_bits}
-use Rattle.transfer.proofs.Copying.{Remains, remains_all, remains_none, remains_room, remains_next, groups_end, group_next, group_inside}
+use Rattle.transfer.proofs.Copying.{remains_all, remains_none, remains_room, remains_next, groups_end, group_next, group_inside}
 use Rattle.transfer.proofs.gather.Goals as goal
 
 pub loop-i-init : goal.loop-i-init

@@ -10,7 +10,7 @@ use borrow.Rule.Slice.PartMut.{put_mid}
 use Rattle.rules.specs.Images.{block_bytes}
 use Rattle.laws.proofs.Widths.{in_32_bits}
 use Rattle.transfer.proofs.Copying.{cut_length, moved, First, first_bit, first_inside}
-use Rattle.transfer.proofs.Placing.{Places, places_all, places_none, places_next, fewer}
+use Rattle.transfer.proofs.Placing.{places_all, places_none, places_next, fewer}
 use Rattle.transfer.proofs.place_group.Goals as goal
 
 pub loop-left-init : goal.loop-left-init

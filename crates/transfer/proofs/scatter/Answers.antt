@@ -10,7 +10,7 @@ use Rattle.rules.specs.Planes.{entries_in}
 use Rattle.laws.proofs.Tables.{used_le}
 use Rattle.laws.proofs.Planes.{few_entries}
 use Rattle.laws.proofs.Widths.{in_32_bits}
-use Rattle.transfer.proofs.Placing.{Fills, fills_all, fills_none, fills_next, fills_room}
+use Rattle.transfer.proofs.Placing.{fills_all, fills_none, fills_next, fills_room}
 use Rattle.transfer.proofs.scatter.Goals as goal
 
 pub loop-i-init : goal.loop-i-init

@@ -1,7 +1,6 @@
 -- A block of the scan that is remembered has the same start.
 -- Assumes nothing.
 use mathlib.Core.Path.{sym, ◌∙◌}
-use borrow.Author.Rules.{rules}
 use borrow.Author.Tests.{leb-true}
 use Rattle.rules.specs.Planes.{entries_in}
 use Rattle.laws.proofs.Tables.{start_between}

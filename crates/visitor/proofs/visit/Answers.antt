@@ -1,19 +1,15 @@
 -- The three ends: a HEAD, a TAIL, and another block or none. A target that is no TAIL starts its own object.
 -- Assumes nothing.
-use mathlib.Core.Path.{◌≡◌, sym, ap, subst, ◌∙◌}
+use mathlib.Core.Path.{◌≡◌, sym, ap, ◌∙◌}
 use mathlib.Core.List.{List}
 use mathlib.Core.Option.{some, none}
 use Prim.Native.Nat.{ℕ}
 use lib.Dec.{ltb}
 use lib.ListN.{length}
-use borrow.Author.Rules.{rules}
 use Rattle.rules.specs.Tests.{pick}
 use Rattle.rules.specs.Planes.{entries_in}
 use Rattle.rules.specs.Pointers.{target_of, head_at}
 use Rattle.rules.specs.Marking.{state, visit_to}
-use Rattle.entries.specs.declared.Met.{Met}
-use Rattle.entries.specs.declared.Met.TheVariants.{Head, Tail, Other}
-use Rattle.entries.specs.Marking.{MarksHead}
 use Rattle.visitor.specs.Variables.{stacked, overflow_of, context_of, state_of}
 use Rattle.visitor.proofs.Pointing.{tail_inside, visit_at, visit_head, visit_other}
 use Rattle.visitor.proofs.Stacking.{came_to, came_pushed, came_same}

@@ -1,6 +1,6 @@
 -- `sweep`: the table is swept from its front on, a word of each plane at a time and then single bytes.
 -- Assumes nothing.
-use Rattle.std.proofs.Common.{◌≡◌, ℕ, ◌+◌, ◌-◌, ◌*◌, ◌/◌, ◌≤◌, List, length, ◌∙◌, arith, rules}
+use Rattle.std.proofs.Common.{◌≡◌, ◌+◌, ◌*◌, ◌/◌, ◌≤◌, ◌∙◌, arith}
 use Rattle.rules.specs.Planes.{plane_bytes, entries_in}
 use Rattle.laws.proofs.Planes.{room_entries}
 use Rattle.laws.proofs.Widths.{in_32_bits}

@@ -1,11 +1,8 @@
 -- `sweep`: the table is swept from its front on, a word of each plane at a time and then single bytes.
 -- Assumes nothing.
-use Rattle.std.proofs.Common.{◌≡◌, ℕ, ◌+◌, ◌-◌, ◌*◌, ◌/◌, ◌≤◌, List, length, ◌∙◌, arith, rules}
-use Rattle.rules.specs.Planes.{plane_bytes, entries_in}
-use Rattle.laws.proofs.Planes.{room_entries}
-use Rattle.laws.proofs.Widths.{in_32_bits}
+use Rattle.std.proofs.Common.{◌≡◌, ℕ, ◌-◌, ◌*◌, ◌≤◌, List, length}
+use Rattle.rules.specs.Planes.{entries_in}
 use Rattle.whole.specs.Sweeps.{SweptTo}
-use Rattle.whole.proofs.Steps.{swept_start, swept_end, keeping_lt}
 use Rattle.whole.proofs.sweep.Given as goal
 
 abbrev pub invariant-loop-i : goal.invariant-loop-i

@@ -1,6 +1,6 @@
 -- `test_one`: a byte of each plane has eight entries.
 -- Assumes nothing.
-use Rattle.std.proofs.Common.{◌≡◌, ℕ, ◌+◌, ◌*◌, ◌/◌, ◌<◌, List, get_or, ◌∙◌, arith, rules}
+use Rattle.std.proofs.Common.{◌≡◌, ℕ, ◌+◌, ◌*◌, ◌/◌, ◌<◌, List, get_or, ◌∙◌, arith}
 use lib.Bits.{bit_or, or_lt}
 use Rattle.rules.specs.Bits.{bit_of}
 use Rattle.rules.specs.Tables.{entry_at}

@@ -1,14 +1,8 @@
 -- `well_formed`: the entries are tested from the front on, eight bytes of each plane at a time and then single ones.
 -- Assumes nothing.
-use Rattle.std.proofs.Common.{◌≡◌, ◌+◌, ◌-◌, ◌*◌, ◌/◌, ◌≤◌, length, arith, rules}
-use borrow.Rule.Slice.PartMut.{mid_of}
+use Rattle.std.proofs.Common.{◌-◌, ◌*◌, ◌≤◌}
 use Rattle.rules.specs.Planes.{entries_in}
-use Rattle.laws.proofs.Planes.{length_entries_in, room_entries}
-use Rattle.laws.proofs.Widths.{in_32_bits}
-use Rattle.entries.specs.Groups.{InPlanes}
-use Rattle.entries.proofs.Cut.{held_in_planes, plane_lengths}
 use Rattle.whole.specs.Shapes.{TestedFrom}
-use Rattle.whole.proofs.Testing.{tested_none, tested_all, tests_on, before_lt}
 use Rattle.whole.proofs.well_formed.Given as goal
 
 abbrev pub invariant-loop-i : goal.invariant-loop-i

@@ -1,6 +1,6 @@
 -- `Address::is_base` takes the rule's three tests in order; a base above the address space ends there too.
 -- Assumes nothing.
-use Rattle.std.proofs.Common.{◌≡◌, ◌+◌, ◌*◌, ◌%◌, ◌<◌, ◌≢◌, arith, rules, eq-eqb, ne_eqb, le-leb}
+use Rattle.std.proofs.Common.{◌≡◌, ◌+◌, ◌*◌, ◌%◌, ◌<◌, ◌≢◌, arith, eq-eqb, ne_eqb, le-leb}
 use borrow.Author.Tests.{lt-leb}
 use Rattle.rules.specs.Pointers.{address_of, good_base}
 use Rattle.numbers.proofs.Address.is_base.Goals as goal

@@ -1,6 +1,6 @@
 -- `Address::target` is the block at the address that the word holds.
 -- Assumes nothing.
-use Rattle.std.proofs.Common.{ap, ◌∙◌, rules}
+use Rattle.std.proofs.Common.{ap, ◌∙◌}
 use Rattle.rules.specs.Pointers.{target_of}
 use Rattle.numbers.proofs.Address.target.Goals as goal
 
