@@ -20,7 +20,7 @@ use Rattle.rules.specs.Reach.{Edge, Reachable, root, edge}
 use Rattle.rules.specs.Calls.{collecting, collect}
 use Rattle.laws.specs.Meaning.{Accepted}
 use Rattle.laws.proofs.Words.{words_of_append}
-use Rattle.laws.proofs.Pointers.{leads_stays}
+use Rattle.laws.proofs.Leading.{leads_stays}
 use Rattle.laws.proofs.Calls.{sub_same}
 use Rattle.keeping.specs.Keeping.{collected, Held, Keeps, Collected, but_rescans, GoodRoots, GoodStack}
 use Rattle.keeping.proofs.Owners.{reachable_head}

@@ -4,5 +4,6 @@ pub mod Collecting
 pub mod Algebra
 pub mod Times
 pub mod Samples
+pub mod Concluded
 pub mod Limits
 pub mod Restated

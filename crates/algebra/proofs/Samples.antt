@@ -27,8 +27,6 @@ use Rattle.rules.specs.Runs.{step}
 use Rattle.rules.specs.Memory.{Memory, Result, AcceptedIn, or_refused, perform}
 use Rattle.laws.proofs.Below.{below}
 use Rattle.laws.proofs.Tables.{entry_outside}
-use Rattle.laws.proofs.Memory.{packed_faithful}
-use Rattle.laws.proofs.Planes.{planes_faithful}
 use Rattle.keeping.specs.Keeping.{but_rescans, GoodRoots, GoodStack}
 use Rattle.keeping.specs.Samples.{sample_base, address_at}
 use Rattle.algebra.specs.Algebra.{free_in, collect_in, Usable, entry_in, ObjectIn, Commute, SameMembers, SameCollection, unless_free, Union, NothingMore}
@@ -155,10 +153,10 @@ good_two : GoodRoots roots_ec × GoodRoots roots_ac
 unfolding bytes_of
 good_two = (record { whole = refl; few = omega arith }, record { whole = refl; few = omega arith })
 
--- 4,096 joined
-few_joined : length (many_b ++ roots_ac) / 4 ≤ 4096
+-- 16,384 bytes joined
+joined_words : length (many_b ++ roots_ac) ≡ 16384
 unfolding bytes_of
-few_joined = rw (length-append many_b roots_ac) (let l = times_length 4094 root_b in omega arith)
+joined_words = rw (length-append many_b roots_ac) (let l = times_length 4094 root_b in omega arith)
 
 -- block by block, what one or the other keeps
 either_block : (k : ℕ) → unless_free (entry_at entries_ab k) (entry_at entries_acde k) ≡ entry_at entries_abcde k
@@ -175,78 +173,60 @@ module _ {f : Form} (faithful : Faithful f) (c : Computed f) where
   abbrev from : List ℕ → List ℕ → Result
   from roots stack = collect_in f sample_base roots stack m
 
-  near : Commute (free_in f sample_base 1 m) (free_in f sample_base 4 (free_in f sample_base 1 m).memory) (free_in f sample_base 4 m) (free_in f sample_base 1 (free_in f sample_base 4 m).memory)
-  near = frees_commute f faithful sample_base 1 4 m c.usable c.objects.1 c.objects.2 (λ e. omega arith)
-
-  far : Commute (free_in f sample_base 8 m) (free_in f sample_base 0 (free_in f sample_base 8 m).memory) (free_in f sample_base 0 m) (free_in f sample_base 8 (free_in f sample_base 0 m).memory)
-  far = frees_commute f faithful sample_base 8 0 m c.usable c.objects.3 c.objects.0 (λ e. omega arith)
-
-  ce_accepted : AcceptedIn (from roots_ce [])
-  ce_accepted = ap (λ (a : Answer). a.refusal) c.ce.0
-
-  to_many : SameCollection (from roots_ce []) (from many_ec (stack_of 64))
-  to_many = roots_are_a_set f sample_base roots_ce many_ec [] (stack_of 64) m ce_accepted members_ec good_many stack_good
-
-  to_few : SameCollection (from many_ec (stack_of 64)) (from roots_ec [])
-  to_few = roots_are_a_set f sample_base many_ec roots_ec (stack_of 64) [] m to_many.accepted members_once good_two.0 none_good
-
-  b_many : SameCollection (from root_b []) (from many_b [])
-  b_many = roots_are_a_set f sample_base root_b many_b [] [] m c.b.0 members_b good_b none_good
-
-  ac_stack : SameCollection (from roots_ac []) (from roots_ac (stack_of 64))
-  ac_stack = roots_are_a_set f sample_base roots_ac roots_ac [] (stack_of 64) m c.ac.0 (λ x. (λ i. i, λ i. i)) good_two.1 stack_good
-
-  union : Union f (from many_b []) (from roots_ac (stack_of 64)) (from (many_b ++ roots_ac) (stack_of 64))
-  union = roots_join f faithful sample_base many_b roots_ac [] (stack_of 64) (stack_of 64) m b_many.accepted ac_stack.accepted few_joined stack_good
-
-  -- the entries that the parts leave
-  b_entry : (k : ℕ) → entry_in f (from many_b []).memory k ≡ entry_at entries_ab k
-  b_entry k = ap (λ (n : Memory). entry_in f n k) (sym b_many.same) ∙ ap (λ (es : List ℕ). entry_at es k) c.b.1
-
-  ac_entry : (k : ℕ) → entry_in f (from roots_ac (stack_of 64)).memory k ≡ entry_at entries_acde k
-  ac_entry k = ap (λ (n : Memory). entry_in f n k) (sym ac_stack.same) ∙ ap (λ (es : List ℕ). entry_at es k) c.ac.1
-
-  many_left : (from many_ec (stack_of 64)).memory ≡ with_cde f
-  many_left = sym to_many.same ∙ c.ce.1
-
-  again : NothingMore (from roots_ce []) (collect_in f sample_base roots_ce (stack_of 64) (with_cde f))
-  again =
-      subst (λ (n : Memory). NothingMore (from roots_ce []) (collect_in f sample_base roots_ce (stack_of 64) n)) c.ce.1
-      (collect_idempotent f faithful sample_base roots_ce [] (stack_of 64) m ce_accepted stack_good)
-
-  again_many : NothingMore (from many_ec (stack_of 64)) (collect_in f sample_base many_ec [] (with_cde f))
-  again_many =
-      subst (λ (n : Memory). NothingMore (from many_ec (stack_of 64)) (collect_in f sample_base many_ec [] n)) many_left
-      (collect_idempotent f faithful sample_base many_ec (stack_of 64) [] m to_many.accepted none_good)
-
   pub concluded : Concluded f
-  concluded = record {
-    all_accepted = near.accepted;
-    c_first = near.answers.1 ∙ c.b_c.1;
-    b_second = sym near.answers.0 ∙ c.b_c.0;
-    c_b = sym near.same ∙ c.b_c.2;
-    a_first = far.answers.1 ∙ c.e_a.1;
-    e_second = sym far.answers.0 ∙ c.e_a.0;
-    a_e = sym far.same ∙ c.e_a.2;
-    many_accepted = to_many.accepted;
-    many_answer = sym to_many.answer ∙ ap but_rescans c.ce.0;
-    many = many_left;
-    ec_answer = sym to_few.answer ∙ sym to_many.answer ∙ ap but_rescans c.ce.0;
-    ec = sym to_few.same ∙ many_left;
-    joined_accepted = union.accepted;
-    joined_b = (union.kept 1).1 (inl (b_entry 1));
-    joined_e = (union.kept 8).1 (inr (ac_entry 8));
-    joined_f = λ e. ⊎_elim (λ p. omega (arith, b_entry 10, p)) (λ p. omega (arith, ac_entry 10, p)) ((union.kept 10).0 e);
-    joined_blocks = λ k. union.blocks k ∙ rw (b_entry k, ac_entry k) (either_block k);
-    second_accepted = again.accepted;
-    second = again.same ∙ c.ce.1;
-    second_kept = again.kept ∙ ap (λ (a : Answer). a.kept) c.ce.0;
-    second_change = again.change;
-    second_many = again_many.same ∙ many_left;
-  }
-
-pub planes_concluded : Concluded (planes 3)
-planes_concluded = concluded (planes_faithful 3) planes_computed
-
-pub packed_concluded : Concluded packed
-packed_concluded = concluded packed_faithful packed_computed
+  concluded =
+      let near : Commute (free_in f sample_base 1 m) (free_in f sample_base 4 (free_in f sample_base 1 m).memory) (free_in f sample_base 4 m) (free_in f sample_base 1 (free_in f sample_base 4 m).memory) =
+      frees_commute f faithful sample_base 1 4 m c.usable c.objects.1 c.objects.2 (λ e. omega arith) in
+      let far : Commute (free_in f sample_base 8 m) (free_in f sample_base 0 (free_in f sample_base 8 m).memory) (free_in f sample_base 0 m) (free_in f sample_base 8 (free_in f sample_base 0 m).memory) =
+      frees_commute f faithful sample_base 8 0 m c.usable c.objects.3 c.objects.0 (λ e. omega arith) in
+      let ce_accepted : AcceptedIn (from roots_ce []) =
+      ap (λ (a : Answer). a.refusal) c.ce.0 in
+      let to_many : SameCollection (from roots_ce []) (from many_ec (stack_of 64)) =
+      roots_are_a_set f sample_base roots_ce many_ec [] (stack_of 64) m ce_accepted members_ec good_many stack_good in
+      let to_few : SameCollection (from many_ec (stack_of 64)) (from roots_ec []) =
+      roots_are_a_set f sample_base many_ec roots_ec (stack_of 64) [] m to_many.accepted members_once good_two.0 none_good in
+      let b_many : SameCollection (from root_b []) (from many_b []) =
+      roots_are_a_set f sample_base root_b many_b [] [] m c.b.0 members_b good_b none_good in
+      let ac_stack : SameCollection (from roots_ac []) (from roots_ac (stack_of 64)) =
+      roots_are_a_set f sample_base roots_ac roots_ac [] (stack_of 64) m c.ac.0 (λ x. (λ i. i, λ i. i)) good_two.1 stack_good in
+      let few_joined : length (many_b ++ roots_ac) / 4 ≤ 4096 =
+      omega (arith, joined_words) in
+      let union : Union f (from many_b []) (from roots_ac (stack_of 64)) (from (many_b ++ roots_ac) (stack_of 64)) =
+      roots_join f faithful sample_base many_b roots_ac [] (stack_of 64) (stack_of 64) m b_many.accepted ac_stack.accepted few_joined stack_good in
+      -- the entries that the parts leave
+      let b_entry : (k : ℕ) → entry_in f (from many_b []).memory k ≡ entry_at entries_ab k =
+      λ k. ap (λ (n : Memory). entry_in f n k) (sym b_many.same) ∙ ap (λ (es : List ℕ). entry_at es k) c.b.1 in
+      let ac_entry : (k : ℕ) → entry_in f (from roots_ac (stack_of 64)).memory k ≡ entry_at entries_acde k =
+      λ k. ap (λ (n : Memory). entry_in f n k) (sym ac_stack.same) ∙ ap (λ (es : List ℕ). entry_at es k) c.ac.1 in
+      let many_left : (from many_ec (stack_of 64)).memory ≡ with_cde f =
+      sym to_many.same ∙ c.ce.1 in
+      let again : NothingMore (from roots_ce []) (collect_in f sample_base roots_ce (stack_of 64) (with_cde f)) =
+      subst (λ (n : Memory). NothingMore (from roots_ce []) (collect_in f sample_base roots_ce (stack_of 64) n)) c.ce.1
+      (collect_idempotent f faithful sample_base roots_ce [] (stack_of 64) m ce_accepted stack_good) in
+      let again_many : NothingMore (from many_ec (stack_of 64)) (collect_in f sample_base many_ec [] (with_cde f)) =
+      subst (λ (n : Memory). NothingMore (from many_ec (stack_of 64)) (collect_in f sample_base many_ec [] n)) many_left
+      (collect_idempotent f faithful sample_base many_ec (stack_of 64) [] m to_many.accepted none_good) in
+      record {
+        all_accepted = near.accepted;
+        c_first = near.answers.1 ∙ c.b_c.1;
+        b_second = sym near.answers.0 ∙ c.b_c.0;
+        c_b = sym near.same ∙ c.b_c.2;
+        a_first = far.answers.1 ∙ c.e_a.1;
+        e_second = sym far.answers.0 ∙ c.e_a.0;
+        a_e = sym far.same ∙ c.e_a.2;
+        many_accepted = to_many.accepted;
+        many_answer = sym to_many.answer ∙ ap but_rescans c.ce.0;
+        many = many_left;
+        ec_answer = sym to_few.answer ∙ sym to_many.answer ∙ ap but_rescans c.ce.0;
+        ec = sym to_few.same ∙ many_left;
+        joined_accepted = union.accepted;
+        joined_b = (union.kept 1).1 (inl (b_entry 1));
+        joined_e = (union.kept 8).1 (inr (ac_entry 8));
+        joined_f = λ e. ⊎_elim (λ p. omega (arith, b_entry 10, p)) (λ p. omega (arith, ac_entry 10, p)) ((union.kept 10).0 e);
+        joined_blocks = λ k. union.blocks k ∙ rw (b_entry k, ac_entry k) (either_block k);
+        second_accepted = again.accepted;
+        second = again.same ∙ c.ce.1;
+        second_kept = again.kept ∙ ap (λ (a : Answer). a.kept) c.ce.0;
+        second_change = again.change;
+        second_many = again_many.same ∙ many_left;
+      }

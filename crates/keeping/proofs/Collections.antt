@@ -3,27 +3,28 @@
 use mathlib.Core.Path.{◌≡◌, refl, ap, ◌∙◌}
 use mathlib.Core.Logic.{◌≢◌}
 use mathlib.Core.Bool.{true, not}
-use mathlib.Core.List.{List, [], ◌∷◌}
+use mathlib.Core.List.{List}
 use Prim.Native.Nat.{ℕ, ◌+◌, ◌*◌, ◌/◌, ◌%◌, ◌≤◌, ◌<◌}
 use native.Mathlib.Omega.{arith}
 use lib.ListN.{length, get_or}
-use borrow.Author.Tests.{ltb-false, le-ltb}
+use borrow.Author.Tests.{le-ltb}
 use Rattle.rules.specs.Words.{words_of}
 use Rattle.rules.specs.Entries.{FREE}
 use Rattle.rules.specs.Tables.{entry_at, well_formed, block_count, used}
 use Rattle.rules.specs.Outcomes.{Heap, Outcome, unless_refused}
 use Rattle.rules.specs.Refusals.{first_of, good_lists, bad_shape, ill_formed, many_roots, long_stack, collection_tests}
 use Rattle.rules.specs.Calls.{collecting, collect}
-use Rattle.laws.specs.Meaning.{Passed, Accepted}
+use Rattle.laws.specs.Meaning.{Accepted}
 use Rattle.rules.specs.Memory.{heap_in}
-use Rattle.laws.proofs.Refusals.{first_no, first_last, first_none, first_passed, lists_of, lists_say, accepts, accepted_none}
+use Rattle.laws.proofs.Refusals.{first_no, first_last, lists_of, accepts, accepted_none}
 use Rattle.laws.proofs.Tables.{extent_of, extent_used}
 use Rattle.laws.proofs.Marking.{head_inside}
-use Rattle.keeping.specs.Keeping.{marking, collected, Collected, KeepsExactly, AnyStack, Agree, GoodRoots, GoodStack}
+use Rattle.keeping.specs.Keeping.{marking, collected, Collected, KeepsExactly, AnyStack, Agree}
 use Rattle.keeping.proofs.Owners.{reachable_head}
 use Rattle.keeping.proofs.Kept.{keeps}
 use Rattle.keeping.proofs.Counts.{few_rescans, used_less}
 use Rattle.keeping.proofs.Same.{any_room}
+use Rattle.keeping.proofs.Asked.{Asked, tests_ask}
 
 -- what a collection does if none of its tests holds
 abbrev pub acted : ℕ → Heap → List ℕ → List ℕ → Outcome
@@ -36,25 +37,7 @@ collect_from base h roots stack = refl
 
 -- ---- what a collection asks
 
--- it is accepted exactly if these are
-pub record Asked (base : ℕ) (h : Heap) (roots stack : List ℕ) : Type 0 where
-  pub passed : Passed base h
-  pub good_roots : GoodRoots roots
-  pub good_stack : GoodStack stack
-
 module _ (base : ℕ) (h : Heap) (roots stack : List ℕ) where
-  pub tests_ask : first_of (collection_tests base h roots stack) ≡ 0 → Asked base h roots stack
-  tests_ask e =
-      let p = first_passed (good_lists base h roots stack) h _ e in
-      let s = lists_say base h roots stack p.0 in
-      let r = first_none (many_roots roots) (long_stack stack ∷ []) (omega arith) p.2 in
-      let t = first_none (long_stack stack) [] (omega arith) r.1 in
-      record {
-        passed = record { shape = s.0; well = p.1 };
-        good_roots = record { whole = s.1; few = ltb-false 4096 (length roots / 4) r.0 };
-        good_stack = record { whole = s.2; short = ltb-false 64 (length stack / 4) t.0 };
-      }
-
   tests_none : Asked base h roots stack → first_of (collection_tests base h roots stack) ≡ 0
   tests_none a =
       first_no (bad_shape (good_lists base h roots stack)) _ (ap not (lists_of base h roots stack (a.passed.shape, a.good_roots.whole, a.good_stack.whole)))
@@ -67,7 +50,7 @@ module _ (base : ℕ) (h : Heap) (roots stack : List ℕ) where
       accepted_none (first_of (collection_tests base h roots stack)) h stack (acted base h roots stack) (rw (collect_from base h roots stack) at accepted)
 
   pub collect_asks : Accepted (collect base h roots stack) → Asked base h roots stack
-  collect_asks accepted = tests_ask (no_refusal accepted)
+  collect_asks accepted = tests_ask base h roots stack (no_refusal accepted)
 
   pub collect_accepts : Asked base h roots stack → Accepted (collect base h roots stack)
   unfolding collecting

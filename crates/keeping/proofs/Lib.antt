@@ -7,6 +7,8 @@ pub mod Kept
 pub mod Counts
 pub mod Same
 pub mod Alike
+pub mod Asked
 pub mod Collections
 pub mod Determined
+pub mod Computed
 pub mod Samples

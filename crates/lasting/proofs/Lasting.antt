@@ -30,8 +30,8 @@ use Rattle.loglaws.proofs.Chaining.{chain_same, chain_object, chain_one}
 use Rattle.loglaws.proofs.Lasting.{lasts_once, survey_sound}
 use Rattle.loglaws.proofs.Promised.{log_promises}
 use Rattle.loglaws.proofs.Uses.{fit_or_not, longer_others, dropped_others}
-use Rattle.services.specs.Services.{Service, HeapCall, Append, Read, Drop, Asked, served_to, lent_after_by}
-use Rattle.lasting.specs.Lasting.{Spares, AllSpare, done, next, LentFor}
+use Rattle.services.specs.Services.{Service, HeapCall, Append, Read, Drop, Asked, served_to}
+use Rattle.lasting.specs.Lasting.{Spares, LentFor}
 use Rattle.services.proofs.Laws.{act_bytes, act, serve_is, act_other_t, act_pool_kept}
 
 -- ---- the services of another log
@@ -223,16 +223,10 @@ module _ (t base first : ℕ) (es : List Entry) where
           (record { long = act_pool_kept (planes t) x.service x.stack l.memory (64 * t) w.long; bytes = act_bytes t x.service x.stack l.memory w.bytes })
       go (no other) = rw (act_other_t t x.t x.stack l.memory w.long other x.service).memory (record { long = w.long; bytes = w.bytes })
 
-  served_spares : (x : Asked) (l : Lent) → LentFor t l → (x.t ≡ t → Spares t base first es l.memory x.service) → Chain base (heap_in (planes t) l.memory) first es
+  pub served_spares : (x : Asked) (l : Lent) → LentFor t l → (x.t ≡ t → Spares t base first es l.memory x.service) → Chain base (heap_in (planes t) l.memory) first es
       → Chain base (heap_in (planes t) (served_to x l).lent.memory) first es
   served_spares x l w spares chain = rw (serve_is (planes x.t) x.service x.stack l) (go (ℕ_discrete x.t t))
     where
       go : Dec (x.t ≡ t) → Chain base (heap_in (planes t) (act (planes x.t) x.service x.stack l.memory).memory) first es
       go (yes e) = rw e (act_spares x.service x.stack l.memory w.bytes (spares e) chain)
       go (no other) = rw (act_other_t t x.t x.stack l.memory w.long other x.service).memory chain
-
-  pub same_chain : (l : Lent) (xs : List Asked) → LentFor t l → Chain base (heap_in (planes t) l.memory) first es → AllSpare t base first es xs l
-      → Chain base (heap_in (planes t) (lent_after_by served_to xs l).memory) first es
-  unfolding lent_after_by
-  same_chain l [] w chain done = chain
-  same_chain l (x ∷ xs) w chain (next spares rest) = same_chain (served_to x l).lent xs (lent_next x l w) (served_spares x l w spares chain) rest

@@ -19,26 +19,18 @@ use Rattle.loglaws.specs.Chains.{Entry, Chain}
 use Rattle.loglaws.specs.Lasting.{Spares as SparesByCall}
 use Rattle.loglaws.specs.Promises.{survey_in, LastOf}
 use Rattle.loglaws.proofs.Chaining.{chain_one}
-use Rattle.loglaws.proofs.LastingUses.{beside}
+use Rattle.loglaws.proofs.Beside.{beside}
 use Rattle.services.specs.Services.{HeapCall, Append, Read, Drop, replied, serve, Asked, asked, served_to, lent_after, lent_after_by}
 use Rattle.lasting.specs.Lasting.{Spares, AllSpare, done, next}
 use Rattle.services.proofs.Laws.{act, serve_is}
-use Rattle.lasting.proofs.Reading.{refused_read, log_lasts}
+use Rattle.lasting.proofs.Reading.{refused_read}
+use Rattle.lasting.proofs.Through.{LastsThrough, through}
 
 -- 4t blocks, and a log in them
 module _ (t base first : ℕ) (l : Lent) (es : List Entry) (long : length l.memory.pool ≡ 64 * t) (bytes : AllBytes l.memory.table)
     (chain : Chain base (heap_in (planes t) l.memory) first es) where
-  -- after these services the chain is as it was, and each read of it replies as before
-  abbrev LastsThrough : List Asked → Type 0
-  LastsThrough xs =
-      Chain base (heap_in (planes t) (lent_after xs l).memory) first es
-      × ((index : ℕ) (stack : List ℕ) → (serve t (Read base first index) stack (lent_after xs l)).reply ≡ (serve t (Read base first index) stack l).reply)
-
-  through : (xs : List Asked) → AllSpare t base first es xs l → LastsThrough xs
-  through xs spare = (
-    log_lasts.same_chain t base first l es xs (record { long = long; bytes = bytes }) chain spare,
-    log_lasts.same_reading t base first l es xs (record { long = long; bytes = bytes }) chain spare,
-  )
+  all_through : (xs : List Asked) → AllSpare t base first es xs l → LastsThrough t base first l es xs
+  all_through = through t base first l es long bytes chain
 
   -- ---- services with another t, however many
 
@@ -46,8 +38,8 @@ module _ (t base first : ℕ) (l : Lent) (es : List Entry) (long : length l.memo
   all_other [] k other = done
   all_other (x ∷ xs) k other = next (λ e. absurd (other x (Memᴰ.head refl) e)) (all_other xs (served_to x k).lent (λ y among. other y (Memᴰ.tail among)))
 
-  pub through_others : (xs : List Asked) → ((x : Asked) → Memᴰ x xs → x.t ≢ t) → LastsThrough xs
-  through_others xs other = through xs (all_other xs l other)
+  pub through_others : (xs : List Asked) → ((x : Asked) → Memᴰ x xs → x.t ≢ t) → LastsThrough t base first l es xs
+  through_others xs other = all_through xs (all_other xs l other)
 
   -- where a survey of the log's base is refused, each read stays refused by that number
   pub refused_as_before : (xs : List Asked) → ((x : Asked) → Memᴰ x xs → x.t ≢ t) → (r : ℕ) → survey_in (planes t) base l.memory ≡ suc r
@@ -73,7 +65,7 @@ module _ (t base first : ℕ) (l : Lent) (es : List Entry) (long : length l.memo
       → ((d : Entry) (ds : List Entry) → Chain (base_of 1) (heap_in (planes t) (serve t (Append (base_of 0) other time tips roots) (stack_of 0) l).lent.memory) another (d ∷ ds) → NoEntry d.head)
       → (list : List ℕ) → Memᴰ first (words_of list) → (k n o : ℕ) → NoEntry k → NoEntry n → NoEntry o
       → (p i j w size bytes room index any : ℕ) (lists image : List ℕ) → (u : ℕ) → u ≢ t → (others : List Asked) → ((x : Asked) → Memᴰ x others → x.t ≢ t)
-      → LastsThrough
+      → LastsThrough t base first l es
       (asked t (Append (base_of 0) other time tips roots) (stack_of 0)
       ∷ asked t (Drop (base_of 1) another) (stack_of 1)
       ∷ asked t (Read (base_of 2) any index) (stack_of 2)
@@ -92,7 +84,7 @@ module _ (t base first : ℕ) (l : Lent) (es : List Entry) (long : length l.memo
       ∷ others)
   unfolding Spares SparesByCall
   through_each other time tips roots base_of stack_of small small' collects last another front list among' k n o no-k no-n no-o p i j w size bytes room index any lists image u other_t others all =
-      through _
+      all_through _
       (next (λ _. (small, small', collects, λ ds own o at. beside es o (last ds own o at)))
       (next (λ _. λ d ds own. beside es d.head (front d ds own))
       (next (λ _. tt) (next (λ _. (refl, among')) (next (λ _. tt)
@@ -109,7 +101,7 @@ module _ (t base first : ℕ) (l : Lent) (es : List Entry) (long : length l.memo
       → Chain base (heap_in (planes t) (serve t (Append b other time tips roots) stack l).lent.memory) first es
   unfolding Spares lent_after_by
   append_beside b other time tips roots stack small small' high ds own collects last =
-      (through (asked t (Append b other time tips roots) stack ∷ [])
+      (all_through (asked t (Append b other time tips roots) stack ∷ [])
       (next (λ _. (
         small,
         small',
@@ -129,5 +121,5 @@ module _ (t base first : ℕ) (l : Lent) (es : List Entry) (long : length l.memo
       → Chain base (heap_in (planes t) (serve t (Drop b other) stack l).lent.memory) first es
   unfolding Spares lent_after_by
   drop_beside b other stack high d ds own no_entry =
-      (through (asked t (Drop b other) stack ∷ [])
+      (all_through (asked t (Drop b other) stack ∷ [])
       (next (λ _. λ g gs its. beside es g.head (subst (λ (e : Entry). NoEntry e.head) (heads_same (chain_one b high (heap_in (planes t) l.memory) own its)) no_entry)) done)).0

@@ -16,7 +16,7 @@ use Rattle.rules.specs.Refusals.{good_shape, good_roots, good_lists, bad_shape, 
 use Rattle.rules.specs.Calls.{allocate, free, reallocate, collect, survey, load, store, write_image}
 use Rattle.rules.specs.Runs.{Call, Init, Allocate, Free, Reallocate, Collect, Survey, Load, Store, WriteImage, OpenImage, step}
 use Rattle.rules.specs.Memory.{Memory, Result, result, heap_in, Sound, stack_for, reads_table, perform, after_in}
-use Rattle.rules.specs.Lent.{Lent, lent}
+use Rattle.rules.specs.Lent.{Lent}
 use Rattle.laws.specs.Meaning.{AllBytes, Accepted}
 use Rattle.laws.proofs.Memory.{Performed, acted, left, performed, accepted_sound, refusal_in}
 use Rattle.laws.proofs.Planes.{planes_faithful, length_entries_in}
@@ -34,7 +34,8 @@ use Rattle.loglaws.proofs.Reading.{read_as}
 use Rattle.services.specs.Services.{Service, HeapCall, Append, Read, Drop, replied, Asked, served_to, lent_after_by}
 use Rattle.lasting.specs.Lasting.{Spares, AllSpare, done, next, LentFor, LogLasts}
 use Rattle.services.proofs.Laws.{act_sound, act, serve_is, checked_refused, act_other_t, act_pool_kept}
-use Rattle.lasting.proofs.Lasting.{append_looked, read_looked, drop_looked, lent_next, same_chain}
+use Rattle.lasting.proofs.SameChain.{same_chain}
+use Rattle.lasting.proofs.Lasting.{append_looked, read_looked, drop_looked, lent_next}
 
 -- ---- a heap that passes 1 and 2 still does
 

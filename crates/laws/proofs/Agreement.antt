@@ -2,13 +2,12 @@
 -- Assumes nothing.
 use mathlib.Core.Path.{◌≡◌, refl, sym, ap, ◌∙◌}
 use mathlib.Core.List.{List}
-use Prim.Native.Nat.{ℕ, ◌*◌, ◌<◌}
+use Prim.Native.Nat.{ℕ, ◌*◌}
 use native.Mathlib.Omega.{arith}
-use lib.ListN.{length, set, length-set}
+use lib.ListN.{length, set}
 use lib.Seq.{ext_get_or}
 use borrow.Author.Tests.{eq-eqb}
 use Rattle.rules.specs.Entries.{FREE, entries_of, table_of}
-use Rattle.rules.specs.Tables.{entry_at}
 use Rattle.rules.specs.Forms.{Form, packed}
 use Rattle.laws.specs.Faithful.{Faithful}
 use Rattle.rules.specs.Outcomes.{Heap, Outcome}
@@ -16,21 +15,10 @@ use Rattle.rules.specs.Runs.{step}
 use Rattle.rules.specs.Memory.{Memory, memory, heap_in, Sound, perform}
 use Rattle.rules.specs.Planes.{plane_bytes, entries_in, planes_of, planes}
 use Rattle.laws.specs.Agreement.{with_entry, HoldSame, WritingAgrees, CallsAlike, FormsAgree}
-use Rattle.laws.proofs.Memory.{follows_sound, sound_next, packed_faithful, packed_sound, table_fits}
-use Rattle.laws.proofs.Lists.{bounded_set}
+use Rattle.laws.proofs.Memory.{follows_sound, sound_next, packed_faithful, packed_sound}
 use Rattle.laws.proofs.Entries.{length_entries_of, entries_of_lt, entries_of_table_of}
-use Rattle.laws.proofs.Planes.{length_entries_in, length_planes_of, read_planes, planes_clean, planes_faithful}
-
--- what is written is read, and as the form asks
-written : (f : Form) → Faithful f → (m : Memory) (k e : ℕ) → Sound f m → e < 4
-    → Sound f (with_entry f m k e) × (f.read (with_entry f m k e).table ≡ set (f.read m.table) k e)
-written f faithful m k e s small =
-    let es : List ℕ = set (f.read m.table) k e in
-    let fits = table_fits f m s.fits in
-    let long : length es ≡ length (f.read m.table) = length-set (f.read m.table) k e in (
-      record { fits = faithful.write_fits m.table es fits long; clean = faithful.write_clean m.table es fits long },
-      faithful.read_write m.table es fits long (bounded_set (f.read m.table) k e (faithful.small m.table) small),
-    )
+use Rattle.laws.proofs.Planes.{length_entries_in, length_planes_of, read_planes, planes_clean, entries_small, planes_faithful}
+use Rattle.laws.proofs.Holding.{written, hold_same}
 
 module _ (f g : Form) (faithful : Faithful f) (faithful' : Faithful g) where
   -- the same entries are the same list of them
@@ -40,9 +28,6 @@ module _ (f g : Form) (faithful : Faithful f) (faithful' : Faithful g) where
   same_heap : (m m' : Memory) → HoldSame f g m m' → heap_in f m ≡ heap_in g m'
   same_heap m m' h = rw (h.pool, same_entries m m' h)
 
-  hold_same : (m m' : Memory) → Sound f m → Sound g m' → m.pool ≡ m'.pool → f.read m.table ≡ g.read m'.table → HoldSame f g m m'
-  hold_same m m' s s' p e = record { sound = s; sound' = s'; pool = p; blocks = ap length e; reading = λ k. ap (λ (es : List ℕ). entry_at es k) e }
-
   -- ---- an entry
 
   writing : WritingAgrees f g
@@ -51,7 +36,7 @@ module _ (f g : Form) (faithful : Faithful f) (faithful' : Faithful g) where
       let same : es ≡ g.read m'.table = same_entries m m' h in
       let w = written f faithful m k e h.sound small in
       let w' = written g faithful' m' k e h.sound' small in
-      (w.1, w'.1, hold_same (with_entry f m k e) (with_entry g m' k e) w.0 w'.0 h.pool (w.1 ∙ ap (λ (es : List ℕ). set es k e) same ∙ sym w'.1))
+      (w.1, w'.1, hold_same f g (with_entry f m k e) (with_entry g m' k e) w.0 w'.0 h.pool (w.1 ∙ ap (λ (es : List ℕ). set es k e) same ∙ sym w'.1))
 
   -- ---- a call
 
@@ -67,7 +52,7 @@ module _ (f g : Form) (faithful : Faithful f) (faithful' : Faithful g) where
         stack = x.stack ∙ ap (λ (o : Outcome). o.stack) o ∙ sym y.stack;
         filled = x.filled ∙ ap (λ (o : Outcome). o.filled) o ∙ sym y.filled;
         memory =
-            hold_same (perform f c stack m).memory (perform g c stack m').memory (sound_next f faithful c stack m h.sound) (sound_next g faithful' c stack m' h.sound')
+            hold_same f g (perform f c stack m).memory (perform g c stack m').memory (sound_next f faithful c stack m h.sound) (sound_next g faithful' c stack m' h.sound')
             (ap (λ (h : Heap). h.pool) left) (ap (λ (h : Heap). h.entries) left);
       }
 
@@ -81,7 +66,7 @@ pub held_in_planes : (t : ℕ) (m : Memory) → length m.table ≡ t → HoldSam
 held_in_planes t m long =
     let es : List ℕ = entries_of m.table in
     let number : length es ≡ 4 * t = length_entries_of m.table ∙ ap (λ (n : ℕ). 4 * n) long in
-    hold_same packed (planes t) packed_faithful (planes_faithful t) m (memory m.pool (planes_of t es)) (packed_sound m refl)
+    hold_same packed (planes t) m (memory m.pool (planes_of t es)) (packed_sound m refl)
     (record { fits = eq-eqb (length (planes_of t es)) (2 * plane_bytes t) (length_planes_of t es); clean = planes_clean t es number }) refl
     (sym (read_planes t es (entries_of_lt m.table) number))
 
@@ -89,8 +74,8 @@ held_in_planes t m long =
 pub in_packed : (t : ℕ) (m : Memory) → Sound (planes t) m → HoldSame packed (planes t) (memory m.pool (table_of (entries_in t m.table))) m
 in_packed t m s =
     let es : List ℕ = entries_in t m.table in
-    let back : entries_of (table_of es) ≡ es = entries_of_table_of es (omega (arith, length_entries_in t m.table)) ((planes_faithful t).small m.table) in
-    hold_same packed (planes t) packed_faithful (planes_faithful t) (memory m.pool (table_of es)) m (packed_sound (memory m.pool (table_of es)) refl) s refl back
+    let back : entries_of (table_of es) ≡ es = entries_of_table_of es (omega (arith, length_entries_in t m.table)) (entries_small t m.table) in
+    hold_same packed (planes t) (memory m.pool (table_of es)) m (packed_sound (memory m.pool (table_of es)) refl) s refl back
 
 -- reading and writing an entry agree on the packed table and on the planes, and so does every call
 pub planes_agree : (t : ℕ) → FormsAgree packed (planes t)

@@ -13,6 +13,7 @@ pub mod Calls
 pub mod Marks
 pub mod Matching
 pub mod Pointers
+pub mod Leading
 pub mod Pools
 pub mod Images
 pub mod Files
@@ -28,5 +29,6 @@ pub mod Clamped
 pub mod Memory
 pub mod Lent
 pub mod Planes
+pub mod Holding
 pub mod Agreement
 pub mod Restated

@@ -221,7 +221,7 @@ write_planes t table bytes long clean =
         let e : plane_bytes t + (i - plane_bytes t) ≡ i = omega (arith, past) in
         rw e at (high_same (i - plane_bytes t) (omega (arith, past, h)))
 
-entries_small : (t : ℕ) (table : List ℕ) → Small (entries_in t table)
+pub entries_small : (t : ℕ) (table : List ℕ) → Small (entries_in t table)
 entries_small t table k = go (ltb k (4 * t)) refl
   where
     go : (b : Bool) → ltb k (4 * t) ≡ b → entry_at (entries_in t table) k < 4

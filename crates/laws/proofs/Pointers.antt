@@ -1,11 +1,11 @@
 -- What a word's target is and what a word leads to: the definitions match their sentences, and a sentence has one answer.
 -- Assumes nothing.
-use mathlib.Core.Path.{◌≡◌, refl, ap, subst, ◌∙◌}
+use mathlib.Core.Path.{◌≡◌, refl, ap, subst}
 use mathlib.Core.Logic.{◌≢◌, ◌⊎◌, inl, inr, ⊎_elim}
 use mathlib.Core.Bool.{Bool, true, false}
 use mathlib.Core.List.{List}
 use mathlib.Core.Option.{Option, some, none}
-use Prim.Native.Nat.{ℕ, ◌+◌, ◌-◌, ◌/◌, ◌%◌, ◌≤◌, ◌<◌}
+use Prim.Native.Nat.{ℕ, ◌+◌, ◌-◌, ◌/◌, ◌%◌, ◌<◌}
 use native.Mathlib.Omega.{arith}
 use lib.Dec.{eqb, leb, ltb}
 use lib.ListN.{length}
@@ -54,7 +54,7 @@ heads_of e = ⊎_elim (λ q. rw q) (λ q. rw q)
 heads_used : (es : List ℕ) (k : ℕ) → Heads es k → entry_at es k ≢ FREE
 heads_used es k h f = ⊎_elim (λ q. omega arith) (λ q. omega arith) h
 
-heads_inside : (es : List ℕ) (k : ℕ) → Heads es k → k < length es
+pub heads_inside : (es : List ℕ) (k : ℕ) → Heads es k → k < length es
 heads_inside es k h = entry_inside es k (heads_used es k h)
 
 -- a block into which a word points is used
@@ -65,7 +65,7 @@ into_used base es w k p =
     rw e at (extent_used es k (block_count es k) (extent_of es k inside) (heads_used es k p.head) (p.block - k) (omega (arith, p.from, p.to)))
 
 -- its object starts at the head
-into_start : (base : ℕ) (es : List ℕ) (w k : ℕ) (p : PointsInto base es w k) → Start es p.block k
+pub into_start : (base : ℕ) (es : List ℕ) (w k : ℕ) (p : PointsInto base es w k) → Start es p.block k
 into_start base es w k p = record {
   from = p.from;
   tails = λ j l r. let e : k + (j - k) ≡ j = omega arith in rw e at (x.tail (j - k) (omega arith) (omega (arith, p.to)));
@@ -106,28 +106,3 @@ leads_one base es w none none x y = refl
 pub leads_head : (base : ℕ) (es : List ℕ) (w k : ℕ) → leads_to base es w ≡ some k → Heads es k
 unfolding Leads
 leads_head base es w k q = let l : PointsInto base es w k = rw q at (leads_says base es w) in l.head
-
--- a word leads to the same object in another table of that length which has each of its blocks
-pub leads_stays : (base : ℕ) (es es' : List ℕ) (w k : ℕ) → length es' ≡ length es → ((i : ℕ) → i < block_count es k → entry_at es' (k + i) ≡ entry_at es (k + i))
-    → leads_to base es w ≡ some k → leads_to base es' w ≡ some k
-unfolding Leads
-leads_stays base es es' w k long same q = leads_one base es' w (leads_to base es' w) (some k) (leads_says base es' w) again
-  where
-    p : PointsInto base es w k
-    p = rw q at (leads_says base es w)
-
-    -- each of the object's blocks
-    at : (j : ℕ) → k ≤ j → j ≤ p.block → entry_at es' j ≡ entry_at es j
-    at j l r = let e : k + (j - k) ≡ j = omega arith in rw e at (same (j - k) (omega (arith, p.to)))
-
-    head : Heads es' k
-    head = rw (at k (omega arith) p.from) p.head
-
-    again : PointsInto base es' w k
-    again = record {
-      head = head;
-      block = p.block;
-      from = p.from;
-      to = count_covers es' k p.block (heads_inside es' k head) (λ j l r. at j (omega arith) r ∙ (into_start base es w k p).tails j l r);
-      address = p.address;
-    }

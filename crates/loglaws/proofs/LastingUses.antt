@@ -1,29 +1,19 @@
 -- The log lasts through one call of each kind that may spare it, over variables: `Spares`, if it asked for more, would not give these. That a call writes beside the log is said of the entries, none
 -- of which has its head there.
 -- Assumes nothing.
-use mathlib.Core.Path.{◌≡◌, refl}
-use mathlib.Core.Logic.{◌≢◌, ⊎_elim}
-use mathlib.Core.List.Memᴰ
-use mathlib.Core.List.{List, [], ◌∷◌, Memᴰ}
+use mathlib.Core.Path.{refl}
+use mathlib.Core.Logic.{◌≢◌}
+use mathlib.Core.List.{List, Memᴰ}
 use Prim.Native.Nat.{ℕ}
 use Rattle.rules.specs.Words.{words_of}
 use Rattle.rules.specs.Forms.{Form}
 use Rattle.laws.specs.Faithful.{Faithful}
 use Rattle.rules.specs.Runs.{Call, Allocate, Free, Reallocate, Collect, Survey, Load, Store, WriteImage}
 use Rattle.rules.specs.Memory.{Memory, heap_in, perform}
-use Rattle.loglaws.specs.Chains.{Entry, Chain, heads}
+use Rattle.loglaws.specs.Chains.{Entry, Chain}
 use Rattle.loglaws.specs.Lasting.{Apart, Spares}
 use Rattle.loglaws.proofs.Lasting.{lasts_once}
-
--- a head is that of an entry
-headed : (es : List Entry) (k : ℕ) → Memᴰ k (heads es) → (e : Entry) × Memᴰ e es × (k ≡ e.head)
-headed [] k m = absurd (Memᴰ.not-nil m)
-headed (e ∷ es) k m =
-    ⊎_elim (λ at. (e, Memᴰ.head refl, at)) (λ n. let (d, among, at) = headed es k n in (d, Memᴰ.tail among, at)) (Memᴰ.cases_cons m)
-
--- a block at which no entry has its head lies apart from the log
-pub beside : (es : List Entry) (k : ℕ) → ((e : Entry) → Memᴰ e es → k ≢ e.head) → Apart es k
-beside es k no_entry among = let (e, there, at) = headed es k among in no_entry e there at
+use Rattle.loglaws.proofs.Beside.{beside}
 
 -- Each call on any base, but for a collection; with any mark stack; on any block but an entry's where it writes, and on any block at all where it reads
 module _ (f : Form) (faithful : Faithful f) (base first : ℕ) (m : Memory) (es : List Entry) (chain : Chain base (heap_in f m) first es) (b : ℕ) (stack : List ℕ) where

@@ -1,6 +1,8 @@
 pub mod Chaining
 pub mod Distinct
+pub mod Spared
 pub mod Lasting
+pub mod Beside
 pub mod LastingUses
 pub mod Following
 pub mod Finding
@@ -12,6 +14,7 @@ pub mod Reading
 pub mod Appending
 pub mod Promised
 pub mod Paired
+pub mod EachDeed
 pub mod Cycle
 pub mod CycleUses
 pub mod CycleRefused

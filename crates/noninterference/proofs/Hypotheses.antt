@@ -25,9 +25,10 @@ use Rattle.keeping.proofs.Collections.{acted, collect_from}
 use Rattle.unwinding.specs.Answers.{SameStacks, equally_long, both_good}
 use Rattle.unwinding.proofs.Collections.{stacks_whole, stacks_short}
 use Rattle.services.specs.Services.{Service, HeapCall, refusal_of, Asked, asked, served_to}
-use Rattle.noninterference.specs.Noninterference.{Alike, done, next, SameButPools}
+use Rattle.noninterference.specs.Noninterference.{Alike, done, SameButPools}
 use Rattle.noninterference.specs.Unseen.{without_stacks, stack_lengths}
 use Rattle.services.proofs.Laws.{act, serve_is}
+use Rattle.noninterference.proofs.AlikeServices.{alike_next}
 
 -- ---- mark stacks
 
@@ -41,10 +42,6 @@ stacks_good stack stack' n m e l f k =
     both_good (record { whole = omega arith; short = omega arith }) (record { whole = omega arith; short = omega arith })
 
 -- ---- services
-
--- after a service with any t and two such mark stacks any services that are alike, whatever mark stacks these have
-pub alike_next : (t : ℕ) (s : Service) {stack stack' : List ℕ} {xs ys : List Asked} → SameStacks stack stack' → Alike xs ys → Alike (asked t s stack ∷ xs) (asked t s stack' ∷ ys)
-alike_next t s same r = next t s same r
 
 -- a service, a t of its own, and two such mark stacks
 pub record Paired : Type 0 where
@@ -73,12 +70,6 @@ alike_long (x ∷ xs) (y ∷ ys) w l =
     let d : without_stacks xs ≡ without_stacks ys = cc in
     let m : stack_lengths xs ≡ stack_lengths ys = cc in
     rw (u, e) (alike_next y.t y.service (stacks_long x.stack y.stack f) (alike_long xs ys d m))
-
--- and no others
-pub alike_services : {xs ys : List Asked} → Alike xs ys → without_stacks xs ≡ without_stacks ys
-unfolding without_stacks
-alike_services done = refl
-alike_services (next t s same r) = ap (λ (xs : List Asked). asked t s [] ∷ xs) (alike_services r)
 
 -- ---- the heaps
 

@@ -41,7 +41,8 @@ use Rattle.noninterference.specs.Unseen.{without_stacks, stack_lengths}
 use Rattle.noninterference.specs.Samples.{sample_base, sample_roots, first_pool, second_pool, first_lent, second_lent, third_lent, earlier_services, last_services, first_services, second_services, sample_image, loading_services}
 use Rattle.noninterference.proofs.Noninterference.{noninterference}
 use Rattle.noninterference.proofs.Conclusions.{rescans_of, collections_long, responses_later, responses_joined, same_lists, same_buffers, same_tables, same_words}
-use Rattle.noninterference.proofs.Hypotheses.{stacks_long, stacks_good, alike_next, alike_long, agree_of, also_accepted}
+use Rattle.noninterference.proofs.Hypotheses.{stacks_long, stacks_good, alike_long, agree_of, also_accepted}
+use Rattle.noninterference.proofs.AlikeServices.{alike_next}
 
 -- ---- agreement on the reachable objects, as a test over the objects that a collection keeps
 

@@ -17,7 +17,8 @@ use Rattle.services.specs.Services.{HeapCall, Append, Response, refusal_of, Aske
 use Rattle.noninterference.specs.Noninterference.{SameResponses, next, SameButPools, Indistinct}
 use Rattle.noninterference.specs.Unseen.{stack_lengths, Unseen}
 use Rattle.noninterference.proofs.Noninterference.{noninterference}
-use Rattle.noninterference.proofs.Hypotheses.{stacks_long, alike_next, Paired, alike_paired, alike_long, also_accepted}
+use Rattle.noninterference.proofs.AlikeServices.{alike_next}
+use Rattle.noninterference.proofs.Hypotheses.{stacks_long, Paired, alike_paired, alike_long, also_accepted}
 use Rattle.noninterference.proofs.Conclusions.{not_rescans, is_collection, response_other, same_but_rescans, same_lists, same_buffers, same_tables, same_beside, same_words}
 
 pub unseen : Unseen

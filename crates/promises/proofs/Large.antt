@@ -1,11 +1,11 @@
 -- The promises on large objects, in bytes and block numbers, and each used at its exact bound: 48 bytes are three blocks, 49 are four.
 -- Assumes nothing.
 use mathlib.Core.Path.{◌≡◌, refl, ap, subst}
-use mathlib.Core.Logic.{◌≢◌, ◌⊎◌, inl, inr, ⊎_elim}
+use mathlib.Core.Logic.{◌≢◌, ◌⊎◌, inl, ⊎_elim}
 use mathlib.Core.Bool.{Bool, true, false, not}
 use mathlib.Core.List.{List, [], ◌∷◌, ◌++◌}
 use mathlib.Core.Option.{Option}
-use Prim.Native.Nat.{ℕ, ◌+◌, ◌-◌, ◌*◌, ◌%◌, ◌≤◌, ◌<◌}
+use Prim.Native.Nat.{ℕ, ◌%◌, ◌≤◌}
 use native.Mathlib.Omega.{arith}
 use lib.Dec.{T}
 use lib.ListN.{length, replicate}
@@ -15,15 +15,13 @@ use Rattle.rules.specs.Words.{number, first_two, word_at}
 use Rattle.rules.specs.Entries.{entry_of, entries_of}
 use Rattle.rules.specs.Tables.{entry_at, is_head, may_follow, well_after, well_formed, block_count, free_from, aligned, fits, first_from, first_fit, placed, released, used, objects, longest}
 use Rattle.rules.specs.Pointers.{address_of, good_base}
-use Rattle.laws.specs.Meaning.{Run, Accepted}
+use Rattle.laws.specs.Meaning.{Accepted}
 use Rattle.rules.specs.Outcomes.{Heap, change_from, unless_refused, cleared_blocks}
 use Rattle.rules.specs.Refusals.{first_of, good_shape, whole_words, heap_tests}
-use Rattle.rules.specs.Calls.{blocks_for, taken, placing, allocate, freed, free, reallocate, survey, good_target, open_image}
+use Rattle.rules.specs.Calls.{blocks_for, taken, placing, allocate, freed, free, survey, good_target, open_image}
 use Rattle.rules.specs.Files.{section_in, section_tests, file_of, file_tests, fault_of, heap_of_file}
 use Rattle.rules.specs.Planes.{plane_bytes, entry_in, entries_in, spare, spare_free, plane, planes_of, planes}
-use Rattle.rules.specs.Runs.{OpenImage, step, FileIs, Turn, EveryFile, next, starts_anew}
-use Rattle.rules.specs.Forms.{Form}
-use Rattle.laws.specs.Faithful.{Faithful}
+use Rattle.rules.specs.Runs.{OpenImage, step, FileIs, Turn, EveryFile, next}
 use Rattle.rules.specs.Memory.{Memory, memory, heap_in, AcceptedIn, or_refused, perform, turn_in, after_in}
 use Rattle.rules.specs.Examples.{small, medium}
 use Rattle.laws.proofs.Below.{all_below, below}
@@ -31,60 +29,10 @@ use Rattle.laws.proofs.Refusals.{true_not_false, passed}
 use Rattle.laws.proofs.Tables.{entry_inside, aligned_says}
 use Rattle.laws.proofs.Planes.{planes_faithful}
 use Rattle.promises.specs.Promises.{Object, blocks_of}
-use Rattle.promises.proofs.Promised.{promises}
 use Rattle.promises.proofs.Observed.{free_again, allocate_spare}
 use Rattle.promises.specs.Alignment.{AllAligned, FileAligned}
-use Rattle.promises.proofs.Alignment.{new_objects_aligned, aligned_from_start}
-
--- ---- one call
-
-more_than_48 : (bytes : ℕ) → 48 < bytes → 4 ≤ blocks_for bytes
-unfolding blocks_for
-more_than_48 bytes more = omega arith
-
--- more than 48 bytes start at a block divisible by four, if they are allocated or are more blocks than the object had
-pub allocated_large : (base : ℕ) (h : Heap) (bytes : ℕ) → Accepted (allocate base h bytes) → 48 < bytes → (allocate base h bytes).answer.block % 4 ≡ 0
-allocated_large base h bytes accepted more = ⊎_elim (λ few. absurd (omega (arith, more_than_48 bytes more))) (λ e. e) (promises.allocated base h bytes accepted).aligned
-
-pub reallocated_large : (base : ℕ) (h : Heap) (k bytes : ℕ) → Accepted (reallocate base h k bytes) → 48 < bytes → blocks_of h k < blocks_for bytes
-    → (reallocate base h k bytes).answer.block % 4 ≡ 0
-reallocated_large base h k bytes accepted more larger =
-    ⊎_elim (λ few. absurd (omega (arith, more_than_48 bytes more))) (λ e. e) ((promises.reallocated base h k bytes accepted).aligned larger)
-
--- where blocks are numbered from a base that is a multiple of 64, their address is one
-pub large_address : (base s : ℕ) → base % 64 ≡ 0 → s % 4 ≡ 0 → address_of base s % 64 ≡ 0
-unfolding address_of
-large_address base s even front = omega arith
-
--- an object grows where it is if the blocks directly after it are FREE, from a block divisible by four, or to up to 48 bytes
-pub reallocated_grows : (base : ℕ) (h : Heap) (k bytes : ℕ) → Accepted (reallocate base h k bytes) → (k % 4 ≡ 0) ⊎ (bytes ≤ 48)
-    → Run h.entries (blocks_for bytes - blocks_of h k) (k + blocks_of h k) → (reallocate base h k bytes).answer.block ≡ k
-reallocated_grows base h k bytes accepted place run =
-    (promises.reallocated base h k bytes accepted).in_place
-    (inr (record { aligned = ⊎_elim inr (λ few. inl (omega (arith, (promises.rounded_up bytes 3).1 few))) place; run = run }))
-
--- to no more bytes than its blocks hold an object stays, wherever it starts
-pub reallocated_stays : (base : ℕ) (h : Heap) (k bytes : ℕ) → Accepted (reallocate base h k bytes) → bytes ≤ 16 * blocks_of h k → (reallocate base h k bytes).answer.block ≡ k
-reallocated_stays base h k bytes accepted few = (promises.reallocated base h k bytes accepted).in_place (inl ((promises.rounded_up bytes (blocks_of h k)).1 few))
-
--- ---- lists of calls, in every form of the table
-
--- from an accepted init or opening on, an object of four blocks or more starts at a block divisible by four
-pub large_from_start : (f : Form) → Faithful f → (first : Turn) (ts : List Turn) → starts_anew first.call ≡ true → EveryFile FileAligned (first ∷ ts) → (m : Memory) → AcceptedIn (turn_in f first m)
-    → let h = heap_in f (after_in f (first ∷ ts) m) in
-    (o : ℕ) → Object h o → 4 ≤ blocks_of h o → o % 4 ≡ 0
-large_from_start f faithful first ts anew files m accepted o head large =
-    ⊎_elim (λ few. absurd (omega arith)) (λ e. e) (aligned_from_start f faithful first ts anew files m accepted o head)
-
--- one that starts elsewhere was there before the calls, with as many blocks or more
-pub large_elsewhere : (f : Form) → Faithful f → (ts : List Turn) → EveryFile FileAligned ts → (m : Memory)
-    → let h = heap_in f (after_in f ts m) in
-    (o : ℕ) → Object h o → 4 ≤ blocks_of h o → o % 4 ≢ 0 → Object (heap_in f m) o × (blocks_of h o ≤ blocks_of (heap_in f m) o)
-large_elsewhere f faithful ts files m o head large other =
-    ⊎_elim
-    (λ placed. absurd (⊎_elim (λ few. omega arith) other placed))
-    (λ older. (older.head, older.blocks))
-    (new_objects_aligned f faithful ts files m o head)
+use Rattle.promises.proofs.LargeAfter.{large_from_start}
+use Rattle.promises.proofs.LargeCalls.{allocated_large}
 
 -- ---- a file that is opened
 

@@ -9,6 +9,7 @@ pub mod Storing
 pub mod Collecting
 pub mod Imaging
 pub mod Opening
+pub mod Refusing
 pub mod Planes
 pub mod Bytes
 pub mod OtherT
@@ -18,7 +19,10 @@ pub mod RoundTrips
 pub mod Determined
 pub mod Whole
 pub mod Observed
+pub mod NewObjects
 pub mod Alignment
+pub mod LargeAfter
+pub mod LargeCalls
 pub mod Large
 pub mod Samples
 pub mod Elsewhere

@@ -240,9 +240,6 @@ module _ (image : List ℕ) where
       (λ e l. omega (arith, ltb-false 0 (length f.roots.rest) e, left))
       (λ e. lent_steps h room one right (omega (arith, all, ltb-false 0 (length f.roots.rest) e, left)))))))))))))))
 
-pub open_refusal : (h : Heap) (image : List ℕ) (room : ℕ) → First (of_open_image h image room) (open_image h image room).answer.refusal
-open_refusal h image room = rw (number (open_checked h image room)) (first_fault image h room)
-
 -- ---- what a file becomes
 
 module _ (h : Heap) (image : List ℕ) (room : ℕ) (accepted : Accepted (open_image h image room)) where

@@ -9,7 +9,8 @@ use Rattle.promises.proofs.Freeing.{freed}
 use Rattle.promises.proofs.Reallocating.{reallocated}
 use Rattle.promises.proofs.Storing.{read, stored, surveyed, survey_leaves, load_leaves}
 use Rattle.promises.proofs.Collecting.{reclaimed}
-use Rattle.promises.proofs.Opening.{open_refusal, opened}
+use Rattle.promises.proofs.Opening.{opened}
+use Rattle.promises.proofs.Refusing.{open_refusal}
 use Rattle.promises.proofs.Imaging.{imaged, image_leaves}
 
 pub promises : Promises

@@ -6,28 +6,23 @@ use mathlib.Core.List.{List, []}
 use Prim.Native.Nat.{ℕ, zero, suc}
 use lib.IntN.{ℤ, pos, ◌+ℤ◌, +ℤ_idr}
 use lib.ListN.{length, replicate}
-use native.Mathlib.Omega.{arith}
-use borrow.Author.Tests.{ne_eqb}
 use Rattle.rules.specs.Tables.{used, is_used}
 use Rattle.rules.specs.Entries.{FREE}
 use Rattle.rules.specs.Forms.{Form}
 use Rattle.laws.specs.Faithful.{Faithful}
-use Rattle.rules.specs.Outcomes.{Heap, Answer, Outcome, only_refusal, change_from, unless_refused}
+use Rattle.rules.specs.Outcomes.{Heap, Outcome, change_from, unless_refused}
 use Rattle.rules.specs.Calls.{Way, stay, shrink, grow, move, no_way, placing, allocate, free, along, reallocate, collecting, collect, survey, load, store, write_image, open_image}
 use Rattle.rules.specs.Runs.{Call, Init, Allocate, Free, Reallocate, Collect, Survey, Load, Store, WriteImage, OpenImage, starts_anew, step}
 use Rattle.rules.specs.Memory.{Memory, heap_in, AcceptedIn, stack_for, perform}
 use Rattle.laws.proofs.Lists.{count_none}
 use Rattle.laws.proofs.Calls.{sub_add}
-use Rattle.laws.proofs.Refusals.{true_not_false, both_false, accepts}
+use Rattle.laws.proofs.Refusals.{true_not_false, accepts}
 use Rattle.laws.proofs.Opening.{open_passes}
 use Rattle.laws.proofs.Memory.{Ended, accepted, refused, step_ended, Follows, passes_in, follows_accepted}
 use Rattle.simulation.proofs.Inits.{init_accepted, Anew, inits, opened, anew}
-use Rattle.services.specs.Services.{HeapCall, answered}
-use Rattle.refinement.specs.AsList.{used_first, counted_in}
-
--- the sum, one answer of a call further
-abbrev pub counted : Call → Answer → ℤ → ℤ
-counted c a d = counted_in (HeapCall c) (answered a) d
+use Rattle.services.specs.Services.{HeapCall}
+use Rattle.refinement.specs.AsList.{used_first}
+use Rattle.refinement.proofs.Counted.{counted, counted_refused, counted_change, counted_anew}
 
 -- the sum d is the used blocks
 abbrev pub Sums : Heap → ℤ → Type 0
@@ -80,20 +75,6 @@ step_anew : {c : Call} (stack : List ℕ) (h : Heap) → Anew h c → used_first
 unfolding step open_image
 step_anew stack h (inits base good) = rw (init_accepted base h good) (sym (none_used (length h.entries)))
 step_anew stack h (opened image room o) = rw (accepts h [] _ (open_passes h image room o))
-
--- the three ways to count an answer: a refused one, one that adds its change, one that starts anew
-module _ (c : Call) (d : ℤ) where
-  counted_refused : (r : ℕ) → counted c (only_refusal (suc r)) d ≡ d
-  unfolding counted_in
-  counted_refused r = rw (ne_eqb (suc r) 0 (λ e. omega arith), both_false _) (+ℤ_idr d)
-
-  counted_change : (a : Answer) → starts_anew c ≡ false → counted c a d ≡ d +ℤ a.change
-  unfolding counted_in
-  counted_change a e = rw e
-
-  counted_anew : (a : Answer) → starts_anew c ≡ true → a.refusal ≡ 0 → counted c a d ≡ pos (used_first (HeapCall c))
-  unfolding counted_in
-  counted_anew a e z = rw (e, z)
 
 -- each call
 step_sums : (c : Call) (stack : List ℕ) (h : Heap) (d : ℤ) → Sums h d → Sums (step c stack h).heap (counted c (step c stack h).answer d)

@@ -1,7 +1,9 @@
 pub mod Balance
+pub mod Counted
 pub mod Changes
 pub mod Keeping
 pub mod Sums
 pub mod AsList
+pub mod ListAlike
 pub mod ListUses
 pub mod ListSamples

@@ -30,7 +30,8 @@ use Rattle.programs.specs.Programs.{Program, stack_after, run}
 use Rattle.logs.specs.Log.{Reply}
 use Rattle.services.specs.Services.{told_other_t, Service, HeapCall, Append, Read, Drop, refusal_of, Asked, asked, served_to, lent_after, lent_after_by}
 use Rattle.refinement.specs.AsList.{counted_in, sum_of, from}
-use Rattle.refinement.proofs.Changes.{counted, Sums, follows_sums, anew_sums}
+use Rattle.refinement.proofs.Counted.{counted}
+use Rattle.refinement.proofs.Changes.{Sums, follows_sums, anew_sums}
 use Rattle.services.proofs.Laws.{act_sound, Acted, act, serve_is, act_other_t, act_pool_kept}
 use Rattle.refinement.proofs.Balance.{Quiet, survey as surveys, load as loads, store as stores, quiet_old, Balanced, gives, looks, asks, append_balanced, read_balanced, drop_balanced}
 

@@ -25,7 +25,8 @@ use Rattle.laws.proofs.Twice.{heap, unless_both, shape_same}
 use Rattle.keeping.specs.Keeping.{collected, Agree}
 use Rattle.keeping.proofs.Kept.{collected_used}
 use Rattle.keeping.proofs.Alike.{agree_words, marking_alike, collected_alike, collected_bytes}
-use Rattle.keeping.proofs.Collections.{acted, collect_from, tests_ask, collect_asks, collect_is, used_agree}
+use Rattle.keeping.proofs.Asked.{tests_ask}
+use Rattle.keeping.proofs.Collections.{acted, collect_from, collect_asks, collect_is, used_agree}
 use Rattle.unwinding.specs.Answers.{SameStacks, equally_long, both_good, SameAnswer, equal, alike_but_rescans}
 use Rattle.unwinding.proofs.Same.{Same}
 
