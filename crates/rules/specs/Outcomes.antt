@@ -11,7 +11,7 @@ pub record Heap : Type 0 where
   pub pool : List ℕ
   pub entries : List ℕ
 
--- the heap in a pool and a packed table, as the examples write it. The heap in lent bytes is heap_in (Memory), and in two planes heapAt (Planes)
+-- the heap in a pool and a packed table, as the examples write it. The heap in lent bytes is heap_in (Memory), and in two planes heap_at (Planes)
 abbrev pub heap_of : List ℕ → List ℕ → Heap
 heap_of pool table = record { pool = pool; entries = entries_of table }
 
