@@ -1,5 +1,6 @@
 -- What is proved of the code that C calls: each entry point meets its contract, and asks nothing of its caller; and its contract says the equation with the service that stands here, for every input.
--- The contracts themselves stand in crates/blockheap/src/lib.rt: with one that says less, or more, this page is not proved.
+-- The contracts themselves stand in crates/blockheap/src/lib.rt: with one that says less, or more, this page is not proved. C calls the functions of the same
+-- names in the crate blockheap_c, whose specs/Exports.antt says that their contracts are these.
 -- Assumes nothing.
 use Rattle.std.specs.Prelude.{◌≡◌, List, [], ◌∷◌, ℕ, length as length_of}
 use seplogic.Ra.Ura.{Ura}
