@@ -118,17 +118,17 @@ nothing_is_kept() {
 # library. rt lib would prove those libraries again, from nothing: it takes none that the gate made. Neither that folder nor these
 # words for the compiler are said to stay as they are: where they do not serve, this fails, and rt lib is left.
 build_library_over_proved() { # WHAT_WAS_PROVED
-    local log=$out/library.log kit name needs words
+    local log=$out/library.log kit name needs flags
     kit=$(dirname "$(dirname "$(realpath "$(command -v rt)")")")
     mkdir -p "$out" "$c_crate/out"
     rm -f "$library_mark" "$c_archive"
-    words=(--extern "std=$kit/rlibs/std.rlib" -L "dependency=$kit/rlibs")
+    flags=(--extern "std=$kit/rlibs/std.rlib" -L "dependency=$kit/rlibs")
     read -ra needs < <(sed -nE 's/^blockheap_c( [^:]*)?://p' "$top/crates.txt")
     for name in "${needs[@]}"; do
-        words+=(--extern "$name=$top/crates/$name/out/rlib/$name.rlib")
+        flags+=(--extern "$name=$top/crates/$name/out/rlib/$name.rlib")
     done
-    for name in $(library_crates); do words+=(-L "dependency=$top/crates/$name/out/rlib"); done
-    (cd "$c_crate" && "$kit/bin/rattle" build --crate-name blockheap_c src/lib.rt "${words[@]}" --links blockheap_c= \
+    for name in $(library_crates); do flags+=(-L "dependency=$top/crates/$name/out/rlib"); done
+    (cd "$c_crate" && "$kit/bin/rattle" build --crate-name blockheap_c src/lib.rt "${flags[@]}" --links blockheap_c= \
         --antt-project "$kit/rattle/logic/antt-project.json" --logic-built "$kit/logic_built" --crate-type staticlib \
         --toolchain "$kit/toolchain" --backend llvm -o "$c_archive") >"$log" 2>&1 || return
     take_library "$1"
