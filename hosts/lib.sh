@@ -134,6 +134,13 @@ build_library_over_proved() { # WHAT_WAS_PROVED
     take_library "$1"
 }
 
+# Removes the libraries that rt ci left, which have no stamp: no other command of rt takes them, and beside them the next run of the
+# gate could not tell which come from it.
+forget_proved() {
+    local folder
+    for folder in "$top"/crates/*/out/rlib; do [ -e "$folder/stamp" ] || rm -rf "$folder"; done
+}
+
 # Whether the last line of rt ci says that it tried must-fail edits, and that none was bad. Such an edit cannot be applied or does not compile: it
 # fails nothing there, and shows nothing.
 no_edit_is_bad() { # WHAT_RT_CI_SAID
