@@ -41,11 +41,15 @@ Where BLOCKHEAP_LIB names another archive, that is taken as it is."
 own_library=$top/target/staticlib/libblockheap.a
 library_mark=$top/target/staticlib/libblockheap.mark
 
+# The crate whose functions C calls, and the archive that is made in its folder.
+c_crate=$top/crates/blockheap_c
+c_archive=$c_crate/out/libblockheap_c.a
+
 # A checksum of all that the archive is made of: the toolchain, and the crates with their proofs. It takes in every crate, also
-# the few that the library does not need, so that none can be forgotten.
+# the few that the library does not need, so that none can be forgotten. What rt leaves in a crate's out/ is none of it.
 library_source() {
-    (cd "$top" && rt version && find -L crates.txt crates -type f ! -path '*/must-fail/*' -exec sha256sum {} + | LC_ALL=C sort) |
-        sha256sum
+    (cd "$top" && rt version && find -L crates.txt crates -type f ! -path '*/must-fail/*' ! -path 'crates/*/out/*' -exec sha256sum {} + |
+        LC_ALL=C sort) | sha256sum
 }
 
 # Whether the project's own archive is the one that was proved and built of these crates, by this toolchain.
@@ -55,45 +59,96 @@ library_is_up_to_date() {
         [ "$(<"$library_mark")" = "$source $(sha256sum <"$own_library")" ]
 }
 
-# How many crates the library is made of: blockheap, and all that it leads to in crates.txt.
-count_library_crates() {
+# The crates that the library is made of: all that blockheap_c leads to in crates.txt, and itself at the end, as rt proves them.
+library_crates() {
     awk -F: 'function reach(name, names, many, at) {
             if (name in reached || !(name in needs)) return
             reached[name]
-            count++
             many = split(needs[name], names, " ")
             for (at = 1; at <= many; at++) reach(names[at])
+            print name
         }
-        /^[^#]/ { needs[$1] = $2 }
-        END { reach("blockheap"); print count + 0 }' "$top/crates.txt"
+        /^[^#]/ { sub(/ .*/, "", $1); needs[$1] = $2 }
+        END { reach("blockheap_c") }' "$top/crates.txt"
 }
 
-# Of what rt says, shows each crate that it has proved, with its number among all. Those that have not changed are only counted. Of
-# blockheap itself, which comes last, rt says nothing.
-show_progress() { # CRATES
-    local line count=0
+# Of what rt says, shows each crate that it has proved, with its number among all. Of those that have not changed rt says nothing.
+show_progress() { # CRATES...
+    local line name='' number
     while read -r line; do
-        [[ $line =~ ^rt:\ ([^ ]+)\ proved\ \((.*)\)$ ]] || continue
-        count=$((count + 1))
-        [[ ${BASH_REMATCH[2]} == unchanged* ]] || echo "$count of $1: ${BASH_REMATCH[1]} is proved (${BASH_REMATCH[2]})"
-        [ "$count" -ne $(($1 - 1)) ] || echo "$1 of $1: blockheap, the library itself"
+        if [[ $line =~ ^rt:\ chose\ .*\ for\ ([^ ]+)$ ]]; then
+            name=${BASH_REMATCH[1]}
+            [ "$name" != "${!#}" ] || echo "$# of $#: $name, the library itself"
+        elif [[ $line == logic=proved\ * && $name != "${!#}" ]]; then
+            number=$(printf '%s\n' "$@" | grep -nxF "$name" | cut -d : -f 1)
+            echo "${number:-?} of $#: $name is proved"
+        fi
     done
+}
+
+# Takes the archive that stands in the crate's folder as the project's own, if the crates are what it was made of.
+take_library() { # WHAT_IT_WAS_MADE_OF
+    [ "$1" = "$(library_source)" ] || die "the crates were changed while the library was built"
+    mkdir -p "$(dirname "$own_library")" && cp "$c_archive" "$own_library" &&
+        echo "$1 $(sha256sum <"$own_library")" >"$library_mark"
 }
 
 # Proves and builds the project's own library. What rt says is shown if it fails.
 build_library() {
     local log=$out/library.log source crates
     mkdir -p "$out"
-    crates=$(count_library_crates)
-    echo "proving and building the library: $crates crates, of which those that have not changed take no time" >&2
-    rm -f "$library_mark"
+    mapfile -t crates < <(library_crates)
+    echo "proving and building the library: ${#crates[@]} crates, of which those that have not changed take no time" >&2
+    rm -f "$library_mark" "$c_archive"
     source=$(library_source) || die "'rt version' does not say which toolchain this is"
-    if ! (cd "$top" && rt staticlib blockheap) 2>&1 | tee "$log" | show_progress "$crates" >&2; then
+    if ! (cd "$c_crate" && rt lib) 2>&1 | tee "$log" | show_progress "${crates[@]}" >&2; then
         cat "$log" >&2
         die "the library could not be built"
     fi
-    [ "$source" = "$(library_source)" ] || die "the crates were changed while the library was built"
-    echo "$source $(sha256sum <"$own_library")" >"$library_mark"
+    take_library "$source"
+}
+
+# Whether no crate has a library of an earlier run. rt ci puts such a library back where it was: only without one do those that
+# stand in the crates' folders behind it come from that run.
+nothing_is_kept() {
+    [ ! -e "$top/.git/rt-aside" ] && ! compgen -G "$top/crates/*/out/rlib" >/dev/null
+}
+
+# Proves the functions for C over the libraries that rt ci has proved and left in the crates' folders, and builds the project's own
+# library. rt lib would prove those libraries again, from nothing: it takes none that the gate made. Neither that folder nor these
+# words for the compiler are said to stay as they are: where they do not serve, this fails, and rt lib is left.
+build_library_over_proved() { # WHAT_WAS_PROVED
+    local log=$out/library.log kit name needs flags
+    kit=$(dirname "$(dirname "$(realpath "$(command -v rt)")")")
+    mkdir -p "$out" "$c_crate/out"
+    rm -f "$library_mark" "$c_archive"
+    flags=(--extern "std=$kit/rlibs/std.rlib" -L "dependency=$kit/rlibs")
+    read -ra needs < <(sed -nE 's/^blockheap_c( [^:]*)?://p' "$top/crates.txt")
+    for name in "${needs[@]}"; do
+        flags+=(--extern "$name=$top/crates/$name/out/rlib/$name.rlib")
+    done
+    for name in $(library_crates); do flags+=(-L "dependency=$top/crates/$name/out/rlib"); done
+    (cd "$c_crate" && "$kit/bin/rattle" build --crate-name blockheap_c src/lib.rt "${flags[@]}" --links blockheap_c= \
+        --antt-project "$kit/rattle/logic/antt-project.json" --logic-built "$kit/logic_built" --crate-type staticlib \
+        --toolchain "$kit/toolchain" --backend llvm -o "$c_archive") >"$log" 2>&1 || return
+    take_library "$1"
+}
+
+# Removes the libraries that rt ci left, which have no stamp: no other command of rt takes them, and beside them the next run of the
+# gate could not tell which come from it.
+forget_proved() {
+    local folder
+    for folder in "$top"/crates/*/out/rlib; do [ -e "$folder/stamp" ] || rm -rf "$folder"; done
+}
+
+# Whether the last line of rt ci says that it tried must-fail edits, and that none was bad. Such an edit cannot be applied or does not compile: it
+# fails nothing there, and shows nothing.
+no_edit_is_bad() { # WHAT_RT_CI_SAID
+    local line
+    line=$(grep '^rt: ok; ' "$1") && [[ $line =~ \;\ must-fail\ edits:\ [1-9][0-9]*\ refused([^\;]*)\; ]] &&
+        [[ ! ${BASH_REMATCH[1]} =~ \ [1-9][0-9]*\ bad ]] && return
+    echo "rt ci says of the must-fail edits: ${line:-nothing}"
+    return 1
 }
 
 # Sets BLOCKHEAP_LIB to the full path of the library: another archive that it names, or the project's own, which is built if it

@@ -3,14 +3,17 @@
 //! usage: check PROJECT SRC
 //!
 //! - Line n of SRC/NAME.rs is line n of crates/NAME/src/lib.rt, or it is empty where that has ghost text: a `ghost use`, a
-//!   clause `requires { .. }` or `ensures { .. }` between the end of a function's parameters and the brace of its body, or
-//!   `#[no_mangle]`. No ghost text is left.
+//!   clause `requires { .. }` or `ensures { .. }`, also with a name, between the end of a function's parameters and the brace
+//!   of its body, `#![tactic(..)]`, `#[tactic(..)]` before a function, or `#[unsafe(no_mangle)]`. No ghost text is left.
 //! - SRC/lib.rs is head.rs and then these parts, each once: a module for each crate, and for each declaration of the header
 //!   a function whose parameters are made from that declaration.
 
 use std::collections::BTreeSet;
 use std::path::Path;
 use std::{env, fs, process};
+
+const EXPORT: &str = "#[unsafe(no_mangle)]";
+const ENTRY_CRATE: &str = "blockheap_c";
 
 type Result<T> = std::result::Result<T, String>;
 
@@ -70,15 +73,16 @@ struct Crate {
 
 fn is_code(line: &str) -> bool {
     let line = line.trim();
-    !line.is_empty() && !line.starts_with("//") && !line.starts_with("ghost use ")
+    !line.is_empty() && !["//", "ghost use ", "#![tactic("].iter().any(|start| line.starts_with(start))
 }
 
 /// From the last line of crates.txt to the first: a crate is needed if it is the library, or if a needed one names it.
 fn crates_with_code(project: &Path) -> Result<Vec<Crate>> {
-    let mut needed = BTreeSet::from(["blockheap".to_string()]);
+    let mut needed = BTreeSet::from([ENTRY_CRATE.to_string()]);
     let mut found = Vec::new();
     for line in read(&project.join("crates.txt"))?.lines().rev() {
         let Some((name, names)) = line.split_once(':') else { continue };
+        let name = name.split(' ').next().unwrap_or(name);
         if line.starts_with('#') || !needed.contains(name) {
             continue;
         }
@@ -122,7 +126,7 @@ fn ghost_lines(path: &str, lines: &[&str]) -> Result<Vec<bool>> {
     for (i, whole) in lines.iter().enumerate() {
         let line = whole.trim();
         let says = |what: &str| Err(format!("{path}:{}: {what}: {whole}", i + 1));
-        let opens = line.starts_with("requires {") || line.starts_with("ensures {");
+        let opens = opens_clause(line);
         if depth > 0 || opens {
             if depth == 0 && !in_contract && !ends_parameters(lines, i) {
                 return says("a clause that does not follow a function's parameters");
@@ -137,18 +141,32 @@ fn ghost_lines(path: &str, lines: &[&str]) -> Result<Vec<bool>> {
             return says("a contract that no body follows");
         } else {
             in_contract = false;
-            let ghost = line.starts_with("ghost use ") && line.find(';') == Some(line.len() - 1);
-            let exported = line == "#[no_mangle]" && lines.get(i + 1).is_some_and(|l| l.starts_with("pub extern \"C\" fn "));
-            if !ghost && !exported && !is_plain(line) {
+            let precedes = |starts: &[&str]| {
+                lines.get(i + 1).is_some_and(|next| starts.iter().any(|start| next.trim_start().starts_with(start)))
+            };
+            let imports = line.starts_with("ghost use ") && line.find(';') == Some(line.len() - 1);
+            let asks = line.starts_with("#![tactic(") && line.ends_with(")]") && !lines[..i].iter().any(|before| is_code(before))
+                || line.starts_with("#[tactic(") && line.ends_with(")]") && precedes(&["pub fn ", "fn ", EXPORT]);
+            let exports = line == EXPORT && precedes(&["pub extern \"C\" fn "]);
+            let copies = line == "#[derive(Clone, Copy)]" && precedes(&["pub struct ", "struct ", "pub enum ", "enum "]);
+            let ghost = imports || asks || exports;
+            if !ghost && !copies && !is_plain(line) {
                 return says("a line that is neither plain code nor ghost text");
             }
-            ghosts.push(ghost || exported);
+            ghosts.push(ghost);
         }
     }
     if depth > 0 || in_contract {
         return Err(format!("{path}: a clause without an end"));
     }
     Ok(ghosts)
+}
+
+/// Whether a clause begins here: one of two words, a name or none, and a brace.
+fn opens_clause(line: &str) -> bool {
+    let rest = line.strip_prefix("requires ").or(line.strip_prefix("ensures "));
+    let name = rest.and_then(|rest| rest.split_once('{')).map(|(name, _)| name.trim_end());
+    name.is_some_and(|name| name.chars().all(|c| c.is_ascii_alphanumeric() || c == '_'))
 }
 
 fn braces(line: &str) -> i32 {
@@ -222,7 +240,7 @@ impl Declaration {
         given.retain(|value| !value.is_empty());
         let name = &self.name;
         Ok(format!(
-            "#[no_mangle]\npub unsafe extern \"C\" fn {name}({}) -> u32 {{\n    blockheap::{name}({})\n}}",
+            "#[no_mangle]\npub unsafe extern \"C\" fn {name}({}) -> u32 {{\n    {ENTRY_CRATE}::{name}({})\n}}",
             taken.join(", "),
             given.join(", ")
         ))
@@ -255,16 +273,10 @@ fn check_root(head: &str, crates: &[Crate], header: &[Declaration], root: &str) 
 fn module_part(c: &Crate, crates: &[Crate]) -> String {
     let uses =
         crates.iter().filter(|other| c.needs.contains(&other.name)).map(|other| format!("    use crate::{};\n", other.name));
-    let types = c.text.lines().filter_map(|line| {
-        let line = line.strip_prefix("pub ").unwrap_or(line);
-        let rest = line.strip_prefix("struct ").or(line.strip_prefix("enum "))?;
-        rest.split([' ', '(']).next()
-    });
     format!(
         "mod {0} {{\n    #[cfg(casts)]\n    use crate::{{Below, Small}};\n    use crate::std;\n{1}    \
-         include!(\"{0}.rs\");\n    copied!({2});\n}}",
+         include!(\"{0}.rs\");\n}}",
         c.name,
-        uses.collect::<String>(),
-        types.collect::<Vec<_>>().join(", ")
+        uses.collect::<String>()
     )
 }

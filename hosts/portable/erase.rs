@@ -2,11 +2,12 @@
 //!
 //! usage: erase PROJECT OUT
 //!
-//! It takes the crates of crates.txt that `blockheap` needs and that have code, and writes into OUT/src a crate without the
+//! It takes the crates of crates.txt that `blockheap_c` needs and that have code, and writes into OUT/src a crate without the
 //! standard library: NAME.rs has, line for line, crates/NAME/src/lib.rt. Taken out are only these, and leave empty lines:
 //! - `ghost use ..;`
-//! - `requires { .. }` and `ensures { .. }` between a function's parameters and its body
-//! - `#[no_mangle]` before an entry point
+//! - `requires { .. }` and `ensures { .. }`, also with a name before the brace, between a function's parameters and its body
+//! - `#![tactic(..)]` at the head of a file, and `#[tactic(..)]` before a function
+//! - `#[unsafe(no_mangle)]` before an entry point
 //! lib.rs is head.rs, then a module for each crate with the crates in scope that crates.txt lists for it, and a function
 //! with C's parameters for each entry point. OUT/casts has the same crate with calls around what might show how wide a usize
 //! is: there the compiler's types decide.
@@ -19,7 +20,7 @@ use std::path::Path;
 use std::{env, fs, process};
 
 const HEAD: &str = include_str!("head.rs");
-const ENTRY_CRATE: &str = "blockheap";
+const ENTRY_CRATE: &str = "blockheap_c";
 
 const NUMBERS: [&str; 6] = ["u8", "u16", "u32", "u64", "usize", "i32"];
 /// The functions of Rust's own library. None is of a usize, whose width would show.
@@ -38,16 +39,20 @@ const NO_NAMES: [&str; 45] = [
     "where",
 ];
 /// Longer signs first.
-const SIGNS: [&str; 35] = [
-    "\"C\"", "::", "->", "=>", "==", "!=", "<=", ">=", "<<", ">>", "+=", "-=", "..", "{", "}", "(", ")", "[", "]", ",", ";",
+const SIGNS: [&str; 36] = [
+    DERIVE, "\"C\"", "::", "->", "=>", "==", "!=", "<=", ">=", "<<", ">>", "+=", "-=", "..", "{", "}", "(", ")", "[", "]", ",", ";",
     ":", ".", "=", "<", ">", "+", "-", "*", "/", "%", "&", "|", "^", "!",
 ];
 /// Longer signs of Rust that begin as one of these, and what begins a comment that it does not know.
 const UNKNOWN_SIGNS: [&str; 15] = ["///", "//!", "/*", "<<=", ">>=", "..=", "...", "&&", "||", "*=", "/=", "%=", "&=", "|=", "^="];
+/// What makes Rattle, and Rust, copy a struct or an enum.
+const DERIVE: &str = "#[derive(Clone, Copy)]";
 /// The signs and the word that a value may begin behind, and that are no part of it.
 const BEFORE_VALUES: [&str; 7] = ["(", "[", "{", ",", ";", "=", "return"];
-/// How ghost texts begin, and how they end outside of braces.
-const GHOST: [(&str, char); 4] = [("ghost use ", ';'), ("requires {", '}'), ("ensures {", '}'), ("#[no_mangle]", ']')];
+/// How ghost texts begin, and how they end outside of brackets of that kind, or of braces. A clause begins with one of two words.
+const GHOST: [(&str, char); 4] = [("ghost use ", ';'), ("#![tactic(", ']'), ("#[tactic(", ']'), (EXPORT, ']')];
+const CLAUSES: [&str; 2] = ["requires ", "ensures "];
+const EXPORT: &str = "#[unsafe(no_mangle)]";
 /// What might hide their end.
 const HIDING: [&str; 7] = ["//", "/*", "--", "{-", "\"", "\t", "\r"];
 
@@ -102,12 +107,12 @@ fn check_methods(crates: &[Parser]) -> Result<()> {
 /// The text of lib.rs.
 fn root(crates: &[Parser]) -> String {
     let mut text = HEAD.to_string();
-    for Parser { source, types, .. } in crates {
+    for Parser { source, .. } in crates {
         text += &format!("\nmod {} {{\n    #[cfg(casts)]\n    use crate::{{Below, Small}};\n    use crate::std;\n", source.name);
         for other in crates.iter().filter(|other| source.needs.contains(&other.source.name)) {
             text += &format!("    use crate::{};\n", other.source.name);
         }
-        text += &format!("    include!(\"{}.rs\");\n    copied!({});\n}}\n", source.name, types.join(", "));
+        text += &format!("    include!(\"{}.rs\");\n}}\n", source.name);
     }
     text + &crates.iter().flat_map(|parser| parser.entries.clone()).collect::<String>()
 }
@@ -127,6 +132,7 @@ fn needed_crates(project: &Path) -> Result<Vec<Crate>> {
     let mut found = Vec::new();
     for line in read(project, "crates.txt")?.lines().rev().filter(|line| !line.starts_with('#')) {
         let Some((name, needs)) = line.split_once(':') else { continue };
+        let name = name.strip_suffix(" staticlib").unwrap_or(name);
         if missing.remove(name) {
             let needs: Vec<String> = needs.split_whitespace().map(str::to_string).collect();
             missing.extend(needs.iter().cloned());
@@ -223,8 +229,8 @@ impl Crate {
 
     fn token_length(&self, at: usize) -> Result<usize> {
         let rest = &self.text[at..];
-        if let Some((_, last)) = GHOST.iter().find(|(beginning, _)| rest.starts_with(beginning)) {
-            return self.ghost_length(at, *last);
+        if let Some(last) = ghost_last(rest) {
+            return self.ghost_length(at, last);
         }
         let label = rest.strip_prefix('\'').map_or(0, word_length);
         match word_length(rest) {
@@ -263,12 +269,27 @@ impl Crate {
     }
 }
 
+/// How the ghost text ends that the text begins with, if it begins with one.
+fn ghost_last(text: &str) -> Option<char> {
+    let clause = CLAUSES.iter().find_map(|word| text.strip_prefix(word));
+    let behind_name = |rest: &str| rest[word_length(rest)..].strip_prefix(' ').unwrap_or(rest).starts_with('{');
+    if clause.is_some_and(behind_name) {
+        return Some('}');
+    }
+    GHOST.iter().find(|(beginning, _)| text.starts_with(beginning)).map(|(_, last)| *last)
+}
+
 fn ghost_end(text: &str, last: char) -> Option<usize> {
+    let (open, close) = if last == ']' { ('[', ']') } else { ('{', '}') };
     let mut depth = 0;
     text.char_indices().find_map(|(i, c)| {
-        depth += i32::from(c == '{') - i32::from(c == '}');
+        depth += i32::from(c == open) - i32::from(c == close);
         (c == last && depth == 0).then_some(i)
     })
+}
+
+fn is_clause(text: &str) -> bool {
+    ghost_last(text) == Some('}')
 }
 
 // ---- Items
@@ -283,7 +304,6 @@ struct Parser<'a> {
     erased: Vec<Edit>,
     /// The casts to usize as calls, and calls around what is shifted to the left or inverted.
     calls: Vec<Edit>,
-    types: Vec<&'a str>,
     /// The functions for C.
     entries: Vec<String>,
 }
@@ -291,8 +311,8 @@ struct Parser<'a> {
 impl<'a> Parser<'a> {
     /// The whole source, parsed.
     fn of(source: &'a Crate) -> Result<Parser<'a>> {
-        let (tokens, erased, calls, types, entries) = (source.tokens()?, vec![], vec![], vec![], vec![]);
-        let mut parser = Parser { source, tokens, at: 0, erased, calls, types, entries };
+        let (tokens, erased, calls, entries) = (source.tokens()?, vec![], vec![], vec![]);
+        let mut parser = Parser { source, tokens, at: 0, erased, calls, entries };
         while !parser.text().is_empty() {
             parser.item()?;
         }
@@ -347,27 +367,47 @@ impl<'a> Parser<'a> {
 
     /// An item, or the beginning or the end of an `impl`, whose functions are read as items.
     fn item(&mut self) -> Result<()> {
-        if self.text().starts_with("ghost use ") {
+        if self.text().starts_with("ghost use ") || self.at == 0 && self.text().starts_with("#![tactic(") {
             self.erase();
             return Ok(());
         }
+        let is_function = self.text().starts_with("#[tactic(");
+        if is_function {
+            self.erase();
+        }
+        let is_type = !is_function && self.accept(DERIVE);
+        if self.text() == EXPORT && !is_type && self.source.name == ENTRY_CRATE {
+            return self.entry();
+        }
         let is_public = self.accept("pub");
         match self.text() {
-            "#[no_mangle]" if !is_public && self.source.name == ENTRY_CRATE => self.entry(),
-            "use" if !is_public => self.form("use NAME :: NAME ;"),
+            "fn" if !is_type => self.function(),
+            "struct" | "enum" if !is_function => self.named_type(),
+            _ if is_function || is_type => self.refuse("which begins no item that may stand behind the attribute"),
+            "use" if !is_public => self.import(),
             "impl" if !is_public => self.form("impl NAME {"),
             "}" if !is_public => self.form("}"),
-            "fn" => self.function(),
             "const" => self.form("const NAME : NUMBER = DIGITS ;"),
-            "struct" | "enum" => self.named_type(),
             _ => self.refuse("which begins no item that it knows"),
         }
+    }
+
+    /// One name of a crate, or a list.
+    fn import(&mut self) -> Result<()> {
+        self.form("use NAME ::")?;
+        if self.accept("{") {
+            self.form("NAME")?;
+            while self.accept(",") {
+                self.form("NAME")?;
+            }
+            return self.form("} ;");
+        }
+        self.form("NAME ;")
     }
 
     fn named_type(&mut self) -> Result<()> {
         self.at += 1;
         self.form("NAME")?;
-        self.types.push(self.before());
         if self.text() == "(" {
             return self.form("( TYPE ) ;");
         }
@@ -449,7 +489,7 @@ impl<'a> Parser<'a> {
     // ---- Bodies
 
     fn clauses_and_body(&mut self) -> Result<()> {
-        while self.text().starts_with("requires {") || self.text().starts_with("ensures {") {
+        while is_clause(self.text()) {
             self.erase();
         }
         self.form("{")?;
@@ -478,7 +518,7 @@ impl<'a> Parser<'a> {
             _ if is_number(text) && next == "." => self.refuse("a number with a point"),
             _ if text.starts_with('\'') && (before == "continue" || next == ":") => Ok(()),
             _ if is_name(text) || is_number(text) || WORDS_IN_BODIES.contains(&text) => Ok(()),
-            _ if SIGNS.contains(&text) && !["->", "\"C\""].contains(&text) => Ok(()),
+            _ if SIGNS.contains(&text) && !["->", "\"C\"", DERIVE].contains(&text) => Ok(()),
             _ => self.refuse("which it does not know in a body"),
         }?;
         self.at += 1;

@@ -9,18 +9,6 @@ const _: () = assert!(usize::BITS >= 32);
 
 use core::slice::{from_raw_parts, from_raw_parts_mut};
 
-// Rattle copies every struct and enum.
-macro_rules! copied {
-    ($($name:ident),*) => {
-        $(impl Copy for $name {}
-        impl Clone for $name {
-            fn clone(&self) -> $name {
-                *self
-            }
-        })*
-    };
-}
-
 // With `--cfg casts`, casts to usize are calls of `small`, which only the numbers have that any usize holds, or of `below`, for a
 // number that was compared with a usize just before. And what is shifted to the left or inverted goes through `fixed`, which
 // takes only what has the same width on every host.

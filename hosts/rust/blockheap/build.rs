@@ -84,7 +84,7 @@ impl Target {
     /// The archive of the repository for this target, or how to build it.
     pub fn archive_in(&self, top: &Path) -> Result<PathBuf, String> {
         let (folder, command) = if self.is_of_proof() {
-            ("target/staticlib".into(), "rt staticlib blockheap".into())
+            ("target/staticlib".into(), "hosts/library".into())
         } else {
             (self.portable_folder(), self.portable_command())
         };

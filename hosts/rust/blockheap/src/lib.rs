@@ -16,7 +16,7 @@
 //! # Boards
 //!
 //! The archive that is linked is the one that `BLOCKHEAP_LIB` names by its full path, or that of cargo's target in
-//! this repository: for x86-64 Linux the proved one, which `rt staticlib blockheap` builds, and for any other
+//! this repository: for x86-64 Linux the proved one, which `hosts/library` builds, and for any other
 //! target the one that `hosts/portable/build` builds of the same source, which is tested and not proved. For a
 //! Cortex-M3, the first two in the repository's folder and the third in the firmware's:
 //!

@@ -75,7 +75,7 @@ fn a_missing_archive_is_refused_with_the_command_that_builds_it() {
         assert_eq!(message.contains(&other), without_rt, "{message}");
     };
     for target in of_proof() {
-        says(&target, "rt staticlib blockheap", true);
+        says(&target, "hosts/library", true);
     }
     for target in others() {
         says(&target, &format!("hosts/portable/build {}", target.name), false);
