@@ -14,7 +14,7 @@ use Rattle.rules.specs.Outcomes.{Heap}
 use Rattle.rules.specs.Refusals.{Test, first_of, good_shape, good_roots, good_lists, many_roots, long_stack, first_tests, heap_tests, root_tests, collection_tests}
 use Rattle.rules.specs.Memory.{memory}
 use Rattle.rules.specs.Planes.{entries_in, spare_free, Sized, IsTable, planes, heap_at}
-use Rattle.laws.proofs.Refusals.{both_left, both_right, not-true, not-false, shape_true, first_passed}
+use Rattle.laws.proofs.Refusals.{both_left, both_right, shape_true, first_passed}
 use Rattle.laws.proofs.Memory.{later, sound_of, refused_first_in}
 use Rattle.laws.proofs.Planes.{length_entries_in}
 use Rattle.checks.specs.Refusal.{refusal_by}

@@ -1,6 +1,6 @@
 -- `past_tails`: the blocks passed are TAILs; the first 64 that hold another end the scan.
 -- Assumes nothing.
-use Prim.Native.Nat.{◌-◌, ◌*◌, ◌≤◌}
+use Prim.Native.Nat.{◌*◌, ◌≤◌}
 use Rattle.rules.specs.Planes.{entries_in}
 use Rattle.backscan.proofs.Tails.{Tails}
 use Rattle.backscan.proofs.past_tails.Given as goal

@@ -1,7 +1,7 @@
 -- Tracing the next object from the present state ends where tracing the first one ends. The measure is the HEADs and the depth.
 -- Assumes nothing.
 use mathlib.Core.Path.{◌≡◌}
-use Prim.Native.Nat.{◌-◌, ◌<◌}
+use Prim.Native.Nat.{◌<◌}
 use lib.ListN.{length}
 use Rattle.rules.specs.Planes.{entries_in}
 use Rattle.rules.specs.Marking.{trace}
