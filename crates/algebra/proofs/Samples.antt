@@ -121,18 +121,18 @@ members_swapped u v x = (swap, swap)
 members_trans : {xs ys zs : List ℕ} → SameMembers xs ys → SameMembers ys zs → SameMembers xs zs
 members_trans s t x = (λ m. (t x).0 ((s x).0 m), λ m. (s x).1 ((t x).1 m))
 
-stack_good : GoodStack (stack_of 64)
+pub stack_good : GoodStack (stack_of 64)
 stack_good = record { whole = refl; short = omega arith }
 
 pub none_good : GoodStack []
 none_good = record { whole = refl; short = omega arith }
 
 -- the words of both, and of one of them so many times over
-members_ec : SameMembers (words_of roots_ce) (words_of many_ec)
+pub members_ec : SameMembers (words_of roots_ce) (words_of many_ec)
 unfolding tabulate number bytes_of word_at words_of
 members_ec = members_trans (members_swapped (address_at 4) (address_at 8)) (times_same 2047 roots_ec refl)
 
-members_once : SameMembers (words_of many_ec) (words_of roots_ec)
+pub members_once : SameMembers (words_of many_ec) (words_of roots_ec)
 unfolding bytes_of
 members_once x = let s = times_same 2047 roots_ec refl x in (s.1, s.0)
 
@@ -141,7 +141,7 @@ unfolding bytes_of
 members_b = times_same 4093 root_b refl
 
 -- 4,096 and 4,094 of them, and two
-good_many : GoodRoots many_ec
+pub good_many : GoodRoots many_ec
 unfolding bytes_of
 good_many = let l = times_length 2048 roots_ec in record { whole = omega arith; few = omega arith }
 
@@ -149,7 +149,7 @@ good_b : GoodRoots many_b
 unfolding bytes_of
 good_b = let l = times_length 4094 root_b in record { whole = omega arith; few = omega arith }
 
-good_two : GoodRoots roots_ec × GoodRoots roots_ac
+pub good_two : GoodRoots roots_ec × GoodRoots roots_ac
 unfolding bytes_of
 good_two = (record { whole = refl; few = omega arith }, record { whole = refl; few = omega arith })
 

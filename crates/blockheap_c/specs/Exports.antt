@@ -1,5 +1,5 @@
 -- What a C program calls promises what the function of the same name in the crate blockheap does, no less and no more: the two contracts are one.
--- So all that the page of the crate guarantees says of those functions holds of what C calls.
+-- So what the page of the crate guarantees says of those contracts is said of what C calls; that each function here meets its contract is what proves this crate.
 -- Assumes nothing.
 use Rattle.std.specs.Prelude.{◌≡◌}
 use seplogic.Ra.Ura.{Ura}
