@@ -2,11 +2,11 @@
 -- Assumes nothing.
 use mathlib.Core.Path.{refl, ap, ◌∙◌}
 use mathlib.Core.Bool.{Bool}
-use Prim.Native.Nat.{◌-◌}
+use Prim.Native.Nat.{◌<◌}
 use native.Mathlib.Omega.{arith}
 use Rattle.rules.specs.Marking.{trace}
 use Rattle.visitor.specs.Variables.{context_of, idle}
-use Rattle.tracer.proofs.Turning.{can_start, Popped, popped, trace_end}
+use Rattle.tracer.proofs.Turning.{can_start, popped, trace_end}
 use Rattle.tracer.proofs.trace.Goals as goal
 
 pub loop-base-init : goal.loop-base-init
@@ -34,30 +34,20 @@ word-requires c = omega (arith, c.walk-walked.ensures.deep, c.if-walked-eq0.fals
 
 pub loop-base-smaller : goal.loop-base-smaller
 loop-base-smaller c =
-    let turned : let a = c.args in
-    let l = c.loop-base in
-    let w = c.walk-walked in
-    Popped a.base.0 a.t a.pool.now a.stack.now l.table l.stack l.left l.next.0 w.new.table w.new.stack
-    (record { depth = w.result.depth - 1; lost = w.result.lost; first = w.result.first; last = w.result.last }) c.of_word-next.result.0 =
     let a = c.args in
     let l = c.loop-base in
     let w = c.walk-walked in
-    popped a.base.0 a.t a.pool.now a.stack.now l.table l.stack l.left l.invariant.0 l.invariant.3 l.next.0 w.new.table w.new.stack w.result
-    w.ensures c.of_word-next.result.0 (omega (arith, c.if-walked-eq0.false)) (c.of_word-next.ensures ∙ c.word.ensures) in
-    turned.less
+    let stacked : 0 < w.result.depth = omega (arith, c.if-walked-eq0.false) in
+    (popped a.base.0 a.t a.pool.now a.stack.now l.table l.stack l.left l.invariant.0 l.invariant.3 l.next.0 w.new.table w.new.stack w.result
+    w.ensures c.of_word-next.result.0 stacked (c.of_word-next.ensures ∙ c.word.ensures)).less
 
 pub loop-base-preserved : goal.loop-base-preserved
 loop-base-preserved c =
-    let turned : let a = c.args in
-    let l = c.loop-base in
-    let w = c.walk-walked in
-    Popped a.base.0 a.t a.pool.now a.stack.now l.table l.stack l.left l.next.0 w.new.table w.new.stack
-    (record { depth = w.result.depth - 1; lost = w.result.lost; first = w.result.first; last = w.result.last }) c.of_word-next.result.0 =
     let a = c.args in
     let l = c.loop-base in
     let w = c.walk-walked in
+    let left : 0 < w.result.depth = omega (arith, c.if-walked-eq0.false) in
+    let turned =
     popped a.base.0 a.t a.pool.now a.stack.now l.table l.stack l.left l.invariant.0 l.invariant.3 l.next.0 w.new.table w.new.stack w.result
-    w.ensures c.of_word-next.result.0 (omega (arith, c.if-walked-eq0.false)) (c.of_word-next.ensures ∙ c.word.ensures) in
-    let l = c.loop-base in
-    let w = c.walk-walked in
+    w.ensures c.of_word-next.result.0 left (c.of_word-next.ensures ∙ c.word.ensures) in
     (turned.can, turned.inside, w.auto.table ∙ l.invariant.2, w.auto.stack ∙ l.invariant.3, turned.same ∙ l.invariant.4)
