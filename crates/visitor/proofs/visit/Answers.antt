@@ -23,7 +23,6 @@ push-requires c = (c.requires.table.1.0, c.block_of-k.ensures.small)
 
 pub visit_tail-requires : goal.visit_tail-requires
 visit_tail-requires c =
-    let es : List ℕ = entries_in c.args.t c.args.table.now in
     let k : ℕ = c.block_of-k.result.0 in
     let table' : List ℕ = c.mark_head-met.new.table in
     let h = c.in-Tail.ensures in
@@ -35,7 +34,6 @@ pub returns-in-Head : goal.returns-in-Head
 returns-in-Head c pool =
     let es : List ℕ = entries_in c.args.t c.args.table.now in
     let k : ℕ = c.block_of-k.result.0 in
-    let table' : List ℕ = c.mark_head-met.new.table in
     let target : target_of c.args.base.0 (length es) c.args.w ≡ pick (ltb k (length es)) (some k) none = c.block_of-k.ensures.target (length es) c.requires.base_bound.1 in
     let h = c.in-Head.ensures in
     let a = c.args in
@@ -46,7 +44,6 @@ pub returns-in-Tail : goal.returns-in-Tail
 returns-in-Tail c pool =
     let es : List ℕ = entries_in c.args.t c.args.table.now in
     let k : ℕ = c.block_of-k.result.0 in
-    let table' : List ℕ = c.mark_head-met.new.table in
     let target : target_of c.args.base.0 (length es) c.args.w ≡ pick (ltb k (length es)) (some k) none = c.block_of-k.ensures.target (length es) c.requires.base_bound.1 in
     let h = c.in-Tail.ensures in
     let a = c.args in
@@ -59,7 +56,6 @@ pub returns-in-Other : goal.returns-in-Other
 returns-in-Other c pool =
     let es : List ℕ = entries_in c.args.t c.args.table.now in
     let k : ℕ = c.block_of-k.result.0 in
-    let table' : List ℕ = c.mark_head-met.new.table in
     let target : target_of c.args.base.0 (length es) c.args.w ≡ pick (ltb k (length es)) (some k) none = c.block_of-k.ensures.target (length es) c.requires.base_bound.1 in
     let h = c.in-Other.ensures in
     let a = c.args in
