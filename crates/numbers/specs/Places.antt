@@ -4,13 +4,13 @@ use Rattle.std.specs.Prelude.{◌≡◌, ℕ, ◌^◌, ◌<◌, ◌≤◌, nat_l
 use Rattle.std.proofs.Math.Option.{Option, some, none}
 use Rattle.rules.specs.Tests.{pick}
 use Rattle.rules.specs.Pointers.{address_of, target_of}
-use Rattle.numbers.specs.declared.Found.{Found}
-use Rattle.numbers.specs.declared.Found.TheVariants.{At, Nowhere}
+use Rattle.std.specs.Prelude.{Option as Maybe, Some, None}
+use Rattle.numbers.specs.declared.Block.{Block}
 
 -- the block that was found, if one was
-abbrev pub found : Found → Option ℕ
-found (At k) = some k.0
-found Nowhere = none
+abbrev pub found : Maybe Block → Option ℕ
+found (Some k) = some k.0
+found None = none
 
 -- k is the block whose address w is, if it is one of n blocks that lie in the address space; if it is none of them, w is the address of none
 pub record BlockOf (base w k : ℕ) : Type 0 where

@@ -10,8 +10,8 @@ ghost use Rattle.rules.specs.Calls.{blocks_for};
 ghost use Rattle.laws.specs.Clamped.{clamped as clamped_to};
 ghost use Rattle.numbers.specs.Places.{found, BlockOf};
 
-// A block's number in the pool, from 0.
-#[derive(Clone, Copy)]
+// A block's number in the pool, from 0. A block is less than those behind it.
+#[derive(Clone, Copy, PartialEq, Eq, PartialOrd, Ord)]
 pub struct Block(usize);
 
 // An address. A base that is not tested yet may be any number; that of a block fits a word, and the end of the last is at most 2^32.
@@ -26,24 +26,31 @@ pub struct Bytes(usize);
 const END: u64 = 4294967296;
 
 // The largest number of 32 bits.
-const LARGEST: usize = 4294967295;
+const LARGEST: u64 = 4294967295;
 
 // A number that a caller gave, or the largest of 32 bits if it is larger: every host's usize holds it, and no call tells the two apart.
 pub fn clamped(n: u64) -> usize
     ensures { result ≡ clamped_to n }
 {
-    if n < LARGEST as u64 {
-        n as usize
-    } else {
-        LARGEST
+    n.min(LARGEST) as usize
+}
+
+// The block whose number a word holds.
+impl From<u32> for Block {
+    ghost from_gives = { λ w k. k.0 ≡ w };
+
+    fn from(w: u32) -> Block {
+        Block(w as usize)
     }
 }
 
-// The block that a search found or that an address is of, or none.
-#[derive(Clone, Copy)]
-pub enum Found {
-    At(Block),
-    Nowhere,
+// The number for a caller.
+impl From<Block> for u64 {
+    ghost from_gives = { λ k n. n ≡ k.0 };
+
+    fn from(k: Block) -> u64 {
+        k.0 as u64
+    }
 }
 
 impl Block {
@@ -59,13 +66,6 @@ impl Block {
         ensures { result.0 ≡ clamped_to n }
     {
         Block(clamped(n))
-    }
-
-    // The number for a caller.
-    pub fn number(self) -> u64
-        ensures { result ≡ self.0 }
-    {
-        self.0 as u64
     }
 
     // The index of the block's entry among the table's entries.
@@ -88,13 +88,6 @@ impl Block {
         ensures { result ≡ nat_lt self.0 n }
     {
         self.0 < n
-    }
-
-    // Whether it is the other block, or one after it.
-    pub fn is_at_or_after(self, other: Block) -> bool
-        ensures { result ≡ nat_le other.0 self.0 }
-    {
-        other.0 <= self.0
     }
 
     // How many of n blocks there are from this one on.
@@ -137,13 +130,6 @@ impl Block {
         ensures { result ≡ self.0 }
     {
         self.0 as u32
-    }
-
-    // The block whose number a word holds.
-    pub fn of_word(w: u32) -> Block
-        ensures { result.0 ≡ w }
-    {
-        Block(w as usize)
     }
 }
 
@@ -200,14 +186,25 @@ impl Bytes {
     }
 }
 
-impl Address {
-    // The address that a caller gave.
-    pub fn of_number(n: u64) -> Address
-        ensures { result.0 ≡ n }
-    {
+// The address that a caller gave.
+impl From<u64> for Address {
+    ghost from_gives = { λ n at. at.0 ≡ n };
+
+    fn from(n: u64) -> Address {
         Address(n)
     }
+}
 
+// The address that a word holds.
+impl From<u32> for Address {
+    ghost from_gives = { λ w at. at.0 ≡ w };
+
+    fn from(w: u32) -> Address {
+        Address(u64::from(w))
+    }
+}
+
+impl Address {
     // Whether n blocks can lie from here on: a multiple of 16, at least 16, with the end of the last block in the address space.
     pub fn is_base(self, n: usize) -> bool
         requires { n < 2 ^ 32 }
@@ -242,13 +239,6 @@ impl Address {
         self.0 as u32
     }
 
-    // The address that a word holds.
-    pub fn of_word(w: u32) -> Address
-        ensures { result.0 ≡ w }
-    {
-        Address(w as u64)
-    }
-
     // Whether it is 0, which is the address of no block.
     pub fn is_zero(self) -> bool
         ensures { result ≡ (self.0 == 0) }
@@ -257,30 +247,28 @@ impl Address {
     }
 
     // The block of n blocks from this base on whose address is the word w.
-    pub fn target(self, n: usize, w: u32) -> Found
+    pub fn target(self, n: usize, w: u32) -> Option<Block>
         ensures { found result ≡ target_of self.0 n w }
     {
-        self.block_at(n, Address::of_word(w))
+        self.block_at(n, Address::from(w))
     }
 
     // The block of n blocks from this base on that has this address.
-    pub fn block_at(self, n: usize, at: Address) -> Found
+    pub fn block_at(self, n: usize, at: Address) -> Option<Block>
         ensures { found result ≡ target_of self.0 n at.0 }
     {
-        let base = self.0;
-        let there = at.0;
-        if there < base {
-            return Found::Nowhere;
+        if at.0 < self.0 {
+            return None;
         }
-        let d = there - base;
-        if d % 16 != 0 {
-            return Found::Nowhere;
+        let distance = at.0 - self.0;
+        if distance % 16 != 0 {
+            return None;
         }
-        let k = d / 16;
+        let k = distance / 16;
         if k < n as u64 {
-            Found::At(Block(k as usize))
+            Some(Block(k as usize))
         } else {
-            Found::Nowhere
+            None
         }
     }
 

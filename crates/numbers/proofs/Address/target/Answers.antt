@@ -5,4 +5,4 @@ use Rattle.rules.specs.Pointers.{target_of}
 use Rattle.numbers.proofs.Address.target.Goals as goal
 
 pub returns : goal.returns
-returns c = c.block_at.ensures ∙ ap (target_of _ _) c.of_word.ensures
+returns c = c.block_at.ensures ∙ ap (target_of _ _) c.from.ensures
