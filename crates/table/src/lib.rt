@@ -6,7 +6,7 @@ ghost use Rattle.rules.specs.Tables.{block_count, free_from, first_fit, grows_in
 ghost use Rattle.rules.specs.Planes.{entries_in, IsTable, Holds};
 ghost use Rattle.numbers.specs.Places.{found};
 
-use numbers::{Block, Found};
+use numbers::Block;
 
 // How many blocks the object with head k has.
 pub fn block_count(t: usize, table: &[u8], k: Block) -> usize
@@ -54,7 +54,7 @@ pub fn grows_in_place(t: usize, table: &[u8], k: Block, old: usize, new: usize) 
 }
 
 // The lowest block at which count blocks may start.
-pub fn first_fit(t: usize, table: &[u8], count: usize) -> Found
+pub fn first_fit(t: usize, table: &[u8], count: usize) -> Option<Block>
     requires { IsTable t table.now × (0 < count) }
     ensures { found result ≡ first_fit (entries_in t table.now) count }
 {
@@ -72,9 +72,9 @@ pub fn first_fit(t: usize, table: &[u8], count: usize) -> Found
                 }
             }
         }
-        return Found::At(start);
+        return Some(start);
     }
-    Found::Nowhere
+    None
 }
 
 // A new object of count blocks at k: a HEAD and count - 1 TAILs.
