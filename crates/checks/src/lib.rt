@@ -1,4 +1,4 @@
-// Each call's refusal, found before anything is written: the number of the first test that holds, or 0.
+// Each call's refusal, found before anything is written: that of the first test that holds.
 #![tactic(auto)]
 
 ghost use Rattle.std.specs.Prelude.{◌≡◌, List, [], ◌∷◌, ◌++◌, ℕ, length};
@@ -7,9 +7,11 @@ ghost use Rattle.rules.specs.Tables.{well_formed};
 ghost use Rattle.rules.specs.Planes.{entries_in, spare_free, planes, Sized, IsTable, heap_at};
 ghost use Rattle.rules.specs.Outcomes.{Heap};
 ghost use Rattle.rules.specs.Refusals.{first_of, good_shape, heap_tests, request_tests, name_tests, no_word, object_tests, resize_tests, root_tests, collection_tests};
+ghost use Rattle.refusals.specs.Codes.{refused_by};
 ghost use Rattle.checks.specs.Refusal.{refusal_by};
 
 use numbers::{Address, Block, Bytes};
+use refusals::Refusal;
 
 // Whether t is from 1 to 1,024, and the table's length, the pool's length and the base suit it.
 pub fn good_shape(base: Address, t: usize, pool: &[u8], table: &[u8]) -> bool
@@ -43,98 +45,102 @@ fn is_sound(t: usize, table: &[u8]) -> bool
 }
 
 // Refusals 1 and 2, of every call but init and an opening.
-pub fn heap(base: Address, t: usize, pool: &[u8], table: &[u8]) -> u32
-    ensures { result ≡ refusal_by t pool.now table.now (λ (h : Heap). heap_tests base.0 h) }
+pub fn heap(base: Address, t: usize, pool: &[u8], table: &[u8]) -> Result<(), Refusal>
+    ensures { refused_by result ≡ refusal_by t pool.now table.now (λ (h : Heap). heap_tests base.0 h) }
 {
     if !good_shape(base, t, pool, table) {
-        return refusals::BAD_SHAPE;
+        return Err(Refusal::BadShape);
     }
     if !is_sound(t, table) {
-        return refusals::BAD_TABLE;
+        return Err(Refusal::BadTable);
     }
-    0
+    Ok(())
 }
 
 // Refusals 1, 2 and 5, of a request for room.
-pub fn request(base: Address, t: usize, pool: &[u8], table: &[u8], bytes: Bytes) -> u32
-    ensures { result ≡ refusal_by t pool.now table.now (λ (h : Heap). request_tests base.0 h bytes.0) }
+pub fn request(
+    base: Address,
+    t: usize,
+    pool: &[u8],
+    table: &[u8],
+    bytes: Bytes,
+) -> Result<(), Refusal>
+    ensures { refused_by result ≡ refusal_by t pool.now table.now (λ (h : Heap). request_tests base.0 h bytes.0) }
 {
-    let r = heap(base, t, pool, table);
-    if r != 0 {
-        return r;
-    }
+    heap(base, t, pool, table)?;
     if bytes.is_zero() {
-        return refusals::ZERO_BYTES;
+        return Err(Refusal::ZeroBytes);
     }
-    0
+    Ok(())
 }
 
 // Refusals 1, 2, 6 and 7, of a call that names an object.
-pub fn object(base: Address, t: usize, pool: &[u8], table: &[u8], k: Block) -> u32
-    ensures { result ≡ refusal_by t pool.now table.now (λ (h : Heap). object_tests base.0 h k.0) }
+pub fn object(base: Address, t: usize, pool: &[u8], table: &[u8], k: Block) -> Result<(), Refusal>
+    ensures { refused_by result ≡ refusal_by t pool.now table.now (λ (h : Heap). object_tests base.0 h k.0) }
 {
-    let r = heap(base, t, pool, table);
-    if r != 0 {
-        return r;
-    }
+    heap(base, t, pool, table)?;
     named(t, table, k)
 }
 
 // Refusals 1, 2, 5, 6 and 7, of a request for an object.
-pub fn resize(base: Address, t: usize, pool: &[u8], table: &[u8], k: Block, bytes: Bytes) -> u32
-    ensures { result ≡ refusal_by t pool.now table.now (λ (h : Heap). resize_tests base.0 h k.0 bytes.0) }
+pub fn resize(
+    base: Address,
+    t: usize,
+    pool: &[u8],
+    table: &[u8],
+    k: Block,
+    bytes: Bytes,
+) -> Result<(), Refusal>
+    ensures { refused_by result ≡ refusal_by t pool.now table.now (λ (h : Heap). resize_tests base.0 h k.0 bytes.0) }
 {
-    let r = request(base, t, pool, table, bytes);
-    if r != 0 {
-        return r;
-    }
+    request(base, t, pool, table, bytes)?;
     named(t, table, k)
 }
 
 // Refusals 6 and 7: whether block k names an object.
-fn named(t: usize, table: &[u8], k: Block) -> u32
+fn named(t: usize, table: &[u8], k: Block) -> Result<(), Refusal>
     requires { IsTable t table.now }
-    ensures { result ≡ first_of (name_tests (heap_at t [] table.now) k.0) }
+    ensures { refused_by result ≡ first_of (name_tests (heap_at t [] table.now) k.0) }
 {
     if !k.is_below(entries::blocks(t)) {
-        return refusals::NO_SUCH_BLOCK;
+        return Err(Refusal::NoSuchBlock);
     }
     if !entries::is_head(t, table, k) {
-        return refusals::NOT_A_HEAD;
+        return Err(Refusal::NotAHead);
     }
-    0
+    Ok(())
 }
 
 // Refusals 6, 7 and 8, of a word of an object, where 1 and 2 are passed.
-pub fn object_word(t: usize, table: &[u8], k: Block, i: usize) -> u32
+pub fn object_word(t: usize, table: &[u8], k: Block, i: usize) -> Result<(), Refusal>
     requires { IsTable t table.now }
-    ensures { result ≡ first_of (name_tests (heap_at t [] table.now) k.0 ++ no_word (heap_at t [] table.now) k.0 i ∷ []) }
+    ensures { refused_by result ≡ first_of (name_tests (heap_at t [] table.now) k.0 ++ no_word (heap_at t [] table.now) k.0 i ∷ []) }
 {
-    let r = named(t, table, k);
-    if r != 0 {
-        return r;
-    }
+    named(t, table, k)?;
     if 4 * table::block_count(t, table, k) <= i {
-        return refusals::NO_SUCH_WORD;
+        return Err(Refusal::NoSuchWord);
     }
-    0
+    Ok(())
 }
 
 // Refusals 1, 2 and 3, of a root list of so many bytes: the tests depend on its length alone.
-pub fn root_list(base: Address, t: usize, pool: &[u8], table: &[u8], bytes: usize) -> u32
-    ensures { (roots : List ℕ) → length roots ≡ bytes → result ≡ refusal_by t pool.now table.now (λ (h : Heap). root_tests base.0 h roots) }
+pub fn root_list(
+    base: Address,
+    t: usize,
+    pool: &[u8],
+    table: &[u8],
+    bytes: usize,
+) -> Result<(), Refusal>
+    ensures { (roots : List ℕ) → length roots ≡ bytes → refused_by result ≡ refusal_by t pool.now table.now (λ (h : Heap). root_tests base.0 h roots) }
 {
     if bytes % 4 != 0 {
-        return refusals::BAD_SHAPE;
+        return Err(Refusal::BadShape);
     }
-    let r = heap(base, t, pool, table);
-    if r != 0 {
-        return r;
-    }
+    heap(base, t, pool, table)?;
     if refusals::MAX_ROOTS < bytes / 4 {
-        return refusals::TOO_MANY_ROOTS;
+        return Err(Refusal::TooManyRoots);
     }
-    0
+    Ok(())
 }
 
 // Refusals 1 to 4, of a collection with so many bytes of roots.
@@ -145,19 +151,16 @@ pub fn collection(
     table: &[u8],
     bytes: usize,
     stack: &[u8],
-) -> u32
+) -> Result<(), Refusal>
     ensures { (roots : List ℕ) → length roots ≡ bytes
-        → result ≡ refusal_by t pool.now table.now (λ (h : Heap). collection_tests base.0 h roots stack.now) }
+        → refused_by result ≡ refusal_by t pool.now table.now (λ (h : Heap). collection_tests base.0 h roots stack.now) }
 {
     if stack.len() % 4 != 0 {
-        return refusals::BAD_SHAPE;
+        return Err(Refusal::BadShape);
     }
-    let r = root_list(base, t, pool, table, bytes);
-    if r != 0 {
-        return r;
-    }
+    root_list(base, t, pool, table, bytes)?;
     if refusals::MAX_STACK_ENTRIES < stack.len() / 4 {
-        return refusals::STACK_TOO_LONG;
+        return Err(Refusal::StackTooLong);
     }
-    0
+    Ok(())
 }

@@ -12,6 +12,7 @@ use Rattle.laws.proofs.Refusals.{first_yes, first_last, both_false, both_true}
 use Rattle.laws.proofs.Memory.{refused_first_in, refused_next_in}
 use Rattle.checks.specs.Refusal.{refusal_by}
 use Rattle.checks.proofs.FirstTests.{torn}
+use Rattle.refusals.proofs.Codes.{not_accepted, passed_on}
 use Rattle.checks.proofs.collection.Goals as goal
 
 module _ (base t : ℕ) (pool table roots stack : List ℕ) where
@@ -49,14 +50,11 @@ module _ (base t : ℕ) (pool table roots stack : List ℕ) where
 pub returns-then-stack-ne0 : goal.returns-then-stack-ne0
 returns-then-stack-ne0 c = λ roots e. torn_stack _ _ _ _ roots _ c.if-stack-ne0.true
 
-pub root_list-r-requires : goal.root_list-r-requires
-root_list-r-requires c = tt
-
-pub returns-then-r-ne0 : goal.returns-then-r-ne0
-returns-then-r-ne0 c = λ roots e. refused _ _ _ _ roots _ c.if-stack-ne0.false (c.root_list-r.ensures roots e) c.if-r-ne0.true
+pub returns-in_err-root_list : goal.returns-in_err-root_list
+returns-in_err-root_list c = λ roots e. passed_on _ _ c.from_residual.ensures.1 ∙ refused _ _ _ _ roots _ c.if-stack-ne0.false (c.in_err-root_list.ensures roots e) (not_accepted _)
 
 pub returns-then-stack-gt-MAX_STACK_ENTRIES : goal.returns-then-stack-gt-MAX_STACK_ENTRIES
-returns-then-stack-gt-MAX_STACK_ENTRIES c = λ roots e. long _ _ _ _ roots _ c.if-stack-ne0.false (c.root_list-r.ensures roots e) c.if-r-ne0.false c.if-stack-gt-MAX_STACK_ENTRIES.true
+returns-then-stack-gt-MAX_STACK_ENTRIES c = λ roots e. long _ _ _ _ roots _ c.if-stack-ne0.false (c.in_ok-root_list.ensures roots e) refl c.if-stack-gt-MAX_STACK_ENTRIES.true
 
 pub returns : goal.returns
-returns c = λ roots e. none _ _ _ _ roots _ c.if-stack-ne0.false (c.root_list-r.ensures roots e) c.if-r-ne0.false c.if-stack-gt-MAX_STACK_ENTRIES.false
+returns c = λ roots e. none _ _ _ _ roots _ c.if-stack-ne0.false (c.in_ok-root_list.ensures roots e) refl c.if-stack-gt-MAX_STACK_ENTRIES.false

@@ -1,24 +1,22 @@
 -- `checks::object` meets its contract. Assumes nothing.
 use mathlib.Core.List.{[]}
-use mathlib.Core.Path.{refl}
+use mathlib.Core.Path.{refl, ◌∙◌}
 use Rattle.rules.specs.Memory.{memory}
 use Rattle.rules.specs.Planes.{planes}
 use Rattle.laws.proofs.Memory.{refused_first_in, refused_next_in}
 use Rattle.checks.proofs.FirstTests.{is_table_of}
+use Rattle.refusals.proofs.Codes.{not_accepted, passed_on}
 use Rattle.checks.proofs.object.Goals as goal
 
-pub heap-r-requires : goal.heap-r-requires
-heap-r-requires c = tt
-
-pub returns-then-r-ne0 : goal.returns-then-r-ne0
-returns-then-r-ne0 c =
+pub returns-in_err-heap : goal.returns-in_err-heap
+returns-in_err-heap c =
     let a = c.args in
-    refused_first_in (planes a.t) (memory [] a.table.now) _ _ refl refl c.heap-r.ensures c.if-r-ne0.true
+    passed_on _ _ c.from_residual.ensures.1 ∙ refused_first_in (planes a.t) (memory [] a.table.now) _ _ refl refl c.in_err-heap.ensures (not_accepted _)
 
 pub named-requires : goal.named-requires
-named-requires c = (is_table_of _ _ _ _ _ c.heap-r.ensures c.if-r-ne0.false).0
+named-requires c = (is_table_of _ _ _ _ _ c.in_ok-heap.ensures refl).0
 
 pub returns : goal.returns
 returns c =
     let a = c.args in
-    refused_next_in (planes a.t) (memory [] a.table.now) _ _ refl c.heap-r.ensures c.if-r-ne0.false c.named.ensures
+    refused_next_in (planes a.t) (memory [] a.table.now) _ _ refl c.in_ok-heap.ensures refl c.named.ensures

@@ -11,6 +11,7 @@ use Rattle.rules.specs.Planes.{heap_at}
 use Rattle.laws.proofs.Planes.{few_entries}
 use Rattle.laws.proofs.Refusals.{first_yes, first_last, first_more, refused_first, named}
 use Rattle.laws.proofs.Widths.{in_32_bits}
+use Rattle.refusals.proofs.Codes.{not_accepted, passed_on}
 use Rattle.checks.proofs.object_word.Goals as goal
 
 -- what the last test says, of an object of b blocks
@@ -21,16 +22,16 @@ module _ (h : Heap) (k i : ℕ) {r b : ℕ} (test : r ≡ first_of (name_tests h
   within : i < 4 * b → 0 ≡ first_of (name_tests h k ++ no_word h k i ∷ [])
   within l = sym (first_more (name_tests h k) _ refl (sym test ∙ ok) ∙ first_last _ (lt-leb _ _ (rw count at l)))
 
-pub named-r-requires : goal.named-r-requires
-named-r-requires c = c.requires
+pub named-requires : goal.named-requires
+named-requires c = c.requires
 
-pub returns-then-r-ne0 : goal.returns-then-r-ne0
-returns-then-r-ne0 c = refused_first _ _ c.named-r.ensures c.if-r-ne0.true
+pub returns-in_err-named : goal.returns-in_err-named
+returns-in_err-named c = passed_on _ _ c.from_residual.ensures.1 ∙ refused_first _ _ c.in_err-named.ensures (not_accepted _)
 
 pub block_count-requires : goal.block_count-requires
 block_count-requires c =
     let a = c.args in
-    (c.requires, (named (heap_at a.t [] a.table.now) a.k.0 [] (sym c.named-r.ensures ∙ c.if-r-ne0.false)).inside)
+    (c.requires, (named (heap_at a.t [] a.table.now) a.k.0 [] (sym c.in_ok-named.ensures ∙ refl)).inside)
 
 pub overflow_mul-block_count : goal.overflow_mul-block_count
 overflow_mul-block_count c =
@@ -39,7 +40,7 @@ overflow_mul-block_count c =
     in_32_bits (omega arith)
 
 pub returns-then-block_count-i : goal.returns-then-block_count-i
-returns-then-block_count-i c = past (heap_at _ [] _) _ _ c.named-r.ensures c.if-r-ne0.false c.block_count.ensures.0 c.if-block_count-i.true
+returns-then-block_count-i c = past (heap_at _ [] _) _ _ c.in_ok-named.ensures refl c.block_count.ensures.0 c.if-block_count-i.true
 
 pub returns : goal.returns
-returns c = within (heap_at _ [] _) _ _ c.named-r.ensures c.if-r-ne0.false c.block_count.ensures.0 c.if-block_count-i.false
+returns c = within (heap_at _ [] _) _ _ c.in_ok-named.ensures refl c.block_count.ensures.0 c.if-block_count-i.false

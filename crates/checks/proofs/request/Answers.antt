@@ -5,22 +5,20 @@ use Rattle.laws.proofs.Refusals.{first_yes, first_last}
 use Rattle.rules.specs.Memory.{memory}
 use Rattle.rules.specs.Planes.{planes}
 use Rattle.laws.proofs.Memory.{refused_first_in, refused_next_in}
+use Rattle.refusals.proofs.Codes.{not_accepted, passed_on}
 use Rattle.checks.proofs.request.Goals as goal
 
-pub heap-r-requires : goal.heap-r-requires
-heap-r-requires c = tt
-
-pub returns-then-r-ne0 : goal.returns-then-r-ne0
-returns-then-r-ne0 c =
+pub returns-in_err-heap : goal.returns-in_err-heap
+returns-in_err-heap c =
     let a = c.args in
-    refused_first_in (planes a.t) (memory [] a.table.now) _ _ refl refl c.heap-r.ensures c.if-r-ne0.true
+    passed_on _ _ c.from_residual.ensures.1 ∙ refused_first_in (planes a.t) (memory [] a.table.now) _ _ refl refl c.in_err-heap.ensures (not_accepted _)
 
 pub returns-then-is_zero : goal.returns-then-is_zero
 returns-then-is_zero c =
     let a = c.args in
-    refused_next_in (planes a.t) (memory [] a.table.now) _ _ refl c.heap-r.ensures c.if-r-ne0.false (sym (first_yes _ _ (sym c.is_zero.ensures ∙ c.if-is_zero.true)))
+    refused_next_in (planes a.t) (memory [] a.table.now) _ _ refl c.in_ok-heap.ensures refl (sym (first_yes _ _ (sym c.is_zero.ensures ∙ c.if-is_zero.true)))
 
 pub returns : goal.returns
 returns c =
     let a = c.args in
-    refused_next_in (planes a.t) (memory [] a.table.now) _ _ refl c.heap-r.ensures c.if-r-ne0.false (sym (first_last _ (sym c.is_zero.ensures ∙ c.if-is_zero.false)))
+    refused_next_in (planes a.t) (memory [] a.table.now) _ _ refl c.in_ok-heap.ensures refl (sym (first_last _ (sym c.is_zero.ensures ∙ c.if-is_zero.false)))

@@ -12,6 +12,7 @@ use Rattle.laws.proofs.Refusals.{first_yes, first_last, both_false, both_true}
 use Rattle.laws.proofs.Memory.{refused_first_in, refused_next_in}
 use Rattle.checks.specs.Refusal.{refusal_by}
 use Rattle.checks.proofs.FirstTests.{torn}
+use Rattle.refusals.proofs.Codes.{not_accepted, passed_on}
 use Rattle.checks.proofs.root_list.Goals as goal
 
 module _ (base t : ℕ) (pool table roots : List ℕ) {n : ℕ} (long : length roots ≡ n) where
@@ -49,14 +50,11 @@ module _ (base t : ℕ) (pool table roots : List ℕ) {n : ℕ} (long : length r
 pub returns-then-bytes-ne0 : goal.returns-then-bytes-ne0
 returns-then-bytes-ne0 c = λ roots long. torn_roots _ _ _ _ roots long c.if-bytes-ne0.true
 
-pub heap-r-requires : goal.heap-r-requires
-heap-r-requires c = tt
-
-pub returns-then-r-ne0 : goal.returns-then-r-ne0
-returns-then-r-ne0 c = λ roots long. refused _ _ _ _ roots long c.if-bytes-ne0.false c.heap-r.ensures c.if-r-ne0.true
+pub returns-in_err-heap : goal.returns-in_err-heap
+returns-in_err-heap c = λ roots long. passed_on _ _ c.from_residual.ensures.1 ∙ refused _ _ _ _ roots long c.if-bytes-ne0.false c.in_err-heap.ensures (not_accepted _)
 
 pub returns-then-bytes-gt-MAX_ROOTS : goal.returns-then-bytes-gt-MAX_ROOTS
-returns-then-bytes-gt-MAX_ROOTS c = λ roots long. many _ _ _ _ roots long c.if-bytes-ne0.false c.heap-r.ensures c.if-r-ne0.false c.if-bytes-gt-MAX_ROOTS.true
+returns-then-bytes-gt-MAX_ROOTS c = λ roots long. many _ _ _ _ roots long c.if-bytes-ne0.false c.in_ok-heap.ensures refl c.if-bytes-gt-MAX_ROOTS.true
 
 pub returns : goal.returns
-returns c = λ roots long. none _ _ _ _ roots long c.if-bytes-ne0.false c.heap-r.ensures c.if-r-ne0.false c.if-bytes-gt-MAX_ROOTS.false
+returns c = λ roots long. none _ _ _ _ roots long c.if-bytes-ne0.false c.in_ok-heap.ensures refl c.if-bytes-gt-MAX_ROOTS.false
