@@ -35,6 +35,10 @@ module _ (base t : ℕ) (pool table : List ℕ) where
       go true = refl
       go false = refl
 
+-- that many blocks, once there are as many as entries
+counted : (t : ℕ) (table : List ℕ) {n : ℕ} → n ≡ length (entries_in t table) → n ≡ 4 * t
+counted t table e = e ∙ length_entries_in t table
+
 pub returns-then-t-lt1 : goal.returns-then-t-lt1
 returns-then-t-lt1 c = shapeless _ _ _ _ (λ s. omega (arith, s.some, length_entries_in c.args.t c.args.table.now))
 
@@ -45,26 +49,21 @@ pub returns-then-not-fits : goal.returns-then-not-fits
 returns-then-not-fits c = other_length _ _ _ _ (sym c.fits.ensures ∙ c.if-not-fits.true)
 
 pub of_blocks-requires : goal.of_blocks-requires
-of_blocks-requires c =
-    let blocks_are : let a = c.args in (c.blocks-n.result ≡ 4 * a.t) × (c.blocks-n.result ≡ length (entries_in a.t a.table.now)) = let a = c.args in let e = c.blocks-n.ensures a.table.now in (e ∙ length_entries_in a.t a.table.now, e) in
-    omega (arith, blocks_are.0)
+of_blocks-requires c = omega (arith, counted _ _ (c.blocks-n.ensures c.args.table.now))
 
 pub returns-then-not-is_length_of : goal.returns-then-not-is_length_of
 returns-then-not-is_length_of c =
-    let blocks_are : let a = c.args in (c.blocks-n.result ≡ 4 * a.t) × (c.blocks-n.result ≡ length (entries_in a.t a.table.now)) = let a = c.args in let e = c.blocks-n.ensures a.table.now in (e ∙ length_entries_in a.t a.table.now, e) in
     let a = c.args in
     let other = eqb-false (length a.pool.now) c.of_blocks.result.0 (sym c.is_length_of.ensures ∙ c.if-not-is_length_of.true) in
-    shapeless _ _ _ _ (λ s. other (omega (arith, s.pool, blocks_are.1)))
+    shapeless _ _ _ _ (λ s. other (omega (arith, s.pool, c.blocks-n.ensures a.table.now)))
 
 pub is_base-requires : goal.is_base-requires
-is_base-requires c =
-    let blocks_are : let a = c.args in (c.blocks-n.result ≡ 4 * a.t) × (c.blocks-n.result ≡ length (entries_in a.t a.table.now)) = let a = c.args in let e = c.blocks-n.ensures a.table.now in (e ∙ length_entries_in a.t a.table.now, e) in
-    omega (arith, blocks_are.0)
+is_base-requires c = omega (arith, counted _ _ (c.blocks-n.ensures c.args.table.now))
 
 pub returns : goal.returns
 returns c =
-    let blocks_are : let a = c.args in (c.blocks-n.result ≡ 4 * a.t) × (c.blocks-n.result ≡ length (entries_in a.t a.table.now)) = let a = c.args in let e = c.blocks-n.ensures a.table.now in (e ∙ length_entries_in a.t a.table.now, e) in
-    let n = blocks_are in
+    let n = c.blocks-n.ensures c.args.table.now in
+    let few = counted _ _ n in
     let long = eqb-true _ _ (sym c.is_length_of.ensures ∙ c.if-not-is_length_of.false) in
     c.is_base.ensures
-    ∙ by_base _ _ _ _ _ (omega (arith, n.0)) (omega (arith, n.0)) n.1 (long ∙ c.of_blocks.ensures) (sym c.fits.ensures ∙ c.if-not-fits.false)
+    ∙ by_base _ _ _ _ _ (omega (arith, few)) (omega (arith, few)) n (long ∙ c.of_blocks.ensures) (sym c.fits.ensures ∙ c.if-not-fits.false)
