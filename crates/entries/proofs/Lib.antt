@@ -1,3 +1,4 @@
+pub mod Numbers
 pub mod Holding
 pub mod Masks
 pub mod Cut

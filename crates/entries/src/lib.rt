@@ -10,18 +10,20 @@ ghost use Rattle.rules.specs.Entries.{HEAD as head, MARK as mark};
 ghost use Rattle.rules.specs.Tables.{entry_at, is_head, is_tail, well_formed, block_count};
 ghost use Rattle.rules.specs.Planes.{plane_bytes, entries_in, Sized, IsTable, Holds};
 ghost use Rattle.memory.specs.Bits.{BitsFrom};
+ghost use Rattle.entries.specs.Numbers.{number_of};
 ghost use Rattle.entries.specs.Groups.{Span, InGroup, InWords};
 ghost use Rattle.entries.specs.Marking.{MarksHead};
 
 use numbers::Block;
 
-pub const FREE: u8 = 0;
-
-pub const HEAD: u8 = 1;
-
-pub const TAIL: u8 = 2;
-
-pub const MARK: u8 = 3;
+// What a block is: FREE, the HEAD of an object, a TAIL of one, or a HEAD that is marked.
+#[derive(Clone, Copy, PartialEq, Eq)]
+pub enum Entry {
+    Free,
+    Head,
+    Tail,
+    Mark,
+}
 
 // How many blocks the table rules.
 pub fn blocks(t: usize) -> usize
@@ -52,54 +54,61 @@ fn bit(b: u8, j: usize) -> u8
     requires { j < 8 }
     ensures { result ≡ bit_of b j }
 {
-    ((b as u32 >> j) & 1) as u8
+    ((u32::from(b) >> j) & 1) as u8
 }
 
 // The entry of block k.
-pub fn entry(t: usize, table: &[u8], k: Block) -> u8
+pub fn entry_at(t: usize, table: &[u8], k: Block) -> Entry
     requires { IsTable t table.now × (k.0 < length (entries_in t table.now)) }
-    ensures { result ≡ entry_at (entries_in t table.now) k.0 }
+    ensures { number_of result ≡ entry_at (entries_in t table.now) k.0 }
 {
     let i = k.index();
     let high = plane_bytes(t) + i / 8;
-    bit(table[i / 8], i % 8) + 2 * bit(table[high], i % 8)
+    match (bit(table[i / 8], i % 8), bit(table[high], i % 8)) {
+        (0, 0) => Entry::Free,
+        (_, 0) => Entry::Head,
+        (0, _) => Entry::Tail,
+        _ => Entry::Mark,
+    }
 }
 
-// Whether block k is HEAD: its low bit is set and its high bit is not.
+// Whether block k has the entry e. Where the low bit says that it has not, the high one is not read.
+fn is(t: usize, table: &[u8], k: Block, e: Entry) -> bool
+    requires { IsTable t table.now × (k.0 < length (entries_in t table.now)) }
+    ensures { result ≡ eqb (entry_at (entries_in t table.now) k.0) (number_of e) }
+{
+    let i = k.index();
+    if bit(table[i / 8], i % 8) != e as u8 % 2 {
+        return false;
+    }
+    let high = plane_bytes(t) + i / 8;
+    bit(table[high], i % 8) == e as u8 / 2
+}
+
+// Whether block k is HEAD.
 pub fn is_head(t: usize, table: &[u8], k: Block) -> bool
     requires { IsTable t table.now × (k.0 < length (entries_in t table.now)) }
     ensures { result ≡ is_head (entry_at (entries_in t table.now) k.0) }
 {
-    let i = k.index();
-    if bit(table[i / 8], i % 8) == 0 {
-        return false;
-    }
-    let high = plane_bytes(t) + i / 8;
-    bit(table[high], i % 8) == 0
+    is(t, table, k, Entry::Head)
 }
 
-// Whether block k is TAIL: its high bit is set and its low bit is not.
+// Whether block k is TAIL.
 pub fn is_tail(t: usize, table: &[u8], k: Block) -> bool
     requires { IsTable t table.now × (k.0 < length (entries_in t table.now)) }
     ensures { result ≡ is_tail (entry_at (entries_in t table.now) k.0) }
 {
-    let i = k.index();
-    if bit(table[i / 8], i % 8) != 0 {
-        return false;
-    }
-    let high = plane_bytes(t) + i / 8;
-    bit(table[high], i % 8) != 0
+    is(t, table, k, Entry::Tail)
 }
 
 // Bit i of a plane. Past its end it is 0.
 fn plane_bit(plane: &[u8], i: usize) -> u8
     ensures { result ≡ bit_at plane.now i }
 {
-    let at = i / 8;
-    if at < plane.len() {
-        return bit(plane[at], i % 8);
+    match plane.get(i / 8) {
+        Some(byte) => bit(*byte, i % 8),
+        None => 0,
     }
-    0
 }
 
 // Whether block k is the head of an object of two blocks. There is no MARK: so a low bit is a HEAD's, and a high bit a TAIL's.
@@ -135,11 +144,7 @@ fn bits_from(i: usize, from: usize) -> u8
     requires { (i < 512) × (from < 8 * i + 8) }
     ensures { (j : ℕ) → j < 8 → bit_of result j ≡ pick (leb from (8 * i + j)) 1 0 }
 {
-    let first = 8 * i;
-    if first < from {
-        return 255 << (from - first);
-    }
-    255
+    255 << from.saturating_sub(8 * i)
 }
 
 // The bits of byte i of a plane that are of the blocks before `to`.
@@ -147,11 +152,7 @@ fn bits_to(i: usize, to: usize) -> u8
     requires { (i < 512) × (8 * i < to) }
     ensures { (j : ℕ) → j < 8 → bit_of result j ≡ pick (ltb (8 * i + j) to) 1 0 }
 {
-    let end = 8 * i + 8;
-    if to < end {
-        return 255 >> (end - to);
-    }
-    255
+    255 >> (8 * i + 8).saturating_sub(to)
 }
 
 // The bits of byte i of a plane that are of the blocks from `from` to before `to`.
@@ -171,19 +172,17 @@ fn with_bits(b: u8, bits: u8, to: u8) -> u8
 }
 
 // e becomes the entry of each of the count blocks from `from` on, a byte of both planes at a time.
-pub fn set_run(t: usize, table: &mut [u8], from: Block, count: usize, e: u8)
-    requires { IsTable t table.old × ((from.0 + count ≤ length (entries_in t table.old)) × (e < 4)) }
-    ensures { Holds t (sets (entries_in t table.old) from.0 (replicate count e)) table.new }
+pub fn set_run(t: usize, table: &mut [u8], from: Block, count: usize, e: Entry)
+    requires { IsTable t table.old × (from.0 + count ≤ length (entries_in t table.old)) }
+    ensures { Holds t (sets (entries_in t table.old) from.0 (replicate count (number_of e))) table.new }
 {
     let first = from.index();
     let end = first + count;
     let half = plane_bytes(t);
-    let mut i = first / 8;
-    while 8 * i < end {
+    for i in first / 8..end.div_ceil(8) {
         let bits = span(i, first, end);
-        table[i] = with_bits(table[i], bits, e % 2);
-        table[half + i] = with_bits(table[half + i], bits, e / 2);
-        i += 1;
+        table[i] = with_bits(table[i], bits, e as u8 % 2);
+        table[half + i] = with_bits(table[half + i], bits, e as u8 / 2);
     }
 }
 
@@ -277,8 +276,8 @@ pub fn mark_head(t: usize, table: &mut [u8], k: Block) -> Met
         return Met::Other;
     }
     let one: u32 = 1 << (i % 8);
-    let high = table[up] as u32;
-    if (table[i / 8] as u32 ^ high) & one == 0 {
+    let high = u32::from(table[up]);
+    if (u32::from(table[i / 8]) ^ high) & one == 0 {
         return Met::Other;
     }
     if high & one != 0 {

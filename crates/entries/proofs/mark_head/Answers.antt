@@ -15,38 +15,33 @@ pub returns-then-table-up : goal.returns-then-table-up
 returns-then-table-up c =
     met_outside c.args.t c.args.table.now c.args.k.0 c.requires.0 (omega (arith, c.if-table-up.true, c.plane_bytes.ensures, c.index-i.ensures, c.requires.0.sized.long))
 
-pub overflow_cast-high : goal.overflow_cast-high
-overflow_cast-high c = record { fits = omega (arith, (c.slice_known-2-1.given (c.plane_bytes.result + c.index-i.result / 8)).fits) }
-
-pub overflow_cast-table : goal.overflow_cast-table
-overflow_cast-table c = record { fits = omega (arith, (c.slice_known-3-1.given (c.index-i.result / 8)).fits) }
-
-pub returns-then-table-i-eq0 : goal.returns-then-table-i-eq0
-returns-then-table-i-eq0 c =
+pub returns-then-from-high-eq0 : goal.returns-then-from-high-eq0
+returns-then-from-high-eq0 c =
     let half : ℕ = c.plane_bytes.result in
     let i : ℕ = c.index-i.result in
     met_other c.args.t c.args.table.now c.args.k.0 c.requires.0 i half c.index-i.ensures c.plane_bytes.ensures c.if-table-up.false
-    (c.slice_known-3-1.given (i / 8)).fits (c.slice_known-3-1.given (half + i / 8)).fits c.if-table-i-eq0.true
+    (c.slice_known-3-1.given (i / 8)).fits (c.slice_known-3-1.given (half + i / 8)).fits (rw (c.from.ensures, c.from-high.ensures) at c.if-from-high-eq0.true)
 
 pub returns-then-high-one-ne0 : goal.returns-then-high-one-ne0
 returns-then-high-one-ne0 c =
     let half : ℕ = c.plane_bytes.result in
     let i : ℕ = c.index-i.result in
     met_tail c.args.t c.args.table.now c.args.k.0 c.requires.0 i half c.index-i.ensures c.plane_bytes.ensures c.if-table-up.false
-    (c.slice_known-3-1.given (i / 8)).fits (c.slice_known-3-1.given (half + i / 8)).fits c.if-table-i-eq0.false c.if-high-one-ne0.true
+    (c.slice_known-3-1.given (i / 8)).fits (c.slice_known-3-1.given (half + i / 8)).fits (rw (c.from.ensures, c.from-high.ensures) at c.if-from-high-eq0.false) (rw c.from-high.ensures at c.if-high-one-ne0.true)
 
-pub overflow_cast-table-2 : goal.overflow_cast-table-2
-overflow_cast-table-2 c =
+pub overflow_cast-table : goal.overflow_cast-table
+overflow_cast-table c =
     let half : ℕ = c.plane_bytes.result in
     let i : ℕ = c.index-i.result in
     record {
-      fits = byte_stored c.args.t c.args.table.now c.args.k.0 c.requires.0 i half c.index-i.ensures c.plane_bytes.ensures c.if-table-up.false
-          (c.slice_known-3-1.given (i / 8)).fits (c.slice_known-3-1.given (half + i / 8)).fits;
+      fits = rw c.from-high.ensures (byte_stored c.args.t c.args.table.now c.args.k.0 c.requires.0 i half c.index-i.ensures c.plane_bytes.ensures c.if-table-up.false
+          (c.slice_known-3-1.given (i / 8)).fits (c.slice_known-3-1.given (half + i / 8)).fits);
     }
 
 pub returns : goal.returns
 returns c =
     let half : ℕ = c.plane_bytes.result in
     let i : ℕ = c.index-i.result in
-    met_head c.args.t c.args.table.now c.args.k.0 c.requires.0 i half c.index-i.ensures c.plane_bytes.ensures c.if-table-up.false
-    (c.slice_known-3-1.given (i / 8)).fits (c.slice_known-3-1.given (half + i / 8)).fits c.if-table-i-eq0.false c.if-high-one-ne0.false
+    rw c.from-high.ensures
+    (met_head c.args.t c.args.table.now c.args.k.0 c.requires.0 i half c.index-i.ensures c.plane_bytes.ensures c.if-table-up.false
+    (c.slice_known-3-1.given (i / 8)).fits (c.slice_known-3-1.given (half + i / 8)).fits (rw (c.from.ensures, c.from-high.ensures) at c.if-from-high-eq0.false) (rw c.from-high.ensures at c.if-high-one-ne0.false))

@@ -19,6 +19,8 @@ use Rattle.laws.proofs.Lists.{sets_in, sets_out}
 use Rattle.laws.proofs.Planes.{length_entries_in, room_entries, entry_clean, holds_of}
 use Rattle.laws.proofs.Widths.{in_32_bits}
 use Rattle.entries.specs.Groups.{Span}
+use Rattle.entries.specs.Numbers.{number_of}
+use Rattle.entries.proofs.Numbers.{tag_is}
 use Rattle.entries.proofs.Holding.{entry_byte, both_stored, both_kept}
 use Rattle.entries.proofs.set_run.Invariants.{Filled}
 use Rattle.entries.proofs.set_run.Goals as goal
@@ -110,148 +112,76 @@ all_filled t start first count e table is room filled =
         ∙ get_or-replicate count (k - first) e FREE (omega (arith, n, l)) in
         filled.new k (omega (arith, n)) l h ∙ sym (rw p at at)
 
+-- ---- where the bytes of the run lie
+
+-- in the planes, which are short
+record Room (end half : ℕ) (table : List ℕ) : Type 0 where
+  ends : end ≤ 8 * half
+  short : half ≤ 512
+  long : length table ≡ 2 * half
+
+room : (t : ℕ) (start table : List ℕ) (from first count half : ℕ) → IsTable t start → from + count ≤ length (entries_in t start) → first ≡ from → half ≡ plane_bytes t
+    → length table ≡ length start → Room (first + count) half table
+room t start table from first count half is inside is_first is_half long = record {
+  ends = omega (arith, inside, is_first, is_half, length_entries_in t start, (room_entries t).0);
+  short = omega (arith, is_half, is.sized.few, (room_entries t).1);
+  long = omega (arith, long, is.sized.long, is_half);
+}
+
 pub overflow_add-end : goal.overflow_add-end
 overflow_add-end c =
-    in_32_bits (record { fits = omega (arith, c.index-first.ensures, c.requires.0.sized.few, c.requires.1.0, length_entries_in c.args.t c.args.table.now) })
-
-pub plane_bytes-half-requires : goal.plane_bytes-half-requires
-plane_bytes-half-requires c = c.requires.0.sized.few
+    let r = room _ _ _ _ _ _ _ c.requires.0 c.requires.1 c.index-first.ensures refl refl in
+    in_32_bits (record { fits = omega arith })
 
 pub loop-i-init : goal.loop-i-init
-loop-i-init c = (omega arith, (omega arith, none_filled _ _ _ _ _))
-
-pub overflow_mul-i : goal.overflow_mul-i
-overflow_mul-i c =
-    let knows : (c.index-first.result + c.args.count ≤ 8 * c.plane_bytes-half.result)
-    × ((c.plane_bytes-half.result ≤ 512) × (length c.loop-i.table ≡ 2 * c.plane_bytes-half.result)) =
-    let t = c.args.t in
-    let half = c.plane_bytes-half.ensures in (
-      omega (arith, half, c.index-first.ensures, c.requires.1.0, length_entries_in t c.args.table.now, (room_entries t).0),
-      (omega (arith, half, c.requires.0.sized.few, (room_entries t).1), omega (arith, half, c.loop-i.invariant.1.1.long, c.requires.0.sized.long)),
-    ) in
-    in_32_bits (record { fits = omega (arith, knows.0, knows.1.0, c.loop-i.invariant.1.0) })
-
-pub span-bits-requires : goal.span-bits-requires
-span-bits-requires c =
-    let knows : (c.index-first.result + c.args.count ≤ 8 * c.plane_bytes-half.result)
-    × ((c.plane_bytes-half.result ≤ 512) × (length c.loop-i.table ≡ 2 * c.plane_bytes-half.result)) =
-    let t = c.args.t in
-    let half = c.plane_bytes-half.ensures in (
-      omega (arith, half, c.index-first.ensures, c.requires.1.0, length_entries_in t c.args.table.now, (room_entries t).0),
-      (omega (arith, half, c.requires.0.sized.few, (room_entries t).1), omega (arith, half, c.loop-i.invariant.1.1.long, c.requires.0.sized.long)),
-    ) in
-    let k = knows in
-    (omega (arith, k.0, k.1.0), (c.loop-i.invariant.0, omega arith))
+loop-i-init c = none_filled _ _ _ _ _
 
 pub bounds-table-i : goal.bounds-table-i
 bounds-table-i c =
-    let knows : (c.index-first.result + c.args.count ≤ 8 * c.plane_bytes-half.result)
-    × ((c.plane_bytes-half.result ≤ 512) × (length c.loop-i.table ≡ 2 * c.plane_bytes-half.result)) =
-    let t = c.args.t in
-    let half = c.plane_bytes-half.ensures in (
-      omega (arith, half, c.index-first.ensures, c.requires.1.0, length_entries_in t c.args.table.now, (room_entries t).0),
-      (omega (arith, half, c.requires.0.sized.few, (room_entries t).1), omega (arith, half, c.loop-i.invariant.1.1.long, c.requires.0.sized.long)),
-    ) in
-    let k = knows in omega (arith, k.0, k.1.1)
-
-pub with_bits-requires : goal.with_bits-requires
-with_bits-requires c = omega arith
-
-pub bounds-table-i-in-loop-i : goal.bounds-table-i-in-loop-i
-bounds-table-i-in-loop-i c =
-    let knows : (c.index-first.result + c.args.count ≤ 8 * c.plane_bytes-half.result)
-    × ((c.plane_bytes-half.result ≤ 512) × (length c.loop-i.table ≡ 2 * c.plane_bytes-half.result)) =
-    let t = c.args.t in
-    let half = c.plane_bytes-half.ensures in (
-      omega (arith, half, c.index-first.ensures, c.requires.1.0, length_entries_in t c.args.table.now, (room_entries t).0),
-      (omega (arith, half, c.requires.0.sized.few, (room_entries t).1), omega (arith, half, c.loop-i.invariant.1.1.long, c.requires.0.sized.long)),
-    ) in
-    let k = knows in omega (arith, k.0, k.1.1)
+    let r = room _ _ _ _ _ _ _ c.requires.0 c.requires.1 c.index-first.ensures c.plane_bytes-half.ensures c.loop-i.invariant.long in
+    omega arith
 
 pub overflow_add-half : goal.overflow_add-half
 overflow_add-half c =
-    let knows : (c.index-first.result + c.args.count ≤ 8 * c.plane_bytes-half.result)
-    × ((c.plane_bytes-half.result ≤ 512) × (length c.loop-i.table ≡ 2 * c.plane_bytes-half.result)) =
-    let t = c.args.t in
-    let half = c.plane_bytes-half.ensures in (
-      omega (arith, half, c.index-first.ensures, c.requires.1.0, length_entries_in t c.args.table.now, (room_entries t).0),
-      (omega (arith, half, c.requires.0.sized.few, (room_entries t).1), omega (arith, half, c.loop-i.invariant.1.1.long, c.requires.0.sized.long)),
-    ) in
-    let k = knows in in_32_bits (record { fits = omega (arith, k.0, k.1.0) })
-
-pub bounds-table-half : goal.bounds-table-half
-bounds-table-half c =
-    let knows : (c.index-first.result + c.args.count ≤ 8 * c.plane_bytes-half.result)
-    × ((c.plane_bytes-half.result ≤ 512) × (length c.loop-i.table ≡ 2 * c.plane_bytes-half.result)) =
-    let t = c.args.t in
-    let half = c.plane_bytes-half.ensures in (
-      omega (arith, half, c.index-first.ensures, c.requires.1.0, length_entries_in t c.args.table.now, (room_entries t).0),
-      (omega (arith, half, c.requires.0.sized.few, (room_entries t).1), omega (arith, half, c.loop-i.invariant.1.1.long, c.requires.0.sized.long)),
-    ) in
-    let k = knows in simp length-set (omega (arith, k.0, k.1.1))
-
-pub with_bits-requires-in-loop-i : goal.with_bits-requires-in-loop-i
-with_bits-requires-in-loop-i c = omega (arith, c.requires.1.1)
+    let r = room _ _ _ _ _ _ _ c.requires.0 c.requires.1 c.index-first.ensures c.plane_bytes-half.ensures c.loop-i.invariant.long in
+    in_32_bits (record { fits = omega arith })
 
 pub overflow_add-table : goal.overflow_add-table
 overflow_add-table c =
-    let knows : (c.index-first.result + c.args.count ≤ 8 * c.plane_bytes-half.result)
-    × ((c.plane_bytes-half.result ≤ 512) × (length c.loop-i.table ≡ 2 * c.plane_bytes-half.result)) =
-    let t = c.args.t in
-    let half = c.plane_bytes-half.ensures in (
-      omega (arith, half, c.index-first.ensures, c.requires.1.0, length_entries_in t c.args.table.now, (room_entries t).0),
-      (omega (arith, half, c.requires.0.sized.few, (room_entries t).1), omega (arith, half, c.loop-i.invariant.1.1.long, c.requires.0.sized.long)),
-    ) in
-    let k = knows in in_32_bits (record { fits = omega (arith, k.0, k.1.0) })
+    let r = room _ _ _ _ _ _ _ c.requires.0 c.requires.1 c.index-first.ensures c.plane_bytes-half.ensures c.loop-i.invariant.long in
+    in_32_bits (record { fits = omega arith })
+
+pub span-bits-requires : goal.span-bits-requires
+span-bits-requires c =
+    let r = room _ _ _ _ _ _ _ c.requires.0 c.requires.1 c.index-first.ensures c.plane_bytes-half.ensures c.loop-i.invariant.long in
+    (omega arith, (omega arith, omega (arith, c.div_ceil-i-end.ensures)))
+
+pub bounds-table-i-in-loop-i : goal.bounds-table-i-in-loop-i
+bounds-table-i-in-loop-i c =
+    let r = room _ _ _ _ _ _ _ c.requires.0 c.requires.1 c.index-first.ensures c.plane_bytes-half.ensures c.loop-i.invariant.long in
+    omega arith
+
+pub bounds-table-half : goal.bounds-table-half
+bounds-table-half c =
+    let r = room _ _ _ _ _ _ _ c.requires.0 c.requires.1 c.index-first.ensures c.plane_bytes-half.ensures c.loop-i.invariant.long in
+    simp length-set (omega arith)
 
 pub bounds-table-half-in-loop-i : goal.bounds-table-half-in-loop-i
 bounds-table-half-in-loop-i c =
-    let knows : (c.index-first.result + c.args.count ≤ 8 * c.plane_bytes-half.result)
-    × ((c.plane_bytes-half.result ≤ 512) × (length c.loop-i.table ≡ 2 * c.plane_bytes-half.result)) =
-    let t = c.args.t in
-    let half = c.plane_bytes-half.ensures in (
-      omega (arith, half, c.index-first.ensures, c.requires.1.0, length_entries_in t c.args.table.now, (room_entries t).0),
-      (omega (arith, half, c.requires.0.sized.few, (room_entries t).1), omega (arith, half, c.loop-i.invariant.1.1.long, c.requires.0.sized.long)),
-    ) in
-    let k = knows in simp length-set (omega (arith, k.0, k.1.1))
-
-pub overflow_add-i : goal.overflow_add-i
-overflow_add-i c =
-    let knows : (c.index-first.result + c.args.count ≤ 8 * c.plane_bytes-half.result)
-    × ((c.plane_bytes-half.result ≤ 512) × (length c.loop-i.table ≡ 2 * c.plane_bytes-half.result)) =
-    let t = c.args.t in
-    let half = c.plane_bytes-half.ensures in (
-      omega (arith, half, c.index-first.ensures, c.requires.1.0, length_entries_in t c.args.table.now, (room_entries t).0),
-      (omega (arith, half, c.requires.0.sized.few, (room_entries t).1), omega (arith, half, c.loop-i.invariant.1.1.long, c.requires.0.sized.long)),
-    ) in
-    let k = knows in in_32_bits (record { fits = omega (arith, k.0, k.1.0) })
-
-pub loop-i-smaller : goal.loop-i-smaller
-loop-i-smaller c = omega arith
+    let r = room _ _ _ _ _ _ _ c.requires.0 c.requires.1 c.index-first.ensures c.plane_bytes-half.ensures c.loop-i.invariant.long in
+    simp length-set (omega arith)
 
 pub loop-i-preserved : goal.loop-i-preserved
 loop-i-preserved c =
-    let knows : (c.index-first.result + c.args.count ≤ 8 * c.plane_bytes-half.result)
-    × ((c.plane_bytes-half.result ≤ 512) × (length c.loop-i.table ≡ 2 * c.plane_bytes-half.result)) =
-    let t = c.args.t in
-    let half = c.plane_bytes-half.ensures in (
-      omega (arith, half, c.index-first.ensures, c.requires.1.0, length_entries_in t c.args.table.now, (room_entries t).0),
-      (omega (arith, half, c.requires.0.sized.few, (room_entries t).1), omega (arith, half, c.loop-i.invariant.1.1.long, c.requires.0.sized.long)),
-    ) in
+    let r = room _ _ _ _ _ _ _ c.requires.0 c.requires.1 c.index-first.ensures c.plane_bytes-half.ensures c.loop-i.invariant.long in
     let half = c.plane_bytes-half.ensures in
-    let k = knows in (
-      omega (arith, c.loop-i.invariant.0),
-      (
-        omega arith,
-        rw half
-            (turn c.args.t c.args.table.now c.loop-i.table c.args.e c.index-first.result _ c.loop-i.i _ _ c.span-bits.result
-            c.requires.0.sized.long (omega (arith, half, k.0)) (omega arith) c.span-bits.ensures c.with_bits.ensures
-            (rw half at c.with_bits-in-loop-i.ensures) c.loop-i.invariant.1.1),
-      ),
-    )
+    rw half
+        (turn c.args.t c.args.table.now c.loop-i.table (number_of c.args.e) c.index-first.result _ c.loop-i.i _ _ c.span-bits.result
+        c.requires.0.sized.long (omega (arith, half, r.ends)) (omega arith) c.span-bits.ensures (rw (tag_is c.args.e) at c.with_bits.ensures)
+        (rw (half, tag_is c.args.e) at c.with_bits-in-loop-i.ensures) c.loop-i.invariant)
 
 pub returns : goal.returns
 returns c =
     let f = c.index-first in
-    let to : min (f.result + c.args.count) (8 * c.loop-i.i) ≡ f.result + c.args.count = omega arith in
-    all_filled c.args.t c.args.table.now c.args.from.0 c.args.count c.args.e _ c.requires.0 c.requires.1.0 (rw (to, f.ensures) at c.loop-i.invariant.1.1)
+    let to : min (f.result + c.args.count) (8 * c.loop-i.i) ≡ f.result + c.args.count = omega (arith, c.div_ceil-i-end.ensures) in
+    all_filled c.args.t c.args.table.now c.args.from.0 c.args.count (number_of c.args.e) _ c.requires.0 c.requires.1 (rw (to, f.ensures) at c.loop-i.invariant)
