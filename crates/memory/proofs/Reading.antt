@@ -15,6 +15,14 @@ use Rattle.laws.proofs.Bits.{bit_of_zero, bit_at_byte, joined_low, joined_high}
 use Rattle.memory.specs.Bits.{BitsFrom}
 use Rattle.memory.proofs.Parts.{part_at}
 
+-- the bits of a part are those of the bytes
+pub part_bit : (bytes : List ℕ) (a n k : ℕ) → k < 8 * n → bit_at (mid_of a n bytes) k ≡ bit_at bytes (8 * a + k)
+unfolding bit_at
+part_bit bytes a n k h =
+    let q : (8 * a + k) / 8 ≡ a + k / 8 = omega arith in
+    let r : (8 * a + k) % 8 ≡ k % 8 = omega arith in
+    rw (q, r, part_at bytes a n (a + k / 8) (k / 8) refl (omega arith))
+
 -- no bytes have no bits
 pub no_bytes : (bytes : List ℕ) (at : ℕ) → BitsFrom bytes at 0 0
 no_bytes bytes at j = rw (le-ltb j 0 (omega arith)) (bit_of_zero j)
@@ -53,15 +61,23 @@ past_bytes bytes at n past j = rw (bit_of_zero j, get_or-eq_default bytes 0 (at_
     go true = sym (bit_of_zero ((8 * at + j) % 8))
     go false = refl
 
--- m bytes from `at` on, as a part
-module _ (bytes : List ℕ) (at m : ℕ) (small : (i : ℕ) → get_or bytes i 0 < 256) where
-  -- the number of n of them, from place i of the part on
+-- all bytes
+module _ (bytes : List ℕ) (small : (i : ℕ) → get_or bytes i 0 < 256) where
+  -- the number of n of them, from place i on
   abbrev pub number_from : ℕ → ℕ → ℕ
   number_from i zero = 0
-  number_from i (suc n) = number_from (suc i) n * 256 + get_or (mid_of at m bytes) i 0
+  number_from i (suc n) = number_from (suc i) n * 256 + get_or bytes i 0
 
-  pub number_bits : (i n : ℕ) → i + n ≤ m → BitsFrom bytes (at + i) n (number_from i n)
-  number_bits i zero inside = no_bytes bytes (at + i)
-  number_bits i (suc n) inside =
-      rw (part_at bytes at m (at + i) i (omega arith) (omega arith))
-      (one_more bytes (at + i) (at + suc i) n (number_from (suc i) n) (omega arith) (small (at + i)) (number_bits (suc i) n (omega arith)))
+  pub number_bits : (i n : ℕ) → BitsFrom bytes i n (number_from i n)
+  number_bits i zero = no_bytes bytes i
+  number_bits i (suc n) = one_more bytes i (suc i) n (number_from (suc i) n) refl (small i) (number_bits (suc i) n)
+
+-- the bits of a part are those of the bytes from where it starts
+pub of_part : (bytes : List ℕ) (at n r : ℕ) → BitsFrom (mid_of at n bytes) 0 n r → BitsFrom bytes at n r
+of_part bytes at n r has j = has j ∙ go (ltb j (8 * n)) refl
+  where
+    go : (x : Bool) → ltb j (8 * n) ≡ x → pick x (bit_at (mid_of at n bytes) (8 * 0 + j)) 0 ≡ pick x (bit_at bytes (8 * at + j)) 0
+    go true l =
+        let z : 8 * 0 + j ≡ j = omega arith in
+        rw z (part_bit bytes at n j (ltb-true j (8 * n) l))
+    go false l = refl

@@ -3,7 +3,7 @@
 // What works on the pool alone takes `Bytes`; a place in bytes that may be a table, a list, a file or a part is a plain number.
 #![tactic(auto)]
 
-ghost use Rattle.std.specs.Prelude.{◌≡◌, ◌⊎◌, ◌+◌, ◌-◌, ◌*◌, ◌≤◌, length, take, drop, replicate};
+ghost use Rattle.std.specs.Prelude.{◌≡◌, ◌⊎◌, ℕ, ◌+◌, ◌-◌, ◌*◌, ◌^◌, ◌<◌, ◌≤◌, length, take, drop, replicate};
 ghost use Rattle.std.proofs.lemmas.List.Edits.{sets};
 ghost use Rattle.rules.specs.Words.{number, bytes_of, two_bytes_of, first_two, word_at, with_word};
 ghost use Rattle.memory.specs.Bits.{BitsFrom};
@@ -74,52 +74,88 @@ pub fn set_word(bytes: &mut [u8], i: usize, w: u32)
     set_four_bytes(bytes, 4 * i, w);
 }
 
-// The bits of the four bytes from `at` on, those of the first the lowest.
-pub fn four_bits(bytes: &[u8], at: usize) -> u32
-    requires { at + 4 ≤ length bytes.now }
-    ensures { BitsFrom bytes.now at 4 result }
-{
-    let end = at + 4;
-    let part = &bytes[at..end];
-    from_le_bytes(part[0], part[1], part[2], part[3])
+// A number that is read from as many bytes as it has, the first the lowest.
+pub trait FromBytes: Copy {
+    ghost BYTES: { ℕ };
+
+    const BYTES: usize;
+
+    ghost value: { Self → ℕ };
+
+    // The number in the part.
+    fn from_part(part: &[u8]) -> Self
+        requires { length part.now ≡ BYTES }
+        ensures { BitsFrom part.now 0 BYTES (value result) };
+
+    // No bits.
+    fn zero() -> Self
+        ensures { value result ≡ 0 };
+
+    // The byte's bits below those of the number, of which the highest byte has none.
+    fn above(self, byte: u8) -> Self
+        requires { value self * 256 < 2 ^ (8 * BYTES) }
+        ensures { value result ≡ value self * 256 + byte };
 }
 
-// The same where the bytes end before the four do. Past their end each bit is 0.
-pub fn last_four_bits(bytes: &[u8], at: usize) -> u32
-    requires { (at ≤ length bytes.now) × (length bytes.now ≤ at + 4) }
-    ensures { BitsFrom bytes.now at 4 result }
-{
-    let mut bits: u32 = 0;
-    let mut i = bytes.len();
-    while at < i {
-        i -= 1;
-        bits = (bits << 8) | (bytes[i] as u32);
+impl FromBytes for u32 {
+    ghost BYTES = { 4 };
+
+    const BYTES: usize = 4;
+
+    ghost value = { λ n. n };
+
+    fn from_part(part: &[u8]) -> u32 {
+        u32::from_le_bytes([part[0], part[1], part[2], part[3]])
     }
-    bits
+
+    fn zero() -> u32 {
+        0
+    }
+
+    fn above(self, byte: u8) -> u32 {
+        (self << 8) | u32::from(byte)
+    }
 }
 
-// The bits of the eight bytes from `at` on, those of the first the lowest.
-pub fn bits(bytes: &[u8], at: usize) -> u64
-    requires { at + 8 ≤ length bytes.now }
-    ensures { BitsFrom bytes.now at 8 result }
-{
-    let end = at + 8;
-    let part = &bytes[at..end];
-    let low = from_le_bytes(part[0], part[1], part[2], part[3]);
-    let high = from_le_bytes(part[4], part[5], part[6], part[7]);
-    low as u64 + 4294967296 * (high as u64)
+impl FromBytes for u64 {
+    ghost BYTES = { 8 };
+
+    const BYTES: usize = 8;
+
+    ghost value = { λ n. n };
+
+    fn from_part(part: &[u8]) -> u64 {
+        u64::from_le_bytes([
+            part[0], part[1], part[2], part[3], part[4], part[5], part[6], part[7],
+        ])
+    }
+
+    fn zero() -> u64 {
+        0
+    }
+
+    fn above(self, byte: u8) -> u64 {
+        (self << 8) | u64::from(byte)
+    }
 }
 
-// The same of the bytes from `from` to before `to`, which are at most eight. The other bits are 0.
-pub fn last_bits(bytes: &[u8], from: usize, to: usize) -> u64
-    requires { (from ≤ to) × ((to ≤ from + 8) × (to ≤ length bytes.now)) }
-    ensures { BitsFrom bytes.now from (to - from) result }
+// The bits of as many bytes from `at` on as the number has, those of the first the lowest.
+pub fn bits<W: FromBytes>(bytes: &[u8], at: usize) -> W
+    requires { at + W.BYTES ≤ length bytes.now }
+    ensures { BitsFrom bytes.now at W.BYTES (W.value result) }
 {
-    let mut bits: u64 = 0;
-    let mut at = to;
-    while from < at {
-        at -= 1;
-        bits = (bits << 8) | (bytes[at] as u64);
+    let end = at + W::BYTES;
+    W::from_part(&bytes[at..end])
+}
+
+// The same where the bytes end before. Past their end each bit is 0.
+pub fn last_bits<W: FromBytes>(bytes: &[u8], at: usize) -> W
+    requires { (at ≤ length bytes.now) × (length bytes.now ≤ at + W.BYTES) }
+    ensures { BitsFrom bytes.now at W.BYTES (W.value result) }
+{
+    let mut bits = W::zero();
+    for i in (at..bytes.len()).rev() {
+        bits = bits.above(bytes[i]);
     }
     bits
 }

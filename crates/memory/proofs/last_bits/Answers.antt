@@ -2,44 +2,56 @@
 -- Assumes nothing.
 use mathlib.Core.Path.{◌≡◌}
 use mathlib.Core.List.{List}
-use Prim.Native.Nat.{ℕ, suc, ◌+◌, ◌-◌, ◌*◌, ◌%◌, ◌^◌, ◌≤◌, ◌<◌}
+use Prim.Native.Nat.{ℕ, suc, ◌+◌, ◌-◌, ◌*◌, ◌^◌, ◌≤◌, ◌<◌}
 use native.Mathlib.Omega.{arith}
-use lib.Bits.{bit_or, or_shifted}
-use lib.ListN.{get_or}
-use lib.Pow.{pow-add, shl_exact}
-use Rattle.memory.proofs.Reading.{no_bytes, one_more}
+use native.Mathlib.Nat.{pow-le-pow_right}
+use lib.ListN.{length, get_or}
+use lib.Pow.{pow-add}
+use Rattle.memory.proofs.Reading.{past_bytes, one_more}
 use Rattle.memory.proofs.last_bits.Invariants.{Read}
 use Rattle.memory.proofs.last_bits.Goals as goal
 
-none_read : (bytes : List ℕ) (to : ℕ) → Read bytes to (to - to) 0
-none_read bytes to =
-    let z : to - to ≡ 0 = omega arith in
-    rw z (omega arith, no_bytes bytes to)
+none_read : (bytes : List ℕ) (at n r : ℕ) → at ≤ length bytes → r ≡ 0 → Read bytes at n (length bytes) r
+none_read bytes at n r inside e =
+    let z : length bytes - length bytes ≡ 0 = omega arith in
+    rw e (record { from = inside; small = rw z (omega arith); has = past_bytes bytes (length bytes) (at + n - length bytes) (omega arith) })
 
-turn : (bytes : List ℕ) (at to bits : ℕ) → 0 < at → at ≤ to → to < at + 8 → get_or bytes (at - 1) 0 < 256 → Read bytes at (to - at) bits
-    → Read bytes (at - 1) (to - (at - 1)) (bit_or (bits * 256 % 2 ^ 64) (get_or bytes (at - 1) 0))
-turn bytes at to bits some before few small read =
-    let n : ℕ = to - at in
-    let m : to - (at - 1) ≡ suc n = omega arith in
-    let w : 8 * suc n ≡ 8 * n + 8 = omega arith in
-    let e = shl_exact (8 * n) 8 64 read.0 (omega arith) in
-    let room : 2 ^ (8 * n + 8) ≡ 2 ^ (8 * n) * 2 ^ 8 = pow-add 2 (8 * n) 8 in
-    let below : bits * 256 + get_or bytes (at - 1) 0 < 2 ^ (8 * suc n) = rw w (omega (arith, room, small, read.0)) in
-    rw (m, e, or_shifted bits 8 (get_or bytes (at - 1) 0) small) (below, one_more bytes (at - 1) at n bits (omega arith) small read.1)
+module _ (bytes : List ℕ) (at n i r : ℕ) (some : at < i) (inside : i ≤ length bytes) (few : length bytes ≤ at + n) (read : Read bytes at n i r) where
+  -- there is room for another byte
+  room : r * 256 < 2 ^ (8 * n)
+  room =
+      let w : 8 * (length bytes - i) + 8 ≤ 8 * n = omega arith in
+      let p : 2 ^ (8 * (length bytes - i) + 8) ≡ 2 ^ (8 * (length bytes - i)) * 2 ^ 8 = pow-add 2 (8 * (length bytes - i)) 8 in
+      omega (arith, p, read.small, pow-le-pow_right {n = 2} (omega arith) w)
 
-pub loop-at-init : goal.loop-at-init
-loop-at-init c = (omega arith, (omega arith, none_read c.args.bytes.now c.args.to))
+  turn : get_or bytes (i - 1) 0 < 256 → (r' : ℕ) → r' ≡ r * 256 + get_or bytes (i - 1) 0 → Read bytes at n (i - 1) r'
+  turn small r' e =
+      let m : length bytes - (i - 1) ≡ suc (length bytes - i) = omega arith in
+      let u : at + n - (i - 1) ≡ suc (at + n - i) = omega arith in
+      let w : 8 * suc (length bytes - i) ≡ 8 * (length bytes - i) + 8 = omega arith in
+      let p : 2 ^ (8 * (length bytes - i) + 8) ≡ 2 ^ (8 * (length bytes - i)) * 2 ^ 8 = pow-add 2 (8 * (length bytes - i)) 8 in
+      rw e (record {
+        from = omega arith;
+        small = rw (m, w) (omega (arith, p, small, read.small));
+        has = rw u (one_more bytes (i - 1) i (at + n - i) r (omega arith) small read.has);
+      })
 
-pub overflow_cast-bits : goal.overflow_cast-bits
-overflow_cast-bits c = record { fits = omega (arith, (c.shared_slice_known-1.given (c.loop-at.at - 1)).fits) }
+pub loop-i-init : goal.loop-i-init
+loop-i-init g c = none_read _ _ _ _ c.requires.0 c.zero-bits.ensures
 
-pub loop-at-preserved : goal.loop-at-preserved
-loop-at-preserved c =
+pub above-bits-requires : goal.above-bits-requires
+above-bits-requires g c =
     let a = c.args in
-    let l = c.loop-at in
-    (omega arith, (omega arith, turn a.bytes.now l.at a.to l.bits (omega arith) l.invariant.1.0 (omega arith) (c.shared_slice_known-1.given (l.at - 1)).fits l.invariant.1.1))
+    room a.bytes.now a.at g.W.FromBytes.BYTES c.loop-i.i (g.W.FromBytes.value c.loop-i.bits) (omega arith) (omega arith) c.requires.1 c.loop-i.invariant
+
+pub loop-i-preserved : goal.loop-i-preserved
+loop-i-preserved g c =
+    let a = c.args in
+    turn a.bytes.now a.at g.W.FromBytes.BYTES c.loop-i.i (g.W.FromBytes.value c.loop-i.bits) (omega arith) (omega arith) c.requires.1 c.loop-i.invariant
+    (c.type_inv.bytes (c.loop-i.i - 1)).fits _ c.above-bits.ensures
 
 pub returns : goal.returns
-returns c =
-    let e : c.loop-at.at ≡ c.args.from = omega arith in
-    rw e at c.loop-at.invariant.1.1.1
+returns g c =
+    let e : c.loop-i.i ≡ c.args.at = omega (arith, c.loop-i.invariant.from) in
+    let n : c.args.at + g.W.FromBytes.BYTES - c.args.at ≡ g.W.FromBytes.BYTES = omega arith in
+    rw n at (rw e at c.loop-i.invariant.has)
