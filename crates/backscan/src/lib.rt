@@ -13,7 +13,7 @@ fn non_tails(t: usize, table: &[u8], i: usize) -> u64
     requires { IsTable t table.now × (64 * i < length (entries_in t table.now)) }
     ensures { NonTails (entries_in t table.now) i result }
 {
-    let g = entries::group(t, table, i);
+    let g = entries::group::<u64>(t, table, i);
     g.low | !g.high
 }
 

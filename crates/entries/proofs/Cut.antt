@@ -1,6 +1,6 @@
 -- The planes of a table, each cut out as a part: they hold its entries, and their words 32 of them.
 -- Assumes nothing.
-use mathlib.Core.Path.{◌≡◌, refl, ◌∙◌}
+use mathlib.Core.Path.{◌≡◌, ◌∙◌}
 use mathlib.Core.List.{List}
 use Prim.Native.Nat.{ℕ, ◌+◌, ◌-◌, ◌*◌, ◌/◌, ◌%◌, ◌≤◌, ◌<◌}
 use native.Mathlib.Decide.{dec_lt}
@@ -17,21 +17,14 @@ use Rattle.laws.proofs.Lists.{length_tabulate, get_d_tabulate}
 use Rattle.laws.proofs.Bits.{bit_of_zero}
 use Rattle.laws.proofs.Planes.{length_entries_in, room_entries, entry_clean}
 use Rattle.memory.specs.Bits.{BitsFrom}
-use Rattle.memory.proofs.Parts.{part_at, part_length}
-use Rattle.entries.specs.Groups.{InPlanes, InWords}
+use Rattle.memory.proofs.Parts.{part_length}
+use Rattle.memory.proofs.Reading.{part_bit}
+use Rattle.entries.specs.Groups.{InPlanes, InParts, InWords}
 
--- ---- a part of some bytes
+-- ---- past the end of a part of some bytes
 
 module _ (bytes : List ℕ) (a n : ℕ) where
-  -- its bits are theirs
-  part_bit : (k : ℕ) → k < 8 * n → bit_at (mid_of a n bytes) k ≡ bit_at bytes (8 * a + k)
-  unfolding bit_at
-  part_bit k h =
-      let q : (8 * a + k) / 8 ≡ a + k / 8 = omega arith in
-      let r : (8 * a + k) % 8 ≡ k % 8 = omega arith in
-      rw (q, r, part_at bytes a n (a + k / 8) (k / 8) refl (omega arith))
-
-  -- and past its end there is none
+  -- there is no bit
   part_past : a + n ≤ length bytes → (k : ℕ) → 8 * n ≤ k → bit_at (mid_of a n bytes) k ≡ 0
   unfolding bit_at
   part_past room k h =
@@ -80,11 +73,15 @@ module _ (es lows highs : List ℕ) (at n : ℕ) where
           rw (part_past lows at n room k (omega arith), part_past highs at n room' k (omega arith))
           (get_or-eq_default entries_of FREE (omega (arith, length_tabulate (8 * n) (λ (k : ℕ). entry_at es (8 * at + k)))))
 
--- ---- a word of each
+-- ---- n bytes of each from byte n * i on
 
+pub in_parts : (n : ℕ) (lows highs : List ℕ) (i low high : ℕ) → BitsFrom lows (n * i) n low → BitsFrom highs (n * i) n high → InParts (8 * n) lows highs i low high
+in_parts n lows highs i low high lo hi es planes j h =
+    let e : 8 * (n * i) + j ≡ 8 * n * i + j = omega arith in
+    let l : bit_of low j ≡ bit_at lows (8 * n * i + j) = rw (lt-ltb j (8 * n) h, e) at (lo j) in
+    let u : bit_of high j ≡ bit_at highs (8 * n * i + j) = rw (lt-ltb j (8 * n) h, e) at (hi j) in
+    rw (l, u) (planes (8 * n * i + j))
+
+-- a word of each
 pub in_words : (lows highs : List ℕ) (i low high : ℕ) → BitsFrom lows (4 * i) 4 low → BitsFrom highs (4 * i) 4 high → InWords lows highs i low high
-in_words lows highs i low high lo hi es planes j h =
-    let e : 8 * (4 * i) + j ≡ 32 * i + j = omega arith in
-    let l : bit_of low j ≡ bit_at lows (32 * i + j) = rw (lt-ltb j 32 h, e) at (lo j) in
-    let u : bit_of high j ≡ bit_at highs (32 * i + j) = rw (lt-ltb j 32 h, e) at (hi j) in
-    rw (l, u) (planes (32 * i + j))
+in_words = in_parts 4

@@ -25,6 +25,10 @@ InGroup es i low high = InLanes 64 es i low high
 abbrev pub InPlanes : List ℕ → List ℕ → List ℕ → Type 0
 InPlanes es lows highs = (k : ℕ) → entry_at es k ≡ bit_at lows k + 2 * bit_at highs k
 
--- two numbers hold the 32 entries from block 32 * i on, whatever entries the planes hold
+-- two numbers hold the n entries from block n * i on, whatever entries the planes hold
+abbrev pub InParts : ℕ → List ℕ → List ℕ → ℕ → ℕ → ℕ → Type 0
+InParts n lows highs i low high = (es : List ℕ) → InPlanes es lows highs → InLanes n es i low high
+
+-- 32 of them
 abbrev pub InWords : List ℕ → List ℕ → ℕ → ℕ → ℕ → Type 0
-InWords lows highs i low high = (es : List ℕ) → InPlanes es lows highs → InLanes 32 es i low high
+InWords lows highs i low high = InParts 32 lows highs i low high

@@ -11,9 +11,10 @@ ghost use Rattle.rules.specs.Tables.{entry_at, is_head, is_tail, well_formed, bl
 ghost use Rattle.rules.specs.Planes.{plane_bytes, entries_in, Sized, IsTable, Holds};
 ghost use Rattle.memory.specs.Bits.{BitsFrom};
 ghost use Rattle.entries.specs.Numbers.{number_of};
-ghost use Rattle.entries.specs.Groups.{Span, InGroup, InWords};
+ghost use Rattle.entries.specs.Groups.{Span, InLanes, InParts};
 ghost use Rattle.entries.specs.Marking.{MarksHead};
 
+use memory::FromBytes;
 use numbers::Block;
 
 // What a block is: FREE, the HEAD of an object, a TAIL of one, or a HEAD that is marked.
@@ -193,59 +194,50 @@ pub fn clear(table: &mut [u8])
     memory::clear(table);
 }
 
-// The entries of 64 blocks: a bit of each in two numbers, that of the first block the lowest.
+// The entries of as many blocks as a number has bits: a bit of each in two numbers, that of the first block the lowest.
 #[derive(Clone, Copy)]
-pub struct Lanes {
-    pub low: u64,
-    pub high: u64,
+pub struct Lanes<W> {
+    pub low: W,
+    pub high: W,
 }
 
-// The entries from block 64 * i on. Past the end of the table they are FREE.
-pub fn group(t: usize, table: &[u8], i: usize) -> Lanes
-    requires { IsTable t table.now × (64 * i < length (entries_in t table.now)) }
-    ensures { InGroup (entries_in t table.now) i result.low result.high }
+// The entries of the blocks in number i of the planes. Each plane is a part of its own, cut once for many numbers: then a bounds check of each is cheap.
+pub fn words_at<W: FromBytes>(lows: &[u8], highs: &[u8], i: usize) -> Lanes<W>
+    requires { (W.BYTES * i + W.BYTES ≤ length lows.now) × (W.BYTES * i + W.BYTES ≤ length highs.now) }
+    ensures { InParts (8 * W.BYTES) lows.now highs.now i (W.value result.low) (W.value result.high) }
 {
-    let half = plane_bytes(t);
-    let at = 8 * i;
-    if at + 8 <= half {
-        return Lanes {
-            low: memory::bits(table, at),
-            high: memory::bits(table, half + at),
-        };
-    }
+    let at = W::BYTES * i;
     Lanes {
-        low: memory::last_bits(table, at, half),
-        high: memory::last_bits(table, half + at, 2 * half),
-    }
-}
-
-// The entries of 32 blocks, as `Lanes` has those of 64.
-#[derive(Clone, Copy)]
-pub struct Words {
-    pub low: u32,
-    pub high: u32,
-}
-
-// The entries from block 32 * i on. Each plane is a part of its own, cut once for many words: then a bounds check of each is cheap.
-pub fn words_at(lows: &[u8], highs: &[u8], i: usize) -> Words
-    requires { (4 * i + 4 ≤ length lows.now) × (4 * i + 4 ≤ length highs.now) }
-    ensures { InWords lows.now highs.now i result.low result.high }
-{
-    Words {
-        low: memory::four_bits(lows, 4 * i),
-        high: memory::four_bits(highs, 4 * i),
+        low: memory::bits(lows, at),
+        high: memory::bits(highs, at),
     }
 }
 
 // The same where the planes end in these blocks. Past the end they are FREE.
-pub fn last_words(lows: &[u8], highs: &[u8], i: usize) -> Words
-    requires { (4 * i ≤ length lows.now) × ((length lows.now ≤ 4 * i + 4) × (length highs.now ≡ length lows.now)) }
-    ensures { InWords lows.now highs.now i result.low result.high }
+pub fn last_words<W: FromBytes>(lows: &[u8], highs: &[u8], i: usize) -> Lanes<W>
+    requires { (W.BYTES * i ≤ length lows.now) × ((length lows.now ≤ W.BYTES * i + W.BYTES) × (length highs.now ≡ length lows.now)) }
+    ensures { InParts (8 * W.BYTES) lows.now highs.now i (W.value result.low) (W.value result.high) }
 {
-    Words {
-        low: memory::last_four_bits(lows, 4 * i),
-        high: memory::last_four_bits(highs, 4 * i),
+    let at = W::BYTES * i;
+    Lanes {
+        low: memory::last_bits(lows, at),
+        high: memory::last_bits(highs, at),
     }
+}
+
+// The same of a table. Past its end they are FREE.
+pub fn group<W: FromBytes>(t: usize, table: &[u8], i: usize) -> Lanes<W>
+    requires { IsTable t table.now × (8 * W.BYTES * i < length (entries_in t table.now)) }
+    ensures { InLanes (8 * W.BYTES) (entries_in t table.now) i (W.value result.low) (W.value result.high) }
+{
+    let half = plane_bytes(t);
+    let lows = &table[0..half];
+    let highs = &table[half..2 * half];
+    let at = W::BYTES * i;
+    if at + W::BYTES <= half {
+        return words_at(lows, highs, i);
+    }
+    last_words(lows, highs, i)
 }
 
 // The bits of the 32 blocks from block 32 * i on, of one plane. It reads one plane only, so that the compiler puts it into the loops that call it.
@@ -253,7 +245,7 @@ pub fn word_at(plane: &[u8], i: usize) -> u32
     requires { 4 * i + 4 ≤ length plane.now }
     ensures { BitsFrom plane.now (4 * i) 4 result }
 {
-    memory::four_bits(plane, 4 * i)
+    memory::bits(plane, 4 * i)
 }
 
 // What a block was when it was to be marked: a HEAD, which is then MARK, a TAIL, or another entry or none.

@@ -4,11 +4,8 @@
 ghost use Rattle.std.specs.Prelude.{◌≡◌, ◌⊎◌, ◌+◌, ◌*◌, ◌≤◌, ◌<◌, length};
 ghost use Rattle.rules.specs.Tables.{longest as longest_of};
 ghost use Rattle.rules.specs.Planes.{entries_in, IsTable};
-ghost use Rattle.entries.specs.Groups.{InLanes};
 ghost use Rattle.freeruns.specs.Rows.{FreeIn, Zeros, ZerosOf, ZerosAbove, RowStarts, WholeRow, LongestRow};
 ghost use Rattle.freeruns.specs.Scans.{ReadOn};
-
-use entries::Words;
 
 // The first of 64 bits that is set, by the zeros below it; 64 if there is none.
 pub fn first(bits: u64) -> usize
@@ -31,26 +28,12 @@ fn above_last(bits: u32) -> usize
     u32::leading_zeros(bits) as usize
 }
 
-// The entries of the 32 blocks from block 32 * i on. Past the end of the table they are FREE.
-fn words(t: usize, table: &[u8], i: usize) -> Words
-    requires { IsTable t table.now × (32 * i < length (entries_in t table.now)) }
-    ensures { InLanes 32 (entries_in t table.now) i result.low result.high }
-{
-    let half = entries::plane_bytes(t);
-    let lows = &table[0..half];
-    let highs = &table[half..2 * half];
-    if 4 * i + 4 <= half {
-        return entries::words_at(lows, highs, i);
-    }
-    entries::last_words(lows, highs, i)
-}
-
 // A bit for each of the 32 blocks from block 32 * i on that is FREE. Past the end of the table there is none.
 fn free_bits(t: usize, table: &[u8], i: usize) -> u32
     requires { IsTable t table.now × (32 * i < length (entries_in t table.now)) }
     ensures { FreeIn (entries_in t table.now) i result }
 {
-    let g = words(t, table, i);
+    let g = entries::group::<u32>(t, table, i);
     let free = !(g.low | g.high);
     let left = entries::blocks(t) - 32 * i;
     if left < 32 {

@@ -4,6 +4,7 @@
 #![tactic(auto)]
 
 ghost use Rattle.std.specs.Prelude.{◌≡◌, ◌⊎◌, ℕ, ◌+◌, ◌-◌, ◌*◌, ◌^◌, ◌<◌, ◌≤◌, length, take, drop, replicate};
+ghost use Rattle.std.proofs.Common.{rules};
 ghost use Rattle.std.proofs.lemmas.List.Edits.{sets};
 ghost use Rattle.rules.specs.Words.{number, bytes_of, two_bytes_of, first_two, word_at, with_word};
 ghost use Rattle.memory.specs.Bits.{BitsFrom};
@@ -95,6 +96,8 @@ pub trait FromBytes: Copy {
     fn above(self, byte: u8) -> Self
         requires { value self * 256 < 2 ^ (8 * BYTES) }
         ensures { value result ≡ value self * 256 + byte };
+
+    ghost few_bytes: { BYTES ≤ 8 };
 }
 
 impl FromBytes for u32 {
@@ -103,6 +106,8 @@ impl FromBytes for u32 {
     const BYTES: usize = 4;
 
     ghost value = { λ n. n };
+
+    ghost few_bytes = { Prim.search rules };
 
     fn from_part(part: &[u8]) -> u32 {
         u32::from_le_bytes([part[0], part[1], part[2], part[3]])
@@ -123,6 +128,8 @@ impl FromBytes for u64 {
     const BYTES: usize = 8;
 
     ghost value = { λ n. n };
+
+    ghost few_bytes = { Prim.search rules };
 
     fn from_part(part: &[u8]) -> u64 {
         u64::from_le_bytes([

@@ -73,7 +73,7 @@ pub fn gather(t: usize, pool: &[u8], table: &[u8], image: &mut [u8], at: usize)
     let mut i = 0;
     let mut to = at;
     while 64 * i < n {
-        let g = entries::group(t, table, i);
+        let g = entries::group::<u64>(t, table, i);
         to = copy_group(pool, i, g.low | g.high, &mut *image, to);
         i += 1;
     }
@@ -127,7 +127,7 @@ fn fill_group(
     ensures { (pool.new ≡ sets pool.old (1024 * i) (pool_of (group_in (entries_in t table.now) i) (drop (16 * passed) bytes.now)))
         × (result ≡ passed + used_of (group_in (entries_in t table.now) i)) }
 {
-    let g = entries::group(t, table, i);
+    let g = entries::group::<u64>(t, table, i);
     let used = g.low | g.high;
     let start = Block::first().plus(64 * i).offset();
     if used == ALL {

@@ -8,4 +8,4 @@ pub overflow_mul-i : goal.overflow_mul-i
 overflow_mul-i c = in_slice c.args.plane.now (search rules) (search rules)
 
 pub returns : goal.returns
-returns c = c.four_bits.ensures
+returns c = c.bits.ensures

@@ -1,17 +1,20 @@
 -- `words_at`: four bytes of each plane are 32 entries.
 -- Assumes nothing.
+use mathlib.Core.Path.{◌≡◌, ap}
+use Prim.Native.Nat.{ℕ, ◌*◌}
+use native.Mathlib.Omega.{arith}
 use borrow.Author.Rules.{rules}
 use Rattle.laws.proofs.Widths.{in_slice}
-use Rattle.entries.proofs.Cut.{in_words}
+use Rattle.entries.proofs.Cut.{in_parts}
 use Rattle.entries.proofs.words_at.Goals as goal
 
-pub overflow_mul-i : goal.overflow_mul-i
-overflow_mul-i c = in_slice c.args.lows.now (search rules) (search rules)
-
-pub overflow_mul-i-2 : goal.overflow_mul-i-2
-overflow_mul-i-2 c = in_slice c.args.lows.now (search rules) (search rules)
+pub overflow_mul-at : goal.overflow_mul-at
+overflow_mul-at g c =
+    let e : c.BYTES.result * c.args.i ≡ g.W.FromBytes.BYTES * c.args.i = ap (λ (x : ℕ). x * c.args.i) c.BYTES.ensures in
+    in_slice c.args.lows.now (omega arith) (search rules)
 
 pub returns : goal.returns
-returns c =
+returns g c =
     let a = c.args in
-    in_words a.lows.now a.highs.now a.i c.four_bits.result c.four_bits-2.result c.four_bits.ensures c.four_bits-2.ensures
+    let n = c.BYTES.ensures in
+    in_parts g.W.FromBytes.BYTES a.lows.now a.highs.now a.i _ _ (rw n at c.bits.ensures) (rw n at c.bits-2.ensures)

@@ -24,12 +24,12 @@ overflow_sub-result c = mask_some (c.blocks-2.result - 32 * c.args.i) c.if-left-
 
 pub returns-then-left-lt32 : goal.returns-then-left-lt32
 returns-then-left-lt32 c =
-    let g = c.words-g in
+    let g = c.group-g in
     free_left (entries_in c.args.t c.args.table.now) c.args.i g.result.low g.result.high (omega arith) (omega arith) g.ensures (c.blocks-2.result - 32 * c.args.i) c.if-left-lt32.true
     (omega (arith, c.blocks-2.ensures c.args.table.now, c.requires.1))
 
 pub returns : goal.returns
 returns c =
-    let g = c.words-g in
+    let g = c.group-g in
     free_whole (entries_in c.args.t c.args.table.now) c.args.i g.result.low g.result.high (omega arith) (omega arith) g.ensures
     (omega (arith, c.blocks-2.ensures c.args.table.now, c.if-left-lt32.false, c.requires.1))
