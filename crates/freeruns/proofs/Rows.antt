@@ -38,7 +38,7 @@ zeros_below (suc k) a = go (a % 2) refl (zeros_below k (a / 2))
         up (suc j) l = bit_of_suc a j ∙ r.before j (omega arith)
 
 -- those above the highest
-pub zeros_above : (a : ℕ) → a < 2 ^ 32 → ZerosAbove a (count_leading_zeros 32 a)
+zeros_above : (a : ℕ) → a < 2 ^ 32 → ZerosAbove a (count_leading_zeros 32 a)
 zeros_above a h = go (ℕ_discrete a 0)
   where
     go : Dec (a ≡ 0) → ZerosAbove a (count_leading_zeros 32 a)
@@ -46,6 +46,13 @@ zeros_above a h = go (ℕ_discrete a 0)
     go (no some) =
         let top : TopBit 32 a (count_leading_zeros 32 a) = top_bit 32 a (omega arith) h in
         record { few = omega (arith, top.few); above = λ j l. top.above (31 - j) (omega (arith, top.few)); next = λ l. top.set }
+
+-- the library's counts of them
+pub zeros_at : {k a n : ℕ} → n ≡ count_trailing_zeros k a → ZerosOf k a n
+zeros_at {k} {a} e = rw e (zeros_below k a)
+
+pub above_at : {a n : ℕ} → a < 2 ^ 32 → n ≡ count_leading_zeros 32 a → ZerosAbove a n
+above_at {a} h e = rw e (zeros_above a h)
 
 -- a number that is not 0 has a first bit
 pub first_of : (w a n : ℕ) → a < 2 ^ w → a ≢ 0 → ZerosOf w a n → n < w
@@ -226,38 +233,32 @@ no_four bits z count j row = go (dec_lt 3 count)
 
 -- ---- the whole row from a bit on
 
-module _ (bits j : ℕ) (small : bits < 2 ^ 32) (few : j < 32) where
-  abbrev clear : ℕ
-  clear = (ALL - bits) / 2 ^ j
+-- the bits that are set at the front, behind a shift
+module _ (bits j n : ℕ) (small : bits < 2 ^ 32) (z : ZerosOf 32 (ALL - bits / 2 ^ j) n) where
+  clear : (d : ℕ) → d < 32 → bit_of (ALL - bits / 2 ^ j) d ≡ 1 - bit_of bits (j + d)
+  clear d l = bit_of_not 32 (bits / 2 ^ j) d (omega (arith, shr_le bits j)) l ∙ ap (λ (x : ℕ). 1 - x) (bit_of_shr bits j d)
 
-  -- a bit is set where its clear bit is not
-  clear_bit : (d : ℕ) → j + d < 32 → bit_of clear d ≡ 1 - bit_of bits (j + d)
-  clear_bit d l = bit_of_shr (ALL - bits) j d ∙ bit_of_not 32 bits (j + d) small l
-
-  set_at : (d : ℕ) → j + d < 32 → bit_of clear d ≡ 0 → bit_of bits (j + d) ≡ 1
-  set_at d l z = omega (arith, clear_bit d l, z, bit_of_lt bits (j + d))
-
-  -- none is clear
-  pub to_the_end : clear ≡ 0 → WholeRow bits j (32 - j)
-  to_the_end z = record {
-    row = λ d l. set_at d (omega arith) (rw z (bit_of_zero d));
-    next = λ e. omega (arith, e, none_above bits (j + (32 - j)) small (omega arith));
+  pub whole_row : WholeRow bits j n
+  whole_row = record {
+    row = λ d l. omega (arith, clear d (omega (arith, z.few)), z.before d l, bit_of_lt bits (j + d));
+    next = λ e. go e (dec_lt n 32);
   }
+    where
+      go : bit_of bits (j + n) ≡ 1 → Dec (n < 32) → ⊥
+      go e (yes l) = omega (arith, e, clear n l, z.next l)
+      go e (no l) = omega (arith, e, none_above bits (j + n) small (omega arith))
 
-  -- the first that is clear ends it
-  pub to_the_first : (n : ℕ) → clear ≢ 0 → ZerosOf 32 clear n → WholeRow bits j n
-  to_the_first n some z =
-      let taken : bit_of clear n ≡ 1 = z.next (first_of 32 clear n (omega (arith, shr_le (ALL - bits) j)) some z) in
-      let room = set_lt (ALL - bits) (j + n) (omega arith) (λ e. omega (arith, e, sym (bit_of_shr (ALL - bits) j n), taken)) in
-      record {
-        row = λ d l. set_at d (omega arith) (z.before d l);
-        next = λ e. omega (arith, e, clear_bit n room, taken);
-      }
+-- the first of the places where a row of n + 1 bits starts: the whole row there is longer than n
+module _ (bits n starts s : ℕ) (small : starts < 2 ^ 32) (some : starts ≢ 0) (r : RowStarts bits 0 (n + 1) starts) (z : ZerosOf 32 starts s) where
+  pub starts_inside : s < 32
+  starts_inside = first_of 32 starts s small some z
 
--- where a row of n + 1 bits starts, the whole row is longer than n
-pub whole_longer : (bits n j count : ℕ) → Row (bits + 2 ^ 32 * 0) (n + 1) j → WholeRow bits j count → n < count
-whole_longer bits n j count row whole = go (dec_lt n count)
-  where
-    go : Dec (n < count) → n < count
-    go (yes l) = l
-    go (no l) = absurd (whole.next (alone_row bits (n + 1) j row count (omega arith)))
+  pub whole_longer : (count : ℕ) → WholeRow bits s count → n < count
+  whole_longer count whole = go (dec_lt n count)
+    where
+      row : Row (bits + 2 ^ 32 * 0) (n + 1) s
+      row = r.only s starts_inside (λ e. omega (arith, e, z.next starts_inside))
+
+      go : Dec (n < count) → n < count
+      go (yes l) = l
+      go (no l) = absurd (whole.next (alone_row bits (n + 1) s row count (omega arith)))

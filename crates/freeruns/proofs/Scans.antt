@@ -1,9 +1,9 @@
 -- Reading the table 32 blocks at a time: what is known of its runs at one place is known at the next, and at the end it is all.
 -- Assumes nothing.
-use mathlib.Core.Path.{◌≡◌, refl, ap, ◌∙◌}
+use mathlib.Core.Path.{◌≡◌, refl, ap}
 use mathlib.Core.Logic.{◌≢◌, ◌⊎◌, inl, ⊎_elim}
 use mathlib.Core.List.{List}
-use Prim.Native.Nat.{ℕ, suc, ◌+◌, ◌-◌, ◌*◌, ◌^◌, ◌≤◌, ◌<◌}
+use Prim.Native.Nat.{ℕ, suc, ◌+◌, ◌-◌, ◌*◌, ◌^◌, ◌≤◌, ◌<◌, max}
 use native.Mathlib.Decide.{ℕ_discrete, dec_lt}
 use native.Mathlib.Omega.{arith}
 use lib.ListN.{length, get_or}
@@ -87,12 +87,12 @@ module _ (es : List ℕ) (i bits : ℕ) (small : bits < 2 ^ 32) (holds : FreeIn 
           go d l (no m) = free_at (p - ending + d) (omega arith) (omega (arith, known.room, front_lt)) (at_front.before (p - ending + d - p) (omega (arith, known.room)))
 
       -- what is the longest behind them: the longest before, the run that stopped at the front, and the rows
-      module _ (r : ℕ) (row : LongestRow bits best r) (least : longest ≤ best) (stopped : ending + front ≤ best) (one_of_lem : (best ≡ longest) ⊎ (best ≡ ending + front)) where
+      module _ (r : ℕ) (row : LongestRow bits best r) (greatest : best ≡ max longest (ending + front)) where
         found : longest < r → (s : ℕ) × Run es r s
         found l = ⊎_elim same (λ f. (p + f.0, row_run es i bits small holds r f.0 (omega arith) f.1)) row.found
           where
             same : r ≡ best → (s : ℕ) × Run es r s
-            same e = ⊎_elim (λ o. absurd (omega (arith, row.least))) (λ o. (p - ending, let q : r ≡ ending + front = e ∙ o in rw q (closed (omega arith)))) one_of_lem
+            same e = (p - ending, let q : r ≡ ending + front = omega arith in rw q (closed (omega arith)))
 
         most : (c s : ℕ) → s + back < p + 32 → Run es c s → c ≤ r
         most c s h run = go (dec_lt (s + ending) p) (dec_lt (p + front) s)
@@ -160,10 +160,10 @@ module _ (es : List ℕ) (i bits : ℕ) (small : bits < 2 ^ 32) (holds : FreeIn 
       go (yes e) = absurd (omega (arith, inside es (32 * i + 31) (bit_free es i bits holds 31 (omega arith) e)))
       go (no e) = omega (arith, e, used_bit es i bits small holds 31 (omega arith), bit_of_lt bits 31)
 
-  pub scan_rest : (longest ending front best r : ℕ) → Scanned es (32 * i) longest ending → ZerosOf 32 (ALL - bits) front → LongestRow bits best r → longest ≤ best → ending + front ≤ best
-      → (best ≡ longest) ⊎ (best ≡ ending + front) → Longest es r
-  scan_rest longest ending front best r known at_front row least stopped one_of_lem =
+  pub scan_rest : (longest ending front best r : ℕ) → Scanned es (32 * i) longest ending → ZerosOf 32 (ALL - bits) front → LongestRow bits best r
+      → best ≡ max longest (ending + front) → Longest es r
+  scan_rest longest ending front best r known at_front row greatest =
       scan_end es (32 * suc i) r 0 r (omega arith)
       (some_used es i bits small holds longest ending known (λ z. omega (arith, last_used, ap (λ (x : ℕ). bit_of x 31) z, bit_of_zero 31)) front 0 best at_front
-      (record { few = omega arith; above = λ j l. absurd (omega arith); next = λ _. last_used }) r row least stopped one_of_lem)
+      (record { few = omega arith; above = λ j l. absurd (omega arith); next = λ _. last_used }) r row greatest)
       (omega arith) (omega arith) (inl refl)

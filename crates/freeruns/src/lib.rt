@@ -1,10 +1,10 @@
 // FREE blocks as bits, 32 blocks at a time: which are, where rows of them start, and how long the longest run is.
 #![tactic(auto)]
 
-ghost use Rattle.std.specs.Prelude.{◌≡◌, ◌⊎◌, ◌+◌, ◌*◌, ◌≤◌, ◌<◌, length};
+ghost use Rattle.std.specs.Prelude.{◌≡◌, ◌*◌, ◌≤◌, ◌<◌, length};
 ghost use Rattle.rules.specs.Tables.{longest as longest_of};
 ghost use Rattle.rules.specs.Planes.{entries_in, IsTable};
-ghost use Rattle.freeruns.specs.Rows.{FreeIn, Zeros, ZerosOf, ZerosAbove, RowStarts, WholeRow, LongestRow};
+ghost use Rattle.freeruns.specs.Rows.{FreeIn, Zeros, RowStarts, WholeRow, LongestRow};
 ghost use Rattle.freeruns.specs.Scans.{ReadOn};
 
 // The first of 64 bits that is set, by the zeros below it; 64 if there is none.
@@ -14,43 +14,21 @@ pub fn first(bits: u64) -> usize
     u64::trailing_zeros(bits) as usize
 }
 
-// The same of 32 bits; 32 if there is none.
-pub fn first_of_32(bits: u32) -> usize
-    ensures { ZerosOf 32 bits result }
-{
-    u32::trailing_zeros(bits) as usize
-}
-
-// How many of 32 bits stand above the last that is set; 32 if there is none.
-fn above_last(bits: u32) -> usize
-    ensures { ZerosAbove bits result }
-{
-    u32::leading_zeros(bits) as usize
-}
-
 // A bit for each of the 32 blocks from block 32 * i on that is FREE. Past the end of the table there is none.
-fn free_bits(t: usize, table: &[u8], i: usize) -> u32
-    requires { IsTable t table.now × (32 * i < length (entries_in t table.now)) }
-    ensures { FreeIn (entries_in t table.now) i result }
-{
-    let g = entries::group::<u32>(t, table, i);
-    let free = !(g.low | g.high);
-    let left = entries::blocks(t) - 32 * i;
-    if left < 32 {
-        return free & ((1 << left) - 1);
-    }
-    free
-}
-
-// The same, also where no block is left.
 pub fn free_or_end(t: usize, table: &[u8], i: usize) -> u32
     requires { IsTable t table.now × (i ≤ 128) }
     ensures { FreeIn (entries_in t table.now) i result }
 {
-    if entries::blocks(t) <= 32 * i {
+    let left = entries::blocks(t).saturating_sub(32 * i);
+    if left == 0 {
         return 0;
     }
-    free_bits(t, table, i)
+    let g = entries::group::<u32>(t, table, i);
+    let free = !(g.low | g.high);
+    if left < 32 {
+        return free & ((1 << left) - 1);
+    }
+    free
 }
 
 // The bits at which a row of count bits starts, where the bits of `next` follow. Each turn makes the rows twice as long.
@@ -74,15 +52,11 @@ pub fn row_starts(bits: u32, next: u32, count: usize) -> u32
 }
 
 // How many bits are set from bit j on, up to the first that is not.
-fn row_from(bits: u32, j: usize) -> usize
+pub fn row_from(bits: u32, j: usize) -> usize
     requires { j < 32 }
     ensures { WholeRow bits j result }
 {
-    let clear = !bits >> j;
-    if clear == 0 {
-        return 32 - j;
-    }
-    first_of_32(clear)
+    (bits >> j).trailing_ones() as usize
 }
 
 // The length of the longest row of bits, or n if none is longer.
@@ -95,7 +69,7 @@ fn longer_row(bits: u32, n: usize) -> usize
         if found == 0 {
             return best;
         }
-        best = row_from(bits, first_of_32(found));
+        best = row_from(bits, found.trailing_zeros() as usize);
     }
     best
 }
@@ -120,33 +94,22 @@ struct Scan {
     ending: usize,
 }
 
-// The greatest of two numbers.
-fn greatest(a: usize, b: usize) -> usize
-    ensures { (a ≤ result) × ((b ≤ result) × ((result ≡ a) ⊎ (result ≡ b))) }
-{
-    if a < b {
-        return b;
-    }
-    a
-}
-
 // The same when 32 blocks more are read, of which those are FREE that have a bit. The run at the end goes on as far as their first that is used, and
 // another begins behind their last one.
 fn read_on(before: Scan, free: u32) -> Scan
     requires { before.ending ≤ 4096 }
     ensures { ReadOn free before.longest before.ending result.longest result.ending }
 {
-    let used = !free;
-    if used == 0 {
+    if free == u32::MAX {
         return Scan {
             longest: before.longest,
             ending: before.ending + 32,
         };
     }
-    let closed = before.ending + first_of_32(used);
+    let closed = before.ending + free.trailing_ones() as usize;
     Scan {
-        longest: longest_row(free, greatest(before.longest, closed)),
-        ending: above_last(used),
+        longest: longest_row(free, before.longest.max(closed)),
+        ending: free.leading_ones() as usize,
     }
 }
 
@@ -163,17 +126,11 @@ pub fn longest(t: usize, table: &[u8]) -> usize
         longest: 0,
         ending: 0,
     };
-    let mut i = 0;
-    while i < whole {
-        read = read_on(
-            read,
-            !(entries::word_at(lows, i) | entries::word_at(highs, i)),
-        );
-        i += 1;
+    for i in 0..whole {
+        let used = entries::word_at(lows, i) | entries::word_at(highs, i);
+        read = read_on(read, !used);
     }
-    let rest = free_or_end(t, table, i);
-    longest_row(
-        rest,
-        greatest(read.longest, read.ending + first_of_32(!rest)),
-    )
+    let rest = free_or_end(t, table, whole);
+    let last = read.ending + rest.trailing_ones() as usize;
+    longest_row(rest, read.longest.max(last))
 }

@@ -6,7 +6,7 @@ use Prim.Native.Nat.{◌<◌}
 use native.Mathlib.Omega.{arith}
 use borrow.Author.Rules.{rules}
 use Rattle.laws.proofs.Widths.{in_32_bits}
-use Rattle.freeruns.proofs.Rows.{first_of, none_longer, whole_longer}
+use Rattle.freeruns.proofs.Rows.{zeros_below, none_longer, starts_inside, whole_longer}
 use Rattle.freeruns.proofs.longer_row.Goals as goal
 
 pub loop-best-init : goal.loop-best-init
@@ -27,30 +27,24 @@ returns-then-found-eq0 c =
       most = λ count j few row. none_longer c.args.bits l.best c.row_starts-found.result (omega arith) c.row_starts-found.ensures c.if-found-eq0.true count j row;
     }
 
+pub overflow_cast-found : goal.overflow_cast-found
+overflow_cast-found c = record { fits = omega (arith, (zeros_below 32 c.row_starts-found.result).few) }
+
 pub row_from-best-requires : goal.row_from-best-requires
 row_from-best-requires c =
-    let start_lt : c.first_of_32.result < 32 = first_of 32 c.row_starts-found.result c.first_of_32.result (omega arith) c.if-found-eq0.false c.first_of_32.ensures in
-    start_lt
+    starts_inside _ _ _ _ (omega arith) c.if-found-eq0.false c.row_starts-found.ensures (zeros_below 32 _)
 
 pub loop-best-smaller : goal.loop-best-smaller
 loop-best-smaller c =
-    let start_lt : c.first_of_32.result < 32 = first_of 32 c.row_starts-found.result c.first_of_32.result (omega arith) c.if-found-eq0.false c.first_of_32.ensures in
     let longer : c.loop-best.best < c.row_from-best.result =
-    let starts = c.row_starts-found in
-    let set = c.first_of_32.ensures.next start_lt in
-    whole_longer c.args.bits _ c.first_of_32.result c.row_from-best.result
-    (starts.ensures.only c.first_of_32.result start_lt (λ z. omega (arith, z, set))) c.row_from-best.ensures in
+    whole_longer _ _ _ _ (omega arith) c.if-found-eq0.false c.row_starts-found.ensures (zeros_below 32 _) _ c.row_from-best.ensures in
     omega (arith, longer)
 
 pub loop-best-preserved : goal.loop-best-preserved
 loop-best-preserved c =
-    let start_lt : c.first_of_32.result < 32 = first_of 32 c.row_starts-found.result c.first_of_32.result (omega arith) c.if-found-eq0.false c.first_of_32.ensures in
     let longer : c.loop-best.best < c.row_from-best.result =
-    let starts = c.row_starts-found in
-    let set = c.first_of_32.ensures.next start_lt in
-    whole_longer c.args.bits _ c.first_of_32.result c.row_from-best.result
-    (starts.ensures.only c.first_of_32.result start_lt (λ z. omega (arith, z, set))) c.row_from-best.ensures in
-    (omega (arith, longer), inr (c.first_of_32.result, c.row_from-best.ensures.row))
+    whole_longer _ _ _ _ (omega arith) c.if-found-eq0.false c.row_starts-found.ensures (zeros_below 32 _) _ c.row_from-best.ensures in
+    (omega (arith, longer), inr (_, c.row_from-best.ensures.row))
 
 pub returns : goal.returns
 returns c =

@@ -1,10 +1,9 @@
 -- `longest`: the table is read a word at a time as far as its last whole word, and the blocks that are left end the last run.
 -- Assumes nothing.
 use mathlib.Core.Path.{◌≡◌}
-use Prim.Native.Nat.{suc, ◌+◌, ◌-◌, ◌*◌, ◌≤◌}
+use Prim.Native.Nat.{suc, ◌+◌, ◌-◌, ◌*◌, ◌/◌, ◌≤◌}
 use native.Mathlib.Omega.{arith}
 use lib.ListN.{length}
-use borrow.Author.Rules.{rules}
 use borrow.Rule.Slice.PartMut.{mid_of}
 use Rattle.rules.specs.Planes.{entries_in}
 use Rattle.rules.specs.Tables.{longest}
@@ -13,6 +12,7 @@ use Rattle.laws.proofs.Tables.{longest_says, longest_one}
 use Rattle.laws.proofs.Widths.{in_32_bits}
 use Rattle.entries.proofs.Cut.{held_in_planes, in_words, plane_lengths}
 use Rattle.freeruns.proofs.Frees.{free_whole}
+use Rattle.freeruns.proofs.Rows.{zeros_at}
 use Rattle.freeruns.proofs.Scans.{scan_start, scan_rest}
 use Rattle.freeruns.proofs.longest.Goals as goal
 
@@ -43,9 +43,6 @@ word_at-requires-in-loop-i c =
 pub read_on-read-requires : goal.read_on-read-requires
 read_on-read-requires c = omega (arith, c.loop-i.invariant.1.room, c.loop-i.invariant.0)
 
-pub overflow_add-i : goal.overflow_add-i
-overflow_add-i c = in_32_bits (search rules)
-
 pub loop-i-preserved : goal.loop-i-preserved
 loop-i-preserved c =
     let more : 32 * c.loop-i.i + 32 ≤ length (entries_in c.args.t c.args.table.now) =
@@ -60,17 +57,17 @@ loop-i-preserved c =
     let e : 32 * suc c.loop-i.i ≡ 32 * (c.loop-i.i + 1) = omega arith in
     (omega (arith, more, few_entries c.args.t c.args.table.now c.requires), rw e at (c.read_on-read.ensures es c.loop-i.i free c.loop-i.invariant.1))
 
-pub overflow_add-read : goal.overflow_add-read
-overflow_add-read c =
-    in_32_bits (record { fits = omega (arith, c.loop-i.invariant.1.room, c.loop-i.invariant.0, c.first_of_32.ensures.few) })
+pub overflow_add-last : goal.overflow_add-last
+overflow_add-last c =
+    let front = zeros_at c.trailing_ones.ensures in
+    in_32_bits (record { fits = omega (arith, c.loop-i.invariant.1.room, c.loop-i.invariant.0, front.few) })
 
 pub returns : goal.returns
 returns c =
-    let best = c.greatest in
-    let front = c.first_of_32 in
     let rest = c.free_or_end-rest in
     let es = entries_in c.args.t c.args.table.now in
+    let e : c.loop-i.i ≡ c.blocks-whole.result / 32 = omega arith in
     longest_one es c.longest_row.result (longest es)
-    (scan_rest es c.loop-i.i rest.result (omega arith) rest.ensures (omega (arith, c.loop-i-test.false, c.blocks-whole.ensures c.args.table.now)) c.loop-i.read.longest c.loop-i.read.ending
-    front.result best.result c.longest_row.result c.loop-i.invariant.1 front.ensures c.longest_row.ensures best.ensures.0 best.ensures.1.0 best.ensures.1.1)
+    (scan_rest es (c.blocks-whole.result / 32) rest.result (omega arith) rest.ensures (omega (arith, c.blocks-whole.ensures c.args.table.now)) c.loop-i.read.longest c.loop-i.read.ending
+    c.trailing_ones.result c.max.result c.longest_row.result (rw e at c.loop-i.invariant.1) (zeros_at c.trailing_ones.ensures) c.longest_row.ensures c.max.ensures)
     (longest_says es)
