@@ -4,22 +4,21 @@ use mathlib.Core.Path.{◌≡◌, refl, sym, ap, ◌∙◌}
 use mathlib.Core.Logic.{◌≢◌}
 use mathlib.Core.Bool.{Bool, true, false}
 use mathlib.Core.List.{List}
-use Prim.Native.Nat.{ℕ, ◌+◌, ◌-◌, ◌*◌, ◌/◌, ◌%◌, ◌^◌, ◌≤◌, ◌<◌, min, max}
-use native.Mathlib.Nat.{lt_of_lt_of_le}
+use Prim.Native.Nat.{ℕ, suc, ◌+◌, ◌-◌, ◌*◌, ◌/◌, ◌%◌, ◌^◌, ◌≤◌, ◌<◌, min, max}
+use native.Mathlib.Nat.{lt_of_lt_of_le, pow-succ'}
 use native.Mathlib.Decide.{dec_lt}
 use native.Mathlib.Omega.{arith}
 use lib.Bits.{bit_and, bit_or}
-use lib.Count.{count_leading_zeros}
 use lib.Pow.{pow_mono}
 use borrow.Author.Tests.{eqb-true, eqb-false}
 use Rattle.rules.specs.Tests.{pick}
 use Rattle.rules.specs.Bits.{bit_of}
 use Rattle.rules.specs.Entries.{TAIL}
 use Rattle.rules.specs.Tables.{entry_at, is_tail, start_of}
-use Rattle.laws.proofs.Bits.{two_bits, bit_of_lt, bit_of_zero, bit_of_above, bit_of_and, bit_of_or, bit_of_shr, bit_of_not, bit_of_ones, TopBit, top_bit}
+use Rattle.laws.proofs.Bits.{two_bits, bit_of_lt, bit_of_zero, bit_of_above, bit_of_and, bit_of_or, bit_of_shr, bit_of_not, bit_of_ones, bit_of_top}
 use Rattle.laws.proofs.Tables.{start_says, start_one}
 use Rattle.entries.specs.Groups.{InGroup}
-use Rattle.backscan.specs.Tails.{NonTails, Last, Back}
+use Rattle.backscan.specs.Tails.{NonTails, Back}
 
 -- ---- 64 bits
 
@@ -34,12 +33,22 @@ pub non_tails_are : (es : List ℕ) (i low high : ℕ) → high < 2 ^ 64 → InG
 non_tails_are es i low high h g j l =
     bit_of_or low (ALL - high) j ∙ rw (bit_of_not 64 high j h l, g j l) (tail_bits (bit_of low j) (bit_of high j) (bit_of_lt low j) (bit_of_lt high j))
 
--- the last bit, by the zeros above it
-pub top : (a : ℕ) → 0 < a → a < 2 ^ 64 → TopBit 64 a (count_leading_zeros 64 a)
-top a = top_bit 64 a
+-- bit j is the last that is set
+pub record Last (bits j : ℕ) : Type 0 where
+  pub inside : j < 64
+  pub set : bit_of bits j ≡ 1
+  pub above : (m : ℕ) → j < m → bit_of bits m ≡ 0
 
-pub last_is : (a : ℕ) → 0 < a → a < 2 ^ 64 → Last a (63 - count_leading_zeros 64 a)
-last_is a some h = let t = top a some h in record { inside = omega arith; set = t.set; above = t.above }
+-- by the power of two that it stands for
+pub last_is : {a j : ℕ} → j < 64 → 2 ^ j ≤ a → a < 2 * 2 ^ j → Last a j
+last_is {a} {j} h l u = record {
+  inside = h;
+  set = bit_of_top a j l below;
+  above = λ m n. bit_of_above a m (lt_of_lt_of_le below (pow_mono n));
+}
+  where
+    below : a < 2 ^ suc j
+    below = rw (pow-succ' 2 j) u
 
 -- a block whose bit is clear is TAIL, and one whose bit is set is none
 clear_tail : (e : ℕ) → ◌≡◌ {A = ℕ} (pick (is_tail e) 0 1) 0 → e ≡ TAIL

@@ -10,12 +10,6 @@ use Rattle.rules.specs.Tables.{entry_at, is_tail}
 abbrev pub NonTails : List ℕ → ℕ → ℕ → Type 0
 NonTails es i bits = (j : ℕ) → j < 64 → bit_of bits j ≡ pick (is_tail (entry_at es (64 * i + j))) 0 1
 
--- bit j is the last that is set
-pub record Last (bits j : ℕ) : Type 0 where
-  pub inside : j < 64
-  pub set : bit_of bits j ≡ 1
-  pub above : (m : ℕ) → j < m → bit_of bits m ≡ 0
-
 -- back from block b there are TAILs down to block s, which is none unless it is block 0
 pub record Back (es : List ℕ) (b s : ℕ) : Type 0 where
   pub from : s ≤ b

@@ -1,10 +1,10 @@
 // Back from a block to where its object starts, past TAILs: 64 blocks at a time.
 #![tactic(auto)]
 
-ghost use Rattle.std.specs.Prelude.{◌≡◌, ◌+◌, ◌*◌, ◌<◌, length};
+ghost use Rattle.std.specs.Prelude.{◌≡◌, ◌*◌, ◌<◌, length};
 ghost use Rattle.rules.specs.Tables.{start_of};
 ghost use Rattle.rules.specs.Planes.{entries_in, IsTable};
-ghost use Rattle.backscan.specs.Tails.{NonTails, Last, Back};
+ghost use Rattle.backscan.specs.Tails.{NonTails, Back};
 
 use numbers::Block;
 
@@ -17,25 +17,14 @@ fn non_tails(t: usize, table: &[u8], i: usize) -> u64
     g.low | !g.high
 }
 
-// The last bit that is set, by the zeros above it.
-fn last(bits: u64) -> usize
-    requires { 0 < bits }
-    ensures { Last bits result }
-{
-    63 - u64::leading_zeros(bits) as usize
-}
-
 // Back from block 64 * i past TAILs to the first block that is none, or to block 0.
 fn past_tails(t: usize, table: &[u8], i: usize) -> Block
     requires { IsTable t table.now × (64 * i < length (entries_in t table.now)) }
     ensures { Back (entries_in t table.now) (64 * i) result.0 }
 {
-    let mut at = i;
-    while 0 < at {
-        at -= 1;
-        let found = non_tails(t, table, at);
-        if found != 0 {
-            return Block::first().plus(64 * at + last(found));
+    for at in (0..i).rev() {
+        if let Some(last) = non_tails(t, table, at).checked_ilog2() {
+            return Block::first().plus(64 * at + last as usize);
         }
     }
     Block::first()
@@ -48,9 +37,9 @@ pub fn start(t: usize, table: &[u8], k: Block) -> Block
 {
     let at = k.index();
     let i = at / 64;
-    let here = non_tails(t, table, i) & (0xFFFFFFFFFFFFFFFF >> (63 - at % 64));
-    if here != 0 {
-        return Block::first().plus(64 * i + last(here));
+    let here = non_tails(t, table, i) & (u64::MAX >> (63 - at % 64));
+    match here.checked_ilog2() {
+        Some(last) => Block::first().plus(64 * i + last as usize),
+        None => past_tails(t, table, i),
     }
-    past_tails(t, table, i)
 }

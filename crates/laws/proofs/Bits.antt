@@ -185,7 +185,7 @@ bits_same (suc k) a b ha hb same =
 -- ---- the highest bit that is set, by the zeros above it
 
 -- the bit of a number's highest set digit
-bit_of_top : (a j : ℕ) → 2 ^ j ≤ a → a < 2 ^ suc j → bit_of a j ≡ 1
+pub bit_of_top : (a j : ℕ) → 2 ^ j ≤ a → a < 2 ^ suc j → bit_of a j ≡ 1
 unfolding bit_of
 bit_of_top a j l h =
     let p : 0 < 2 ^ j = one-le-pow j 2 (omega arith) in
