@@ -62,6 +62,9 @@ first_of w a n h some z = go (dec_lt n w)
     go (yes l) = l
     go (no l) = absurd (some (bits_same w a 0 h (omega (arith, one-le-pow w 2 (omega arith))) (λ j m. z.before j (omega arith) ∙ sym (bit_of_zero j))))
 
+pub first_inside : (a : ℕ) → a < 2 ^ 32 → a ≢ 0 → count_trailing_zeros 32 a < 32
+first_inside a h some = first_of 32 a _ h some (zeros_below 32 a)
+
 pub first_lt : (a n : ℕ) → a < 2 ^ 64 → a ≢ 0 → Zeros a n → n < 64
 first_lt = first_of 64
 
@@ -247,6 +250,17 @@ module _ (bits j n : ℕ) (small : bits < 2 ^ 32) (z : ZerosOf 32 (ALL - bits / 
       go : bit_of bits (j + n) ≡ 1 → Dec (n < 32) → ⊥
       go e (yes l) = omega (arith, e, clear n l, z.next l)
       go e (no l) = omega (arith, e, none_above bits (j + n) small (omega arith))
+
+-- it ends with the 32 bits at the latest
+pub row_inside : (bits j n : ℕ) → bits < 2 ^ 32 → j < 32 → WholeRow bits j n → j + n ≤ 32
+row_inside bits j n small few whole = go (dec_lt 32 (j + n))
+  where
+    e : j + (32 - j) ≡ 32
+    e = omega arith
+
+    go : Dec (32 < j + n) → j + n ≤ 32
+    go (yes l) = absurd (omega (arith, rw e at (whole.row (32 - j) (omega arith)), none_above bits 32 small (omega arith)))
+    go (no l) = omega arith
 
 -- the first of the places where a row of n + 1 bits starts: the whole row there is longer than n
 module _ (bits n starts s : ℕ) (small : starts < 2 ^ 32) (some : starts ≢ 0) (r : RowStarts bits 0 (n + 1) starts) (z : ZerosOf 32 starts s) where

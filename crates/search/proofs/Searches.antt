@@ -1,28 +1,26 @@
 -- Where count blocks may start, by the FREE bits of 32 blocks and of the 32 after them, and the search by 32.
 -- Assumes nothing.
 use mathlib.Core.Path.{◌≡◌, refl, sym, ◌∙◌}
-use mathlib.Core.Logic.{◌≢◌, ◌⊎◌, inl, inr, ⊎_elim}
+use mathlib.Core.Logic.{◌≢◌, inl, inr, ⊎_elim}
 use mathlib.Core.Bool.{Bool, true, false}
 use mathlib.Core.List.{List}
-use Prim.Native.Nat.{ℕ, ◌+◌, ◌-◌, ◌*◌, ◌/◌, ◌%◌, ◌^◌, ◌≤◌, ◌<◌, min}
+use Prim.Native.Nat.{ℕ, ◌+◌, ◌-◌, ◌*◌, ◌/◌, ◌%◌, ◌^◌, ◌≤◌, ◌<◌, min, max}
 use native.Mathlib.Decide.{dec_lt}
 use native.Mathlib.Omega.{arith}
 use lib.Bits.{bit_and, bit_or, and_le_l}
-use lib.Dec.{eqb, leb}
+use lib.Dec.{eqb, leb, ltb}
 use lib.ListN.{length, get_or}
-use lib.Pow.{shr_le}
-use borrow.Author.Tests.{eqb-true, eq-eqb, leb-true, le-leb, lt-leb}
+use borrow.Author.Tests.{eqb-true, eq-eqb, leb-true, le-leb, lt-leb, ltb-true, ltb-false}
 use Rattle.rules.specs.Tests.{pick}
 use Rattle.rules.specs.Bits.{bit_of}
 use Rattle.rules.specs.Entries.{FREE, HEAD}
 use Rattle.rules.specs.Tables.{entry_at}
 use Rattle.laws.specs.Meaning.{Aligned, Run, Fits}
-use Rattle.laws.proofs.Refusals.{true_not_false}
 use Rattle.laws.proofs.Below.{equal_below}
-use Rattle.laws.proofs.Bits.{bit_of_lt, bit_of_zero, bit_of_and, bit_of_shr, bit_of_shl, bit_of_below, bit_of_ones, bit_of_mod, bit_of_not}
-use Rattle.freeruns.specs.Rows.{FreeIn, ZerosOf, RowStarts}
+use Rattle.laws.proofs.Bits.{bit_of_lt, bit_of_zero, bit_of_and, bit_of_shr, bit_of_shl, bit_of_below, bit_of_ones, bit_of_mod}
+use Rattle.freeruns.specs.Rows.{FreeIn, ZerosOf, RowStarts, WholeRow}
 use Rattle.search.specs.Starts.{NoStart, AllSet, NoneSet, Starts, Next, FreeFor}
-use Rattle.freeruns.proofs.Rows.{ALL, low_bit, high_bit, turned_bit, first_of, set_lt}
+use Rattle.freeruns.proofs.Rows.{ALL, low_bit, high_bit, turned_bit, row_inside}
 use Rattle.freeruns.proofs.Frees.{inside, free_run, run_free, bit_free, free_bit}
 
 -- ---- aligned blocks with four FREE ones
@@ -189,8 +187,8 @@ passed_on es b i at free next p few read none = record {
         (λ d s room. at_d q l (omega arith) (omega arith) f d s room (dec_lt (q + 32 - 32 * at + d) 32))
 
 -- the search may go on at the word before
-pub passed_to : (es : List ℕ) (b i at free r : ℕ) → Passed es b i at free → i ≤ r → (r ≡ i) ⊎ (r + 1 ≡ at) → NoStart es b (32 * i) (32 * r)
-passed_to es b i at free r p h one_of_lem q l m f = ⊎_elim (λ e. omega (arith, e)) (λ e. p.none q l (omega (arith, e)) f) one_of_lem
+pub passed_to : (es : List ℕ) (b i at free r : ℕ) → Passed es b i at free → r ≤ max i (at - 1) → NoStart es b (32 * i) (32 * r)
+passed_to es b i at free r p h q l m f = p.none q l (omega arith) f
 
 -- ---- the search
 
@@ -239,8 +237,8 @@ free_masked es s i bits mask holds onward = record {
     reach j false e z = absurd (omega arith)
 
 -- such a mask
-pub mask_from : (s i : ℕ) → 32 * i < s → (j : ℕ) → j < 32 → bit_of (ALL * 2 ^ (s - 32 * i) % 2 ^ 32) j ≡ pick (leb s (32 * i + j)) 1 0
-mask_from s i h j l = go (dec_lt j (s - 32 * i))
+pub mask_from : (s i j : ℕ) → j < 32 → bit_of (ALL * 2 ^ (s - 32 * i) % 2 ^ 32) j ≡ pick (leb s (32 * i + j)) 1 0
+mask_from s i j l = go (dec_lt j (s - 32 * i))
   where
     cut : bit_of (ALL * 2 ^ (s - 32 * i) % 2 ^ 32) j ≡ bit_of (ALL * 2 ^ (s - 32 * i)) j
     cut = bit_of_mod (ALL * 2 ^ (s - 32 * i)) 32 j l
@@ -250,9 +248,6 @@ mask_from s i h j l = go (dec_lt j (s - 32 * i))
     go (no m) =
         let e : s - 32 * i + (j - (s - 32 * i)) ≡ j = omega arith in
         rw (le-leb s (32 * i + j) (omega arith)) (cut ∙ rw e at (bit_of_shl ALL (s - 32 * i) (j - (s - 32 * i))) ∙ bit_of_ones 32 (j - (s - 32 * i)) (omega arith))
-
-pub mask_all : (s i : ℕ) → s ≤ 32 * i → (j : ℕ) → j < 32 → bit_of ALL j ≡ pick (leb s (32 * i + j)) 1 0
-mask_all s i h j l = rw (le-leb s (32 * i + j) (omega arith)) (bit_of_ones 32 j l)
 
 -- a turn of it
 module _ (es : List ℕ) (b s i bits mask next r : ℕ) (few : bits < 2 ^ 32) (none : NoStart es b s (32 * i)) (holds : FreeIn es i bits)
@@ -315,46 +310,23 @@ end_next es b s i room past none = record {
 
 -- ---- how many are FREE from a block on
 
-module _ (es : List ℕ) (k bits : ℕ) (small : bits < 2 ^ 32) (holds : FreeIn es (k / 32) bits) (room : k < length es) where
-  -- a bit for each used block, from block k's on
-  abbrev used : ℕ
-  used = (ALL - bits) / 2 ^ (k % 32)
-
-  used_bit : (d : ℕ) → k % 32 + d < 32 → bit_of used d ≡ 1 - bit_of bits (k % 32 + d)
-  used_bit d l = bit_of_shr (ALL - bits) (k % 32) d ∙ bit_of_not 32 bits (k % 32 + d) small l
-
-  -- those before a set bit are FREE
-  run_to : (n : ℕ) → k % 32 + n ≤ 32 → ((d : ℕ) → d < n → bit_of used d ≡ 0) → (d : ℕ) → d < n → get_or es (k + d) HEAD ≡ FREE
-  run_to n h none d l =
-      let e : 32 * (k / 32) + (k % 32 + d) ≡ k + d = omega arith in
-      rw e at
-      (bit_free es (k / 32) bits holds (k % 32 + d) (omega arith) (omega (arith, used_bit d (omega arith), none d l, bit_of_lt bits (k % 32 + d))))
-
-  -- all the 32 blocks
-  pub free_to_end : used ≡ 0 → FreeFor es k (32 - k % 32) false
-  free_to_end z = record {
-    run = free_run es (32 - k % 32) k (omega arith) (run_to (32 - k % 32) (omega arith) (λ d _. rw z (bit_of_zero d)));
-    next = λ e. absurd (true_not_false e refl);
-    more = λ _. omega arith;
-  }
-
-  -- as far as the first that is used
-  pub free_to_used : (n : ℕ) → used ≢ 0 → ZerosOf 32 used n → FreeFor es k n true
-  free_to_used n some z = record {
+-- as far as the row of their bits goes: a used block comes next if it stops before the last bit
+module _ (es : List ℕ) (k bits n : ℕ) (small : bits < 2 ^ 32) (holds : FreeIn es (k / 32) bits) (room : k < length es) (row : WholeRow bits (k % 32) n) where
+  pub free_ahead : FreeFor es k n (ltb (k % 32 + n) 32)
+  free_ahead = record {
     run = run (dec_lt 0 n);
-    next = λ _ free. omega (arith, set, used_bit n few, free_bit es (k / 32) bits holds (k % 32 + n) few (rw e free));
-    more = λ e. absurd (true_not_false refl e);
+    next = λ e free. row.next (free_bit es (k / 32) bits holds (k % 32 + n) (ltb-true _ _ e) (rw at_n free));
+    more = λ e. omega (arith, ltb-false (k % 32 + n) 32 e);
   }
     where
-      set : bit_of used n ≡ 1
-      set = z.next (first_of 32 used n (omega (arith, shr_le (ALL - bits) (k % 32))) some z)
+      at_n : 32 * (k / 32) + (k % 32 + n) ≡ k + n
+      at_n = omega arith
 
-      few : k % 32 + n < 32
-      few = set_lt (ALL - bits) (k % 32 + n) (omega arith) (λ e. omega (arith, e, bit_of_shr (ALL - bits) (k % 32) n, set))
-
-      e : 32 * (k / 32) + (k % 32 + n) ≡ k + n
-      e = omega arith
+      free : (d : ℕ) → d < n → get_or es (k + d) HEAD ≡ FREE
+      free d l =
+          let e : 32 * (k / 32) + (k % 32 + d) ≡ k + d = omega arith in
+          rw e at (bit_free es (k / 32) bits holds (k % 32 + d) (omega (arith, row_inside bits (k % 32) n small (omega arith) row)) (row.row d l))
 
       run : Dec (0 < n) → Run es n k
-      run (yes m) = free_run es n k m (run_to n (omega (arith, few)) z.before)
+      run (yes m) = free_run es n k m free
       run (no m) = record { room = omega arith; free = λ j l. absurd (omega arith) }

@@ -2,7 +2,7 @@
 // not start are passed in a loop that does little else.
 #![tactic(auto)]
 
-ghost use Rattle.std.specs.Prelude.{◌≡◌, false, ◌⊎◌, ℕ, ◌+◌, ◌*◌, ◌≤◌, ◌<◌, leb, length};
+ghost use Rattle.std.specs.Prelude.{◌≡◌, false, ℕ, ◌+◌, ◌-◌, ◌*◌, ◌≤◌, ◌<◌, max, leb, length};
 ghost use Rattle.rules.specs.Tests.{pick};
 ghost use Rattle.rules.specs.Bits.{bit_of};
 ghost use Rattle.rules.specs.Planes.{entries_in, IsTable};
@@ -56,12 +56,9 @@ fn may_start(free: u32, next: u32, count: usize) -> bool
 
 // The word before word `at`, but none before word i.
 fn word_before(i: usize, at: usize) -> usize
-    ensures { (i ≤ result) × ((result ≡ i) ⊎ (result + 1 ≡ at)) }
+    ensures { result ≡ max i (at - 1) }
 {
-    if i < at {
-        return at - 1;
-    }
-    i
+    i.max(at.saturating_sub(1))
 }
 
 // Where the search from block 32 * i on may begin: at block 32 * r, before which count blocks may start nowhere.
@@ -74,28 +71,23 @@ fn pass(t: usize, table: &[u8], i: usize, count: usize) -> usize
     let highs = &table[half..2 * half];
     let words = half / 4;
     let mut free: u32 = 0;
-    let mut at = i;
-    while at < words {
+    for at in i..words {
         let next = !(entries::word_at(lows, at) | entries::word_at(highs, at));
         if may_start(free, next, count) {
             return word_before(i, at);
         }
         free = next;
-        at += 1;
     }
-    word_before(i, at)
+    word_before(i, words)
 }
 
-// A bit for each of the 32 blocks from block 32 * at on that is not before block `from`.
+// A bit for each of the 32 blocks from block 32 * at on that is not before block `from`. That of a byte, in
+// `entries`, is as short: a trait for both would be longer.
 fn bits_from(at: usize, from: usize) -> u32
     requires { (at ≤ 128) × (from < 32 * at + 32) }
     ensures { (j : ℕ) → j < 32 → bit_of result j ≡ pick (leb from (32 * at + j)) 1 0 }
 {
-    let first = 32 * at;
-    if first < from {
-        return 0xFFFFFFFF << (from - first);
-    }
-    0xFFFFFFFF
+    u32::MAX << from.saturating_sub(32 * at)
 }
 
 // The first block from `from` on at which count blocks may start, or the end of the table.
@@ -105,12 +97,13 @@ pub fn next(t: usize, table: &[u8], from: Block, count: usize) -> Block
 {
     let n = entries::blocks(t);
     let first = from.index();
+    // No range counts these words: `pass` says which is the next.
     let mut at = pass(t, table, first / 32, count);
     while 32 * at < n {
         let free = freeruns::free_or_end(t, table, at) & bits_from(at, first);
         let found = starts(free, freeruns::free_or_end(t, table, at + 1), count);
         if found != 0 {
-            return Block::first().plus(32 * at + freeruns::first_of_32(found));
+            return Block::first().plus(32 * at + found.trailing_zeros() as usize);
         }
         at = pass(t, table, at + 1, count);
     }
@@ -118,6 +111,7 @@ pub fn next(t: usize, table: &[u8], from: Block, count: usize) -> Block
 }
 
 // How many blocks are FREE from a block on, as far as 32 blocks go of which it is one, and whether a used block or the table's end comes directly after them.
+// No Option holds the two: `free` counts also where they have ended.
 #[derive(Clone, Copy)]
 pub struct Ahead {
     pub free: usize,
@@ -129,15 +123,10 @@ pub fn free_from(t: usize, table: &[u8], k: Block) -> Ahead
     ensures { FreeFor (entries_in t table.now) k.0 result.free result.ended }
 {
     let at = k.index();
-    let used = !freeruns::free_or_end(t, table, at / 32) >> (at % 32);
-    if used == 0 {
-        return Ahead {
-            free: 32 - at % 32,
-            ended: false,
-        };
-    }
+    let j = at % 32;
+    let free = freeruns::row_from(freeruns::free_or_end(t, table, at / 32), j);
     Ahead {
-        free: freeruns::first_of_32(used),
-        ended: true,
+        free,
+        ended: j + free < 32,
     }
 }

@@ -1,17 +1,23 @@
 -- `next`: before the word in hand the blocks may start nowhere, so the first bit that is found in it is the next start.
 -- Assumes nothing.
 use mathlib.Core.Path.{◌≡◌, subst}
+use mathlib.Core.List.{List}
 use Prim.Native.Nat.{ℕ, ◌+◌, ◌*◌, ◌<◌}
 use native.Mathlib.Omega.{arith}
+use lib.Count.{count_trailing_zeros}
 use lib.ListN.{length}
 use borrow.Author.Rules.{rules}
-use Rattle.rules.specs.Planes.{entries_in}
+use Rattle.rules.specs.Planes.{entries_in, IsTable}
 use Rattle.laws.proofs.Planes.{few_entries}
 use Rattle.laws.proofs.Widths.{in_32_bits}
-use Rattle.freeruns.proofs.Rows.{first_of}
+use Rattle.freeruns.proofs.Rows.{zeros_below, first_inside}
 use Rattle.search.specs.Starts.{Next}
 use Rattle.search.proofs.Searches.{no_start_join, found_next, none_here, end_next}
 use Rattle.search.proofs.next.Goals as goal
+
+-- a word that does not begin behind the table's end is one of 128
+word_inside : (t : ℕ) (table : List ℕ) → IsTable t table → {n at : ℕ} → n ≡ length (entries_in t table) → 32 * at < n → at < 128
+word_inside t table known e l = omega (arith, few_entries t table known)
 
 pub pass-at-requires : goal.pass-at-requires
 pass-at-requires c =
@@ -25,8 +31,7 @@ overflow_mul-at c = in_32_bits (search rules)
 
 pub free_or_end-requires : goal.free_or_end-requires
 free_or_end-requires c =
-    let more : c.loop-at.at < 128 =
-    omega (arith, c.loop-at-test.true, c.blocks-n.ensures c.args.table.now, few_entries c.args.t c.args.table.now c.requires.0) in
+    let more = word_inside c.args.t c.args.table.now c.requires.0 (c.blocks-n.ensures c.args.table.now) c.loop-at-test.true in
     (c.requires.0, omega (arith, more))
 
 pub overflow_add-at : goal.overflow_add-at
@@ -34,8 +39,7 @@ overflow_add-at c = in_32_bits (search rules)
 
 pub free_or_end-requires-in-loop-at : goal.free_or_end-requires-in-loop-at
 free_or_end-requires-in-loop-at c =
-    let more : c.loop-at.at < 128 =
-    omega (arith, c.loop-at-test.true, c.blocks-n.ensures c.args.table.now, few_entries c.args.t c.args.table.now c.requires.0) in
+    let more = word_inside c.args.t c.args.table.now c.requires.0 (c.blocks-n.ensures c.args.table.now) c.loop-at-test.true in
     (c.requires.0, omega (arith, more))
 
 pub overflow_mul-at-then-found-ne0 : goal.overflow_mul-at-then-found-ne0
@@ -43,46 +47,42 @@ overflow_mul-at-then-found-ne0 c = in_32_bits (search rules)
 
 pub overflow_add-at-then-found-ne0 : goal.overflow_add-at-then-found-ne0
 overflow_add-at-then-found-ne0 c =
-    let more : c.loop-at.at < 128 =
-    omega (arith, c.loop-at-test.true, c.blocks-n.ensures c.args.table.now, few_entries c.args.t c.args.table.now c.requires.0) in
-    let few : c.first_of_32.result < 32 = first_of 32 c.starts-found.result c.first_of_32.result (omega arith) c.if-found-ne0.true c.first_of_32.ensures in
+    let more = word_inside c.args.t c.args.table.now c.requires.0 (c.blocks-n.ensures c.args.table.now) c.loop-at-test.true in
+    let few = first_inside c.starts-found.result (omega arith) c.if-found-ne0.true in
     in_32_bits (record { fits = omega (arith, few, more) })
 
 pub plus-requires : goal.plus-requires
 plus-requires c =
-    let more : c.loop-at.at < 128 =
-    omega (arith, c.loop-at-test.true, c.blocks-n.ensures c.args.table.now, few_entries c.args.t c.args.table.now c.requires.0) in
-    let few : c.first_of_32.result < 32 = first_of 32 c.starts-found.result c.first_of_32.result (omega arith) c.if-found-ne0.true c.first_of_32.ensures in
+    let more = word_inside c.args.t c.args.table.now c.requires.0 (c.blocks-n.ensures c.args.table.now) c.loop-at-test.true in
+    let few = first_inside c.starts-found.result (omega arith) c.if-found-ne0.true in
     omega (arith, few, more, c.first.ensures)
 
 pub returns-then-found-ne0 : goal.returns-then-found-ne0
 returns-then-found-ne0 c =
-    let few : c.first_of_32.result < 32 = first_of 32 c.starts-found.result c.first_of_32.result (omega arith) c.if-found-ne0.true c.first_of_32.ensures in
+    let few = first_inside c.starts-found.result (omega arith) c.if-found-ne0.true in
     let es = entries_in c.args.t c.args.table.now in
     let k = c.index-first in
     let bits = c.free_or_end in
     let mask = c.bits_from in
     let after = c.free_or_end-in-loop-at in
-    let n = c.first_of_32 in
-    let e : c.plus.result.0 ≡ 32 * c.loop-at.at + n.result = omega (arith, c.plus.ensures, c.first.ensures) in
+    let n = count_trailing_zeros 32 c.starts-found.result in
+    let e : c.plus.result.0 ≡ 32 * c.loop-at.at + n = omega (arith, c.plus.ensures, c.first.ensures) in
     subst (λ (x : ℕ). Next es c.args.count x c.plus.result.0) k.ensures
     (rw e
     (found_next es c.args.count k.result c.loop-at.at bits.result mask.result after.result c.starts-found.result (omega arith) c.loop-at.invariant.1.1 bits.ensures mask.ensures after.ensures c.starts-found.ensures
-    n.result few n.ensures))
+    n few (zeros_below 32 c.starts-found.result)))
 
 pub overflow_add-at-in-loop-at : goal.overflow_add-at-in-loop-at
 overflow_add-at-in-loop-at c = in_32_bits (search rules)
 
 pub pass-at-requires-in-loop-at : goal.pass-at-requires-in-loop-at
 pass-at-requires-in-loop-at c =
-    let more : c.loop-at.at < 128 =
-    omega (arith, c.loop-at-test.true, c.blocks-n.ensures c.args.table.now, few_entries c.args.t c.args.table.now c.requires.0) in
+    let more = word_inside c.args.t c.args.table.now c.requires.0 (c.blocks-n.ensures c.args.table.now) c.loop-at-test.true in
     (c.requires.0, (omega (arith, more), c.requires.1.1))
 
 pub loop-at-smaller : goal.loop-at-smaller
 loop-at-smaller c =
-    let more : c.loop-at.at < 128 =
-    omega (arith, c.loop-at-test.true, c.blocks-n.ensures c.args.table.now, few_entries c.args.t c.args.table.now c.requires.0) in
+    let more = word_inside c.args.t c.args.table.now c.requires.0 (c.blocks-n.ensures c.args.table.now) c.loop-at-test.true in
     omega (arith, more, c.pass-at-in-loop-at.ensures.0)
 
 pub loop-at-preserved : goal.loop-at-preserved

@@ -1,10 +1,7 @@
 -- `pass`: what is known where the search begins is known at every word, with that word's bits in hand.
 -- Assumes nothing.
-use mathlib.Core.Path.{◌≡◌}
-use mathlib.Core.Logic.{◌⊎◌, ⊎_elim}
-use Prim.Native.Nat.{ℕ, ◌+◌, ◌-◌, ◌*◌, ◌≤◌}
+use Prim.Native.Nat.{◌-◌, ◌*◌}
 use native.Mathlib.Omega.{arith}
-use borrow.Author.Rules.{rules}
 use borrow.Rule.Slice.PartMut.{mid_of}
 use Rattle.rules.specs.Planes.{entries_in}
 use Rattle.laws.proofs.Planes.{room_entries}
@@ -13,10 +10,6 @@ use Rattle.entries.proofs.Cut.{held_in_planes, in_words}
 use Rattle.freeruns.proofs.Frees.{word_free}
 use Rattle.search.proofs.Searches.{passed_first, passed_on, passed_to}
 use Rattle.search.proofs.pass.Goals as goal
-
--- the answer is one of at most 128 words
-few : (i at r : ℕ) → i ≤ 128 → at ≤ 128 → (r ≡ i) ⊎ (r + 1 ≡ at) → r ≤ 128
-few i at r h l = ⊎_elim (λ e. omega (arith, e)) (λ e. omega (arith, e))
 
 pub overflow_mul-highs : goal.overflow_mul-highs
 overflow_mul-highs c = in_32_bits (record { fits = omega (arith, c.plane_bytes-half.ensures, c.requires.0.sized.few, (room_entries c.args.t).1) })
@@ -27,10 +20,7 @@ loop-at-init c = (c.requires.1.0, passed_first (entries_in c.args.t c.args.table
 pub returns-then-may_start : goal.returns-then-may_start
 returns-then-may_start c =
     let r = c.word_before in
-    (r.ensures.0, (few c.args.i c.loop-at.at r.result c.requires.1.0 c.loop-at.invariant.0 r.ensures.1, passed_to _ _ c.args.i c.loop-at.at c.loop-at.free r.result c.loop-at.invariant.1 r.ensures.0 r.ensures.1))
-
-pub overflow_add-at : goal.overflow_add-at
-overflow_add-at c = in_32_bits (search rules)
+    (omega arith, (omega (arith, c.loop-at.invariant.0, c.requires.1.0), passed_to _ _ c.args.i c.loop-at.at c.loop-at.free r.result c.loop-at.invariant.1 (omega arith)))
 
 pub loop-at-preserved : goal.loop-at-preserved
 loop-at-preserved c =
@@ -48,4 +38,4 @@ loop-at-preserved c =
 pub returns : goal.returns
 returns c =
     let r = c.word_before-2 in
-    (r.ensures.0, (few c.args.i c.loop-at.at r.result c.requires.1.0 c.loop-at.invariant.0 r.ensures.1, passed_to _ _ c.args.i c.loop-at.at c.loop-at.free r.result c.loop-at.invariant.1 r.ensures.0 r.ensures.1))
+    (omega arith, (omega (arith, c.loop-at.invariant.0, c.requires.1.0), passed_to _ _ c.args.i c.loop-at.at c.loop-at.free r.result c.loop-at.invariant.1 (omega arith)))
