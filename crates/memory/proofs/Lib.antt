@@ -1,3 +1,4 @@
+pub mod Conversions
 pub mod Parts
 pub mod Reading
 pub mod Writing

@@ -11,17 +11,11 @@ ghost use Rattle.memory.specs.Bits.{BitsFrom};
 
 use numbers::Bytes;
 
-fn wide(b: u8) -> u32
-    ensures { result ≡ b }
-{
-    b as u32
-}
-
 // The number in four bytes, the first the lowest.
 fn from_le_bytes(a: u8, b: u8, c: u8, d: u8) -> u32
     ensures { result ≡ number a b c d }
 {
-    wide(a) + 256 * wide(b) + 65536 * wide(c) + 16777216 * wide(d)
+    u32::from_le_bytes([a, b, c, d])
 }
 
 // Word i of the bytes.
@@ -30,9 +24,8 @@ pub fn word(bytes: &[u8], i: usize) -> u32
     ensures { result ≡ word_at bytes.now i }
 {
     let at = 4 * i;
-    let end = at + 4;
-    let part = &bytes[at..end];
-    from_le_bytes(part[0], part[1], part[2], part[3])
+    let part = &bytes[at..at + 4];
+    u32::from_le_bytes([part[0], part[1], part[2], part[3]])
 }
 
 // The number in the two bytes from `at` on, the first the lowest.
@@ -40,7 +33,7 @@ pub fn two_bytes(bytes: &[u8], at: usize) -> usize
     requires { at + 2 ≤ length bytes.now }
     ensures { result ≡ first_two (drop at bytes.now) }
 {
-    from_le_bytes(bytes[at], bytes[at + 1], 0, 0) as usize
+    usize::from(u16::from_le_bytes([bytes[at], bytes[at + 1]]))
 }
 
 // The two bytes from `at` on become the two lowest of n, the lowest first.
@@ -48,10 +41,8 @@ pub fn set_two_bytes(bytes: &mut [u8], at: usize, n: usize)
     requires { at + 2 ≤ length bytes.old }
     ensures { bytes.new ≡ sets bytes.old at (two_bytes_of n) }
 {
-    let end = at + 2;
-    let part = &mut bytes[at..end];
-    part[0] = (n % 256) as u8;
-    part[1] = (n / 256 % 256) as u8;
+    let low = (n % 65536) as u16;
+    bytes[at..at + 2].copy_from_slice(&low.to_le_bytes());
 }
 
 // The four bytes from `at` on become those of w, the lowest first.
@@ -59,12 +50,7 @@ pub fn set_four_bytes(bytes: &mut [u8], at: usize, w: u32)
     requires { at + 4 ≤ length bytes.old }
     ensures { bytes.new ≡ sets bytes.old at (bytes_of w) }
 {
-    let end = at + 4;
-    let part = &mut bytes[at..end];
-    part[0] = (w % 256) as u8;
-    part[1] = (w / 256 % 256) as u8;
-    part[2] = (w / 65536 % 256) as u8;
-    part[3] = (w / 16777216 % 256) as u8;
+    bytes[at..at + 4].copy_from_slice(&w.to_le_bytes());
 }
 
 // w becomes word i.
@@ -171,11 +157,7 @@ pub fn last_bits<W: FromBytes>(bytes: &[u8], at: usize) -> W
 pub fn clear(part: &mut [u8])
     ensures { part.new ≡ replicate (length part.old) 0 }
 {
-    let mut i = 0;
-    while i < part.len() {
-        part[i] = 0;
-        i += 1;
-    }
+    part.fill(0);
 }
 
 // The pool's bytes from start to end become zero.
@@ -183,12 +165,11 @@ pub fn clear_part(pool: &mut [u8], start: Bytes, end: Bytes)
     requires { (start.0 ≤ end.0) × (end.0 ≤ length pool.old) }
     ensures { pool.new ≡ sets pool.old start.0 (replicate (end.0 - start.0) 0) }
 {
-    let from = start.index();
-    let to = end.index();
-    clear(&mut pool[from..to]);
+    pool[start.index()..end.index()].fill(0);
 }
 
 // The count bytes from `from` on are copied to `to`. The two parts do not overlap.
+// Byte by byte: `copy_within` would be a call of `memmove`, and the library calls nothing but `memset`.
 pub fn copy(pool: &mut [u8], from: Bytes, to: Bytes, count: Bytes)
     requires count_in_bounds { (from.0 + count.0 ≤ length pool.old) × (to.0 + count.0 ≤ length pool.old) }
     requires apart { (from.0 + count.0 ≤ to.0) ⊎ (to.0 + count.0 ≤ from.0) }
@@ -196,22 +177,18 @@ pub fn copy(pool: &mut [u8], from: Bytes, to: Bytes, count: Bytes)
 {
     let source = from.index();
     let target = to.index();
-    let n = count.index();
-    let mut i = 0;
-    while i < n {
+    for i in 0..count.index() {
         pool[target + i] = pool[source + i];
-        i += 1;
     }
 }
 
 // The bytes from `at` on become those of the part.
+// Byte by byte: `copy_from_slice` would be a call of `memcpy`, and the library calls nothing but `memset`.
 pub fn set_part(bytes: &mut [u8], at: usize, part: &[u8])
     requires { at + length part.now ≤ length bytes.old }
     ensures { bytes.new ≡ sets bytes.old at part.now }
 {
-    let mut i = 0;
-    while i < part.len() {
-        bytes[at + i] = part[i];
-        i += 1;
+    for (i, byte) in part.iter().enumerate() {
+        bytes[at + i] = *byte;
     }
 }

@@ -18,6 +18,6 @@ cleared pool part a n room zero =
 
 pub returns : goal.returns
 returns c =
-    let to = c.index-to in
-    let from = c.index-from in
-    rw (← from.ensures, ← to.ensures) (cleared _ _ from.result (to.result - from.result) (omega arith) c.clear.ensures)
+    let from = c.index in
+    let to = c.index-2 in
+    rw (← from.ensures, ← to.ensures) (cleared _ _ from.result (to.result - from.result) (omega arith) (c.fill.ensures.after (λ y e. e)))

@@ -1,12 +1,12 @@
 -- `copy`: after i turns the first i bytes are stored at the target. The byte read next is still the one at the start, because the parts do not overlap.
 -- Assumes nothing.
-use mathlib.Core.Path.{◌≡◌, refl}
+use mathlib.Core.Path.{◌≡◌}
 use mathlib.Core.Logic.{◌⊎◌, ⊎_elim}
 use mathlib.Core.List.{List}
 use Prim.Native.Nat.{ℕ, ◌+◌, ◌≤◌, ◌<◌}
 use native.Mathlib.Numerals.{add-one}
 use native.Mathlib.Omega.{arith}
-use lib.ListN.{length, get_or, set, take, drop, length-set, length-drop}
+use lib.ListN.{length, get_or, set, take, drop, length-drop}
 use lib.Seq.{take-suc, get_or-drop, length-take-le}
 use borrow.Author.Rules.{rules}
 use Rattle.laws.proofs.Lists.{sets_before, sets_after, sets_snoc}
@@ -31,32 +31,22 @@ module _ (p : List ℕ) (from to n i : ℕ) (h : i < n) (in_from : from + n ≤ 
       let l : i < length (drop from p) = simp length-drop (omega arith) in
       rw (source_stays, add-one i, take-suc (drop from p) i 0 l, sets_snoc p to (take i (drop from p)) (get_or (drop from p) i 0), long, get_or-drop from p i 0)
 
-pub loop-i-init : goal.loop-i-init
-loop-i-init c = (search rules, (search rules, refl))
-
 pub overflow_add-pool : goal.overflow_add-pool
 overflow_add-pool c = in_slice c.args.pool.now (search rules) (search rules)
 
 pub overflow_add-pool-in-loop-i : goal.overflow_add-pool-in-loop-i
 overflow_add-pool-in-loop-i c = in_slice c.args.pool.now (search rules) (search rules)
 
-pub overflow_add-i : goal.overflow_add-i
-overflow_add-i c = in_slice c.args.pool.now (search rules) (search rules)
-
 pub loop-i-preserved : goal.loop-i-preserved
 loop-i-preserved c =
-    let count = c.index-n in
+    let count = c.index-i-end in
     let to = c.index-target in
     let from = c.index-source in
     let apart = rw (← from.ensures, ← to.ensures, ← count.ensures) at c.requires.apart in
-    let l = c.loop-i in
-    let inv = l.invariant in
-    (omega arith, (simp length-set inv.1.0, rw inv.1.1 (turn c.args.pool.now from.result to.result count.result l.i (omega arith) (omega arith) apart)))
+    rw c.loop-i.invariant (turn c.args.pool.now from.result to.result count.result c.loop-i.i (omega arith) (omega arith) apart)
 
 pub returns : goal.returns
 returns c =
-    let count = c.index-n in
-    let to = c.index-target in
-    let from = c.index-source in
+    let count = c.index-i-end in
     let e : c.loop-i.i ≡ count.result = omega arith in
-    rw (e, from.ensures, to.ensures, count.ensures) at c.loop-i.invariant.1.1
+    rw (e, c.index-source.ensures, c.index-target.ensures, count.ensures) at c.loop-i.invariant

@@ -2,8 +2,8 @@
 -- Assumes nothing.
 use mathlib.Core.Path.{◌≡◌}
 use mathlib.Core.List.{List}
-use Prim.Native.Nat.{ℕ, ◌-◌, ◌≤◌}
-use lib.ListN.{length, take, drop}
+use Prim.Native.Nat.{ℕ}
+use lib.ListN.{take, drop}
 use lib.Seq.{sets}
 use Rattle.memory.proofs.copy.Given as goal
 
@@ -12,7 +12,4 @@ abbrev pub copied : List ℕ → ℕ → ℕ → ℕ → List ℕ
 copied p from to i = sets p to (take i (drop from p))
 
 abbrev pub invariant-loop-i : goal.invariant-loop-i
-invariant-loop-i l = (l.i ≤ l.n) × ((length l.pool ≡ length l.initial.pool) × (l.pool ≡ copied l.initial.pool l.source l.target l.i))
-
-abbrev pub decreases-loop-i : goal.decreases-loop-i
-decreases-loop-i l = l.n - l.i
+invariant-loop-i l = l.pool ≡ copied l.initial.pool l.source l.target l.i

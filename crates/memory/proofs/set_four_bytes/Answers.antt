@@ -1,28 +1,20 @@
--- `set_four_bytes` stores the rule's four bytes, lowest byte first, in one part.
+-- `set_four_bytes` stores the rule's four bytes, in one part.
 -- Assumes nothing.
+use mathlib.Core.Path.{◌∙◌}
 use Prim.Native.Nat.{◌+◌, ◌-◌}
 use native.Mathlib.Omega.{arith}
-use lib.ListN.{length-set}
 use borrow.Author.Rules.{rules}
 use Rattle.rules.specs.Words.{bytes_of}
 use Rattle.laws.proofs.Widths.{in_slice}
-use Rattle.memory.proofs.Parts.{part_filled}
+use Rattle.memory.proofs.Conversions.{bytes_written}
+use Rattle.memory.proofs.Parts.{part_back}
 use Rattle.memory.proofs.set_four_bytes.Goals as goal
 
-pub overflow_add-end : goal.overflow_add-end
-overflow_add-end c = in_slice c.args.bytes.now (search rules) (search rules)
-
-pub bounds-part-1 : goal.bounds-part-1
-bounds-part-1 c = simp length-set (search rules)
-
-pub bounds-part-2 : goal.bounds-part-2
-bounds-part-2 c = simp length-set (search rules)
-
-pub bounds-part-3 : goal.bounds-part-3
-bounds-part-3 c = simp length-set (search rules)
+pub overflow_add-at : goal.overflow_add-at
+overflow_add-at c = in_slice c.args.bytes.now (search rules) (search rules)
 
 pub returns : goal.returns
 unfolding bytes_of
 returns c =
     let a = c.args in
-    part_filled a.bytes.now a.at (a.at + 4 - a.at) (omega arith) (bytes_of a.w) (omega arith)
+    rw (c.copy_from_slice.ensures.after ∙ c.to_le_bytes.ensures ∙ bytes_written a.w) (part_back a.bytes.now a.at (a.at + 4 - a.at) (omega arith) (bytes_of a.w) (omega arith))

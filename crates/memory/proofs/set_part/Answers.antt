@@ -4,7 +4,7 @@ use mathlib.Core.Path.{◌≡◌, refl, ◌∙◌}
 use mathlib.Core.List.{List}
 use Prim.Native.Nat.{ℕ, suc, ◌+◌, ◌<◌}
 use native.Mathlib.Omega.{arith}
-use lib.ListN.{length, get_or, set, drop, length-set}
+use lib.ListN.{length, get_or, set, drop}
 use lib.Seq.{sets, drop-cons, drop-length}
 use borrow.Author.Rules.{rules}
 use Rattle.laws.proofs.Widths.{in_slice}
@@ -21,22 +21,18 @@ turn bytes at part i h =
 pub loop-i-init : goal.loop-i-init
 loop-i-init c =
     let e : c.args.at + 0 ≡ c.args.at = omega arith in
-    (search rules, search rules, rw e refl)
+    rw e refl
 
 pub overflow_add-bytes : goal.overflow_add-bytes
 overflow_add-bytes c = in_slice c.args.bytes.now (search rules) (search rules)
 
-pub overflow_add-i : goal.overflow_add-i
-overflow_add-i c = in_slice c.args.part.now (search rules) (search rules)
-
 pub loop-i-preserved : goal.loop-i-preserved
 loop-i-preserved c =
-    let a = c.args in
     let l = c.loop-i in
-    (omega arith, simp length-set l.invariant.1, turn l.bytes a.at a.part.now l.i (omega arith) ∙ l.invariant.2)
+    turn l.bytes c.args.at c.args.part.now l.i (omega arith) ∙ l.invariant
 
 pub returns : goal.returns
 returns c =
     let p = c.args.part.now in
     let e : c.loop-i.i ≡ length p = omega arith in
-    rw (e, drop-length p) at c.loop-i.invariant.2
+    rw (e, drop-length p) at c.loop-i.invariant

@@ -9,6 +9,7 @@ use borrow.Author.Rules.{rules}
 use borrow.Rule.Slice.PartMut.{mid_of}
 use Rattle.rules.specs.Words.{number, word_at}
 use Rattle.laws.proofs.Widths.{in_slice}
+use Rattle.memory.proofs.Conversions.{number_read}
 use Rattle.memory.proofs.Parts.{part_at}
 use Rattle.memory.proofs.word.Goals as goal
 
@@ -26,10 +27,10 @@ four_bytes bytes i =
 pub overflow_mul-at : goal.overflow_mul-at
 overflow_mul-at c = in_slice c.args.bytes.now (search rules) (search rules)
 
-pub overflow_add-end : goal.overflow_add-end
-overflow_add-end c = in_slice c.args.bytes.now (search rules) (search rules)
+pub overflow_add-part : goal.overflow_add-part
+overflow_add-part c = in_slice c.args.bytes.now (search rules) (search rules)
 
 pub returns : goal.returns
 returns c =
     let a = c.args in
-    c.from_le_bytes.ensures ∙ four_bytes a.bytes.now a.i
+    c.from_le_bytes.ensures ∙ number_read _ _ _ _ ∙ four_bytes a.bytes.now a.i
