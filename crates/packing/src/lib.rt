@@ -1,7 +1,7 @@
 // The packed order of heap images, four blocks to a byte. Beside `entries` and `whole` only this crate knows how entries lie in bytes.
 #![tactic(auto)]
 
-ghost use Rattle.std.specs.Prelude.{◌≡◌, ◌+◌, ◌*◌, ◌≤◌, ◌<◌, length};
+ghost use Rattle.std.specs.Prelude.{◌≡◌, [], ◌∷◌, ◌+◌, ◌*◌, ◌≤◌, ◌<◌, length};
 ghost use Rattle.std.proofs.lemmas.List.Edits.{sets};
 ghost use Rattle.rules.specs.Entries.{entries_of, table_of};
 ghost use Rattle.rules.specs.Tables.{used as used_of, well_formed};
@@ -12,7 +12,7 @@ ghost use Rattle.packing.specs.Packing.{Spread, Interleaved, Gathered, UnpacksOn
 fn spread(b: u8) -> u16
     ensures { Spread b result }
 {
-    let all = b as u16;
+    let all = u16::from(b);
     let fours = (all | (all << 4)) & 0x0F0F;
     let twos = (fours | (fours << 2)) & 0x3333;
     (twos | (twos << 1)) & 0x5555
@@ -31,31 +31,32 @@ pub fn pack(t: usize, table: &[u8], buffer: &mut [u8], at: usize)
     ensures { buffer.new ≡ sets buffer.old at (table_of (entries_in t table.now)) }
 {
     let half = entries::plane_bytes(t);
-    let mut i = 0;
-    while i < t / 2 {
+    let pairs = t / 2;
+    for i in 0..pairs {
         let eight = interleave(table[i], table[half + i]);
-        memory::set_two_bytes(&mut *buffer, at + 2 * i, eight as usize);
-        i += 1;
+        memory::set_two_bytes(&mut *buffer, at + 2 * i, usize::from(eight));
     }
     if t % 2 == 1 {
-        let four = interleave(table[i], table[half + i]);
-        buffer[at + 2 * i] = (four % 256) as u8;
+        let four = interleave(table[pairs], table[half + pairs]);
+        buffer[at + 2 * pairs] = (four % 256) as u8;
     }
 }
 
-// How many entries of a packed table are not FREE: each has one of its two bits, or both.
+// How many entries of a packed byte are not FREE: each has one of its two bits, or both.
+fn used_in(b: u8) -> u16
+    ensures few { result ≤ 4 }
+    ensures value { result ≡ used_of (entries_of (b ∷ [])) }
+{
+    ((b | (b >> 1)) & 0x55).count_ones() as u16
+}
+
+// How many entries of a packed table are not FREE.
 pub fn used(packed: &[u8]) -> usize
     requires { length packed.now ≤ 1024 }
     ensures { result ≡ used_of (entries_of packed.now) }
 {
-    let mut n: u16 = 0;
-    let mut i = 0;
-    while i < packed.len() {
-        let b = packed[i];
-        n += u8::count_ones((b | (b >> 1)) & 0x55) as u16;
-        i += 1;
-    }
-    n as usize
+    let n: u16 = packed.iter().map(|b| used_in(*b)).sum();
+    usize::from(n)
 }
 
 // Whether there is no MARK, block 0 is no TAIL, and no TAIL follows a FREE.
@@ -64,15 +65,12 @@ pub fn well_formed(packed: &[u8]) -> bool
 {
     let mut bad: u8 = 0;
     let mut before: u8 = 0;
-    let mut i = 0;
-    while i < packed.len() {
-        let b = packed[i];
+    for &b in packed {
         let low = b & 0x55;
         let high = (b >> 1) & 0x55;
         let used = low | high;
         bad = bad | (low & high) | (high & !((used << 2) | before));
         before = used >> 6;
-        i += 1;
     }
     bad == 0
 }
@@ -92,7 +90,7 @@ fn unpack_eight(table: &mut [u8], half: usize, i: usize, a: u8, b: u8)
     requires { (i < half) × (length table.old ≡ 2 * half) }
     ensures { UnpacksOn half i (b * 256 + a) table.old table.new }
 {
-    let eight = b as u16 * 256 + a as u16;
+    let eight = u16::from_le_bytes([a, b]);
     table[i] = gather(eight);
     table[half + i] = gather(eight >> 1);
 }
@@ -103,12 +101,11 @@ pub fn unpack(t: usize, packed: &[u8], table: &mut [u8])
     ensures { Holds t (entries_of packed.now) table.new }
 {
     let half = entries::plane_bytes(t);
-    let mut i = 0;
-    while i < t / 2 {
+    let pairs = t / 2;
+    for i in 0..pairs {
         unpack_eight(&mut *table, half, i, packed[2 * i], packed[2 * i + 1]);
-        i += 1;
     }
-    if i < half {
-        unpack_eight(&mut *table, half, i, packed[2 * i], 0);
+    if pairs < half {
+        unpack_eight(&mut *table, half, pairs, packed[2 * pairs], 0);
     }
 }

@@ -20,4 +20,4 @@ pub returns : goal.returns
 returns c =
     let from = c.index in
     let to = c.index-2 in
-    rw (← from.ensures, ← to.ensures) (cleared _ _ from.result (to.result - from.result) (omega arith) (c.fill.ensures.after (λ y e. e)))
+    rw (← from.ensures, ← to.ensures) (cleared _ _ from.result (to.result - from.result) (omega arith) c.clear.ensures)

@@ -2,14 +2,14 @@
 -- Assumes nothing.
 use mathlib.Core.Path.{◌≡◌, refl, sym, ap, ◌∙◌}
 use mathlib.Core.List.{List, []}
-use Prim.Native.Nat.{ℕ, suc, ◌+◌, ◌*◌, ◌/◌, ◌%◌, ◌≤◌, ◌<◌}
+use Prim.Native.Nat.{ℕ, suc, ◌+◌, ◌*◌, ◌/◌, ◌%◌, ◌<◌}
 use native.Mathlib.Omega.{arith}
 use lib.ListN.{length, get_or, set, drop}
 use lib.Seq.{sets, drop-cons, drop-length}
 use borrow.Author.Rules.{rules}
 use Rattle.rules.specs.Words.{two_bytes_of}
 use Rattle.rules.specs.Entries.{table_of}
-use Rattle.rules.specs.Planes.{plane_bytes, entries_in}
+use Rattle.rules.specs.Planes.{plane_bytes, entries_in, IsTable}
 use Rattle.laws.proofs.Entries.{length_table_of, get_d_table_of}
 use Rattle.laws.proofs.Bits.{bit_of_lt}
 use Rattle.laws.proofs.Planes.{length_entries_in, get_d_entries_in, room_entries}
@@ -86,28 +86,23 @@ module _ (t : ℕ) (table : List ℕ) where
     last : (before : List ℕ) (at : ℕ) → suc (2 * i) ≡ t → set before (at + 2 * i) (r % 256) ≡ sets before (at + 2 * i) (drop (2 * i) packed)
     last before at odd = rw (drop-cons packed (2 * i) 0 (omega (arith, length_packed)), none_left (suc (2 * i)) odd, first_byte (omega arith))
 
+-- byte i lies in both planes
+in_table : (t half i : ℕ) (table : List ℕ) → IsTable t table → half ≡ plane_bytes t → 2 * i < t → half + i < length table
+in_table t half i table is is_half l = omega (arith, is_half, (room_entries t).0, is.sized.long)
+
 pub loop-i-init : goal.loop-i-init
 loop-i-init c =
-    let a = c.args in
-    let e : a.at + 0 ≡ a.at = omega arith in
-    (omega arith, refl, rw e refl)
+    let e : c.args.at + 0 ≡ c.args.at = omega arith in
+    rw e refl
 
 pub bounds-table-i : goal.bounds-table-i
-bounds-table-i c =
-    let in_plane : c.loop-i.i < c.plane_bytes-half.result =
-    omega (arith, c.plane_bytes-half.ensures, (room_entries c.args.t).0) in
-    omega (arith, in_plane, c.plane_bytes-half.ensures, c.requires.0.sized.long)
+bounds-table-i c = omega (arith, in_table c.args.t _ c.loop-i.i _ c.requires.0 c.plane_bytes-half.ensures (omega arith))
 
 pub overflow_add-half : goal.overflow_add-half
-overflow_add-half c =
-    let short : c.plane_bytes-half.result ≤ 512 = omega (arith, c.plane_bytes-half.ensures, c.requires.0.sized.few, (room_entries c.args.t).1) in
-    in_32_bits (record { fits = omega (arith, short) })
+overflow_add-half c = in_slice c.args.table.now (omega (arith, in_table c.args.t _ c.loop-i.i _ c.requires.0 c.plane_bytes-half.ensures (omega arith))) (search rules)
 
 pub bounds-table-half : goal.bounds-table-half
-bounds-table-half c =
-    let in_plane : c.loop-i.i < c.plane_bytes-half.result =
-    omega (arith, c.plane_bytes-half.ensures, (room_entries c.args.t).0) in
-    omega (arith, in_plane, c.plane_bytes-half.ensures, c.requires.0.sized.long)
+bounds-table-half c = in_table c.args.t _ c.loop-i.i _ c.requires.0 c.plane_bytes-half.ensures (omega arith)
 
 pub overflow_mul-i : goal.overflow_mul-i
 overflow_mul-i c = in_32_bits (search rules)
@@ -115,38 +110,22 @@ overflow_mul-i c = in_32_bits (search rules)
 pub overflow_add-at : goal.overflow_add-at
 overflow_add-at c = in_slice c.args.buffer.now (search rules) (search rules)
 
-pub overflow_add-i : goal.overflow_add-i
-overflow_add-i c = in_32_bits (search rules)
-
 pub loop-i-preserved : goal.loop-i-preserved
 loop-i-preserved c =
     let a = c.args in
     let l = c.loop-i in
-    let w = c.set_two_bytes in
-    let eight = c.interleave-eight in (
-      omega arith,
-      w.auto.bytes ∙ l.invariant.1,
-      turn a.t a.table.now c.plane_bytes-half.result l.i eight.result c.plane_bytes-half.ensures eight.ensures l.buffer _ a.at (omega arith) w.ensures ∙ l.invariant.2,
-    )
+    let eight = c.interleave-eight in
+    turn a.t a.table.now c.plane_bytes-half.result l.i eight.result c.plane_bytes-half.ensures eight.ensures l.buffer _ a.at (omega arith) (rw c.from.ensures at c.set_two_bytes.ensures)
+    ∙ l.invariant
 
-pub bounds-table-i-then-t-eq1 : goal.bounds-table-i-then-t-eq1
-bounds-table-i-then-t-eq1 c =
-    let half_left : suc (2 * c.loop-i.i) ≡ c.args.t = omega arith in
-    let last_in_plane : c.loop-i.i < c.plane_bytes-half.result =
-    omega (arith, half_left, c.plane_bytes-half.ensures, (room_entries c.args.t).0) in
-    omega (arith, last_in_plane, c.plane_bytes-half.ensures, c.requires.0.sized.long)
+pub bounds-table-pairs : goal.bounds-table-pairs
+bounds-table-pairs c = omega (arith, in_table c.args.t _ (c.args.t / 2) _ c.requires.0 c.plane_bytes-half.ensures (omega arith))
 
 pub overflow_add-half-then-t-eq1 : goal.overflow_add-half-then-t-eq1
-overflow_add-half-then-t-eq1 c =
-    let short : c.plane_bytes-half.result ≤ 512 = omega (arith, c.plane_bytes-half.ensures, c.requires.0.sized.few, (room_entries c.args.t).1) in
-    in_32_bits (record { fits = omega (arith, short) })
+overflow_add-half-then-t-eq1 c = in_slice c.args.table.now (omega (arith, in_table c.args.t _ (c.args.t / 2) _ c.requires.0 c.plane_bytes-half.ensures (omega arith))) (search rules)
 
 pub bounds-table-half-then-t-eq1 : goal.bounds-table-half-then-t-eq1
-bounds-table-half-then-t-eq1 c =
-    let half_left : suc (2 * c.loop-i.i) ≡ c.args.t = omega arith in
-    let last_in_plane : c.loop-i.i < c.plane_bytes-half.result =
-    omega (arith, half_left, c.plane_bytes-half.ensures, (room_entries c.args.t).0) in
-    omega (arith, last_in_plane, c.plane_bytes-half.ensures, c.requires.0.sized.long)
+bounds-table-half-then-t-eq1 c = in_table c.args.t _ (c.args.t / 2) _ c.requires.0 c.plane_bytes-half.ensures (omega arith)
 
 pub overflow_mul-buffer : goal.overflow_mul-buffer
 overflow_mul-buffer c = in_32_bits (search rules)
@@ -156,15 +135,15 @@ overflow_add-buffer c = in_slice c.args.buffer.now (search rules) (search rules)
 
 pub returns-then-t-eq1 : goal.returns-then-t-eq1
 returns-then-t-eq1 c =
-    let half_left : suc (2 * c.loop-i.i) ≡ c.args.t = omega arith in
     let a = c.args in
     let l = c.loop-i in
     let four = c.interleave-four in
-    last a.t a.table.now c.plane_bytes-half.result l.i four.result c.plane_bytes-half.ensures four.ensures l.buffer a.at half_left
-    ∙ l.invariant.2
+    let end : l.i ≡ a.t / 2 = omega arith in
+    last a.t a.table.now c.plane_bytes-half.result (a.t / 2) four.result c.plane_bytes-half.ensures four.ensures l.buffer a.at (omega arith)
+    ∙ rw end at l.invariant
 
 pub returns-else-t-eq1 : goal.returns-else-t-eq1
 returns-else-t-eq1 c =
     let a = c.args in
     let l = c.loop-i in
-    rw (none_left a.t a.table.now (2 * l.i) (omega arith)) at l.invariant.2
+    rw (none_left a.t a.table.now (2 * l.i) (omega arith)) at l.invariant

@@ -1,16 +1,12 @@
 -- `pack`: what is left of the packed table, stored from where the loop stands, gives what all of it would.
 -- Assumes nothing.
 use mathlib.Core.Path.{◌≡◌}
-use Prim.Native.Nat.{◌+◌, ◌-◌, ◌*◌, ◌/◌, ◌≤◌}
-use lib.ListN.{length, drop}
+use Prim.Native.Nat.{◌+◌, ◌*◌}
+use lib.ListN.{drop}
 use lib.Seq.{sets}
 use Rattle.rules.specs.Entries.{table_of}
 use Rattle.rules.specs.Planes.{entries_in}
 use Rattle.packing.proofs.pack.Given as goal
 
 abbrev pub invariant-loop-i : goal.invariant-loop-i
-invariant-loop-i l =
-    (l.i ≤ l.t / 2) × (length l.buffer ≡ length l.initial.buffer) × (sets l.buffer (l.at + 2 * l.i) (drop (2 * l.i) (table_of (entries_in l.t l.table))) ≡ sets l.initial.buffer l.at (table_of (entries_in l.t l.table)))
-
-abbrev pub decreases-loop-i : goal.decreases-loop-i
-decreases-loop-i l = l.t / 2 - l.i
+invariant-loop-i l = let packed = table_of (entries_in l.t l.table) in sets l.buffer (l.at + 2 * l.i) (drop (2 * l.i) packed) ≡ sets l.initial.buffer l.at packed

@@ -24,4 +24,4 @@ unfolding base4 bit_of
 all_bytes = equal_below 256 singles (λ (b : ℕ). base4 8 (bit_of b)) tt
 
 pub returns : goal.returns
-returns c = all_bytes c.args.b (search rules)
+returns c = rw c.from-all.ensures (all_bytes c.args.b (search rules))

@@ -49,7 +49,7 @@ unpacked_end t packed table i sized long e done =
     holds_of t (entries_of packed) table sized (length_entries_of packed ∙ ap (λ (n : ℕ). 4 * n) long) (λ k h. done k (rw e h))
 
 pub loop-i-init : goal.loop-i-init
-loop-i-init c = (omega arith, refl, λ k h. absurd (omega arith))
+loop-i-init c = λ k h. absurd (omega arith)
 
 pub overflow_mul-i : goal.overflow_mul-i
 overflow_mul-i c = in_32_bits (search rules)
@@ -64,37 +64,31 @@ pub unpack_eight-requires : goal.unpack_eight-requires
 unpack_eight-requires c =
     (omega (arith, c.plane_bytes-half.ensures, (room_entries c.args.t).0), omega arith)
 
-pub overflow_add-i-in-loop-i : goal.overflow_add-i-in-loop-i
-overflow_add-i-in-loop-i c = in_32_bits (search rules)
-
 pub loop-i-preserved : goal.loop-i-preserved
 loop-i-preserved c =
     let a = c.args in
     let l = c.loop-i in
-    let e = c.unpack_eight in (
-      omega arith,
-      e.auto.table ∙ l.invariant.1,
-      e.ensures a.t (entries_of a.packed.now) c.plane_bytes-half.ensures (eight_at a.packed.now l.i _ (c.shared_slice_known-in-loop-i-2-1.given (2 * l.i)).fits refl) l.invariant.2,
-    )
+    c.unpack_eight.ensures a.t (entries_of a.packed.now) c.plane_bytes-half.ensures (eight_at a.packed.now l.i _ (c.type_inv.packed (2 * l.i)).fits refl) l.invariant
 
-pub overflow_mul-i-then-i-half : goal.overflow_mul-i-then-i-half
-overflow_mul-i-then-i-half c = in_32_bits (search rules)
+pub overflow_mul-pairs : goal.overflow_mul-pairs
+overflow_mul-pairs c = in_32_bits (search rules)
 
-pub bounds-packed-i-then-i-half : goal.bounds-packed-i-then-i-half
-bounds-packed-i-then-i-half c =
+pub bounds-packed-pairs : goal.bounds-packed-pairs
+bounds-packed-pairs c =
     omega (arith, c.plane_bytes-half.ensures, (room_entries c.args.t).1, c.requires.1)
 
-pub returns-then-i-half : goal.returns-then-i-half
-returns-then-i-half c =
+pub returns-then-pairs-half : goal.returns-then-pairs-half
+returns-then-pairs-half c =
     let t = c.args.t in
     let packed = c.args.packed.now in
     let l = c.loop-i in
-    let e = c.unpack_eight-then-i-half in
-    let none : 0 ≡ get_or packed (2 * l.i + 1) 0 = sym (get_or-eq_default packed 0 (omega (arith, c.requires.1))) in
-    unpacked_end t packed _ (l.i + 1) (record { few = c.requires.0.few; long = e.auto.table ∙ l.invariant.1 ∙ c.requires.0.long }) c.requires.1 (omega (arith, room_entries t))
-    (e.ensures t (entries_of packed) c.plane_bytes-half.ensures (eight_at packed l.i 0 (c.shared_slice_known-then-i-half-1.given (2 * l.i)).fits none) l.invariant.2)
+    let e = c.unpack_eight-then-pairs-half in
+    let end : l.i ≡ t / 2 = omega arith in
+    let none : 0 ≡ get_or packed (2 * (t / 2) + 1) 0 = sym (get_or-eq_default packed 0 (omega (arith, c.requires.1))) in
+    unpacked_end t packed _ (t / 2 + 1) (record { few = c.requires.0.few; long = e.auto.table ∙ l.auto.table ∙ c.requires.0.long }) c.requires.1 (omega (arith, room_entries t))
+    (e.ensures t (entries_of packed) c.plane_bytes-half.ensures (eight_at packed (t / 2) 0 (c.type_inv.packed (2 * (t / 2))).fits none) (rw end at l.invariant))
 
-pub returns-else-i-half : goal.returns-else-i-half
-returns-else-i-half c =
+pub returns-else-pairs-half : goal.returns-else-pairs-half
+returns-else-pairs-half c =
     let l = c.loop-i in
-    unpacked_end c.args.t c.args.packed.now l.table l.i (record { few = c.requires.0.few; long = l.invariant.1 ∙ c.requires.0.long }) c.requires.1 (omega (arith, room_entries c.args.t)) l.invariant.2
+    unpacked_end c.args.t c.args.packed.now l.table l.i (record { few = c.requires.0.few; long = l.auto.table ∙ c.requires.0.long }) c.requires.1 (omega (arith, room_entries c.args.t)) l.invariant

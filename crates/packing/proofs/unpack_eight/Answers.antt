@@ -12,7 +12,7 @@ use Rattle.rules.specs.Entries.{entry_of}
 use Rattle.rules.specs.Tables.{entry_at}
 use Rattle.rules.specs.Planes.{plane_bytes, entry_in}
 use Rattle.laws.proofs.Bits.{eight}
-use Rattle.laws.proofs.Widths.{in_slice, as_u16}
+use Rattle.laws.proofs.Widths.{in_slice}
 use Rattle.entries.specs.Groups.{lane}
 use Rattle.entries.proofs.Holding.{both_stored, both_kept}
 use Rattle.packing.specs.Packing.{Gathered, UnpacksOn}
@@ -43,12 +43,6 @@ module _ (half i x low high : ℕ) (table : List ℕ) (inside : i < half) (long 
           both_stored t table i low high two in_plane k e ∙ lane_is (k % 8) (omega arith) ∙ has (k % 8) (omega arith) ∙ ap (entry_at es) at
       go (no n) = both_kept t table i low high two in_plane k (omega (arith, h, in_plane)) n ∙ done k (omega (arith, h, n))
 
-pub overflow_mul-eight : goal.overflow_mul-eight
-overflow_mul-eight c = as_u16 (search rules)
-
-pub overflow_add-eight : goal.overflow_add-eight
-overflow_add-eight c = as_u16 (search rules)
-
 pub overflow_add-table : goal.overflow_add-table
 overflow_add-table c = in_slice c.args.table.now (search rules) (search rules)
 
@@ -58,4 +52,6 @@ bounds-table-half c =
 
 pub returns : goal.returns
 returns c =
-    unpacked c.args.half c.args.i (c.args.b * 256 + c.args.a) c.gather.result c.gather-2.result c.args.table.now c.requires.0 c.requires.1 c.gather.ensures c.gather-2.ensures
+    let a = c.args in
+    let both : c.from_le_bytes-eight.result ≡ a.b * 256 + a.a = omega (arith, c.from_le_bytes-eight.ensures) in
+    unpacked a.half a.i (a.b * 256 + a.a) c.gather.result c.gather-2.result a.table.now c.requires.0 c.requires.1 (rw both at c.gather.ensures) (rw both at c.gather-2.ensures)

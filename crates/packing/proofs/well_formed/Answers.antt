@@ -8,7 +8,6 @@ use native.Mathlib.Omega.{arith}
 use lib.Bits.{bit_and, bit_or, or_zero_l}
 use lib.Dec.{eqb, eqb-suc-zero}
 use lib.ListN.{length, get_or}
-use borrow.Author.Rules.{rules}
 use borrow.Author.Tests.{ne_eqb}
 use Rattle.rules.specs.Tests.{both}
 use Rattle.rules.specs.Entries.{entry_of, entries_of}
@@ -17,7 +16,6 @@ use Rattle.laws.proofs.Below.{equal_below, alike_below}
 use Rattle.laws.proofs.Lists.{one, one_lt}
 use Rattle.laws.proofs.Refusals.{both_true}
 use Rattle.laws.proofs.Bits.{one_bit, or_none}
-use Rattle.laws.proofs.Widths.{in_slice}
 use Rattle.packing.proofs.Fours.{four_of, left, left_next, left_none}
 use Rattle.packing.proofs.well_formed.Invariants.{Found}
 use Rattle.packing.proofs.well_formed.Goals as goal
@@ -115,16 +113,13 @@ found_end : (packed : List ℕ) (i bad before : ℕ) → i ≡ length packed →
 unfolding well_after
 found_end packed i bad before e f = sym (both_true (eqb bad 0)) ∙ rw (left_none packed i e) at f.all
 
-pub loop-i-init : goal.loop-i-init
-loop-i-init c = (omega arith, found_start c.args.packed.now)
+pub loop-b-init : goal.loop-b-init
+loop-b-init c = found_start c.args.packed.now
 
-pub overflow_add-i : goal.overflow_add-i
-overflow_add-i c = in_slice c.args.packed.now (search rules) (search rules)
-
-pub loop-i-preserved : goal.loop-i-preserved
-loop-i-preserved c =
-    let l = c.loop-i in
-    (omega arith, found_turn c.args.packed.now l.i l.bad l.before (omega arith) (c.shared_slice_known-1.given l.i).fits l.invariant.1)
+pub loop-b-preserved : goal.loop-b-preserved
+loop-b-preserved c =
+    let l = c.loop-b in
+    found_turn c.args.packed.now l.b-index l.bad l.before (omega arith) (c.type_inv.packed l.b-index).fits l.invariant
 
 pub returns : goal.returns
-returns c = let l = c.loop-i in found_end c.args.packed.now l.i l.bad l.before (omega arith) l.invariant.1
+returns c = let l = c.loop-b in found_end c.args.packed.now l.b-index l.bad l.before (omega arith) l.invariant

@@ -2,9 +2,8 @@
 -- Assumes nothing.
 use mathlib.Core.Path.{◌≡◌}
 use mathlib.Core.List.{List}
-use Prim.Native.Nat.{ℕ, ◌-◌, ◌≤◌, ◌<◌}
+use Prim.Native.Nat.{ℕ, ◌<◌}
 use lib.Dec.{eqb}
-use lib.ListN.{length}
 use Rattle.rules.specs.Tests.{both}
 use Rattle.rules.specs.Entries.{entries_of}
 use Rattle.rules.specs.Tables.{well_after, well_formed}
@@ -16,8 +15,5 @@ pub record Found (packed : List ℕ) (i bad before : ℕ) : Type 0 where
   pub all : both (eqb bad 0) (well_after before (left packed i)) ≡ well_formed (entries_of packed)
   pub small : before < 2
 
-abbrev pub invariant-loop-i : goal.invariant-loop-i
-invariant-loop-i l = (l.i ≤ length l.packed) × Found l.packed l.i l.bad l.before
-
-abbrev pub decreases-loop-i : goal.decreases-loop-i
-decreases-loop-i l = length l.packed - l.i
+abbrev pub invariant-loop-b : goal.invariant-loop-b
+invariant-loop-b l = Found l.packed l.b-index l.bad l.before
