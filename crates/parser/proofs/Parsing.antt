@@ -1,10 +1,13 @@
 -- What is known behind each section that was read without a fault, and of the whole file at its end.
 -- Assumes nothing.
-use mathlib.Core.Path.{◌≡◌, sym, ap, ◌∙◌}
+use mathlib.Core.Path.{◌≡◌, refl, sym, ap, ◌∙◌}
 use mathlib.Core.List.{List, ◌++◌}
 use Prim.Native.Nat.{ℕ, ◌+◌, ◌-◌, ◌*◌, ◌≤◌}
 use native.Mathlib.Omega.{arith}
 use lib.ListN.{length, take, drop, length-take}
+use Rattle.std.specs.Prelude.{Result, Ok, IfOk}
+use Rattle.std.specs.Result.{IsErrAnd}
+use Rattle.std.proofs.lemmas.Result.{err_from_is_err_and}
 use Rattle.rules.specs.Words.{word_at}
 use Rattle.rules.specs.Tables.{used}
 use Rattle.rules.specs.Refusals.{Test}
@@ -12,13 +15,16 @@ use Rattle.rules.specs.Files.{Kind, one_base, table_bytes, root_words, Section a
 use Rattle.laws.proofs.Entries.{length_entries_of}
 use Rattle.laws.proofs.Tables.{used_le}
 use Rattle.laws.proofs.Sections.{LiesAt, Left, left_all, left_lies, left_next, from_table, from_blocks, from_roots, from_end}
+use Rattle.refusals.specs.declared.Refusal.{Refusal}
+use Rattle.refusals.specs.Codes.{code, refused_by}
 use Rattle.parser.specs.declared.Section.{Section}
 use Rattle.parser.specs.declared.File.{File}
 use Rattle.parser.specs.Reading.{Small, Reads, Says}
 
--- a fault, in place of a file
-pub faulty : {image : List ℕ} {r : File} (n : ℕ) → r.fault ≡ n → (n ≡ 0 → ⊥) → n ≡ fault_of image → (r.fault ≡ fault_of image) × (r.fault ≡ 0 → Says image r)
-faulty n e ne q = (e ∙ q, λ z. absurd (ne (sym e ∙ z)))
+-- a fault is passed on, in place of a file
+pub faulty : (image : List ℕ) (answer : Result File Refusal) (fault : Refusal) → IsErrAnd answer (λ r. r ≡ fault) → code fault ≡ fault_of image
+    → (refused_by answer ≡ fault_of image) × IfOk answer (λ file. Says image file)
+faulty image answer fault h q = let p = err_from_is_err_and answer h in rw (p.1, p.2) (q, tt)
 
 -- a section s that was read from `at` on: where it lies, its count, the place behind it, and the tests that are left there
 record Behind (image : List ℕ) (k : Kind) (s : SectionOf) (at : ℕ) (us : List Test) (r : Section) : Type 0 where
@@ -27,17 +33,17 @@ record Behind (image : List ℕ) (k : Kind) (s : SectionOf) (at : ℕ) (us : Lis
   pub end : r.end ≡ at + 2 + k.size * s.count
   pub left : Left image us s.rest r.end
 
-behind : {image bs : List ℕ} {at : ℕ} {r : Section} (k : Kind) (us : List Test) → Left image (section_tests k bs ++ us) bs at → Small k → Reads image at k r → r.fault ≡ 0
+behind : {image bs : List ℕ} {at : ℕ} {r : Section} (k : Kind) (us : List Test) → Left image (section_tests k bs ++ us) bs at → Small k → Reads image at k (Ok r)
     → Behind image k (section_in k bs) at us r
 unfolding section_in
-behind {image} {bs} {at} {r} k us l small reads z =
-    let count : r.count ≡ (section_in k bs).count = rw l.here (reads.count z) in
-    let end : r.end ≡ at + 2 + k.size * (section_in k bs).count = rw (← count) (reads.end z) in
-    record { lies = left_lies k us l reads.fault small.wrong z; count = count; end = end; left = rw end (left_next k us l reads.fault small.wrong z) }
+behind {image} {bs} {at} {r} k us l small reads =
+    let count : r.count ≡ (section_in k bs).count = rw l.here reads.count in
+    let end : r.end ≡ at + 2 + k.size * (section_in k bs).count = rw (← count) reads.end in
+    record { lies = left_lies k us l reads.fault small.wrong refl; count = count; end = end; left = rw end (left_next k us l reads.fault small.wrong refl) }
 
 -- ---- the kinds are small
 
-pub small_base : Small one_base
+small_base : Small one_base
 small_base = record { size = omega arith; most = omega arith; wrong = omega arith }
 
 pub small_table : Small table_bytes
@@ -62,10 +68,10 @@ module _ (image : List ℕ) where
     pub body : f.base.body ≡ take 4 (drop 2 image)
     pub left : Left image (from_table image) f.base.rest b.end
 
-  pub base_known : {b : Section} → Reads image 0 one_base b → b.fault ≡ 0 → Base b
+  pub base_known : {b : Section} → Reads image 0 one_base (Ok b) → Base b
   unfolding file_of
-  base_known reads z =
-      let b = behind one_base (from_table image) (left_all image) small_base reads z in
+  base_known reads =
+      let b = behind one_base (from_table image) (left_all image) small_base reads in
       let one : f.base.count ≡ 1 = omega (arith, b.lies.fewest, b.lies.most) in
       record {
         end = omega (arith, b.end, one);
@@ -83,10 +89,10 @@ module _ (image : List ℕ) where
     pub body : f.table.body ≡ take (t.end - 8) (drop 8 image)
     pub left : Left image (from_blocks image) f.table.rest t.end
 
-  pub table_known : {b t : Section} → Base b → Reads image b.end table_bytes t → t.fault ≡ 0 → Table t
+  pub table_known : {b t : Section} → Base b → Reads image b.end table_bytes (Ok t) → Table t
   unfolding file_of
-  table_known {b} {t} base reads z =
-      let s = behind table_bytes (from_blocks image) base.left small_table reads z in
+  table_known {b} {t} base reads =
+      let s = behind table_bytes (from_blocks image) base.left small_table reads in
       let end : t.end ≡ 8 + t.count = omega (arith, s.end, s.count, base.end) in
       let long : 1 * f.table.count ≡ t.end - 8 = omega (arith, end, s.count) in
       let place : b.end + 2 ≡ 8 = omega (arith, base.end) in
@@ -116,10 +122,10 @@ module _ (image : List ℕ) where
     pub body : f.blocks.body ≡ take (16 * n) (drop (10 + t.count) image)
     pub left : Left image (from_roots image) f.blocks.rest u.end
 
-  pub blocks_known : {t u : Section} → Table t → Reads image t.end (used_in f.table) u → u.fault ≡ 0 → Blocks t u
+  pub blocks_known : {t u : Section} → Table t → Reads image t.end (used_in f.table) (Ok u) → Blocks t u
   unfolding file_of
-  blocks_known {t} table reads z =
-      let s = behind (used_in f.table) (from_roots image) table.left (small_blocks table) reads z in
+  blocks_known {t} table reads =
+      let s = behind (used_in f.table) (from_roots image) table.left (small_blocks table) reads in
       let all : f.blocks.count ≡ n = omega (arith, s.lies.fewest, s.lies.most) in
       let place : t.end + 2 ≡ 10 + t.count = omega (arith, table.end) in
       record {
@@ -138,10 +144,10 @@ module _ (image : List ℕ) where
     pub body : f.roots.body ≡ take (4 * w.count) (drop (12 + t.count + 16 * n) image)
     pub left : Left image (from_end image) f.roots.rest w.end
 
-  pub roots_known : {t u w : Section} → Blocks t u → Reads image u.end root_words w → w.fault ≡ 0 → Roots t w
+  pub roots_known : {t u w : Section} → Blocks t u → Reads image u.end root_words (Ok w) → Roots t w
   unfolding file_of
-  roots_known {t} {u} blocks reads z =
-      let s = behind root_words (from_end image) blocks.left small_roots reads z in
+  roots_known {t} {u} blocks reads =
+      let s = behind root_words (from_end image) blocks.left small_roots reads in
       let place : u.end + 2 ≡ 12 + t.count + 16 * n = omega (arith, blocks.end) in
       record {
         count = s.count;
@@ -154,7 +160,7 @@ module _ (image : List ℕ) where
 
   -- and nothing is left over
   pub file_says : {b t u w : Section} {word m : ℕ} → Base b → Table t → Blocks t u → Roots t w → length image ≤ w.end → word ≡ word_at (take 4 (drop 2 image)) 0 → m ≡ n
-      → Says image (record { fault = 0; base = word; t = t.count; used = m; roots = w.count })
+      → Says image (record { base = word; t = t.count; used = m; roots = w.count })
   file_says {t = t} base table blocks roots whole is_IsWord is-n =
       let long : t.end - 8 ≡ t.count = omega (arith, table.end) in
       record {

@@ -1,10 +1,13 @@
 // A file, read from the front as a heap image: the first fault counts. Nothing is written.
 #![tactic(auto)]
 
-ghost use Rattle.std.specs.Prelude.{◌≡◌, ◌≤◌, leb, length};
+ghost use Rattle.std.specs.Prelude.{◌≡◌, ◌≤◌, leb, length, IfOk};
 ghost use Rattle.rules.specs.Tests.{both};
 ghost use Rattle.rules.specs.Files.{one_base, table_bytes, blocks_of, root_words, fault_of};
+ghost use Rattle.refusals.specs.Codes.{refused_by};
 ghost use Rattle.parser.specs.Reading.{kind_by, Small, Reads, Says};
+
+use refusals::Refusal;
 
 // What a section may hold: how many bytes each of what it counts has, the fewest and the most there may be, and the refusal if there are fewer or more.
 #[derive(Clone, Copy)]
@@ -12,21 +15,19 @@ struct Kind {
     size: usize,
     fewest: usize,
     most: usize,
-    wrong: u32,
+    wrong: Refusal,
 }
 
-// A section: its fault; if it has none, its count and the place behind it.
+// A section without a fault: its count and the place behind it.
 #[derive(Clone, Copy)]
 struct Section {
-    fault: u32,
     count: usize,
     end: usize,
 }
 
-// A file: its fault; if it has none, the base, the bytes of the table, the used blocks and the roots.
+// A file without a fault: the base, the bytes of the table, the used blocks and the roots.
 #[derive(Clone, Copy)]
 pub struct File {
-    pub fault: u32,
     pub base: u32,
     pub t: usize,
     pub used: usize,
@@ -42,7 +43,7 @@ impl Kind {
             size: 4,
             fewest: 1,
             most: 1,
-            wrong: refusals::BAD_COUNT,
+            wrong: Refusal::BadCount,
         }
     }
 
@@ -54,7 +55,7 @@ impl Kind {
             size: 1,
             fewest: 1,
             most: refusals::MAX_T,
-            wrong: refusals::BAD_COUNT,
+            wrong: Refusal::BadCount,
         }
     }
 
@@ -66,7 +67,7 @@ impl Kind {
             size: 16,
             fewest: count,
             most: count,
-            wrong: refusals::BAD_COUNT,
+            wrong: Refusal::BadCount,
         }
     }
 
@@ -78,7 +79,7 @@ impl Kind {
             size: 4,
             fewest: 0,
             most: refusals::MAX_ROOTS,
-            wrong: refusals::TOO_MANY_ROOTS,
+            wrong: Refusal::TooManyRoots,
         }
     }
 
@@ -86,91 +87,49 @@ impl Kind {
     fn allows(self, count: usize) -> bool
         ensures { result ≡ both (leb self.fewest count) (leb count self.most) }
     {
-        if count < self.fewest {
-            return false;
-        }
-        count <= self.most
-    }
-}
-
-// A fault, in place of a section.
-fn no_section(fault: u32) -> Section
-    ensures { result.fault ≡ fault }
-{
-    Section {
-        fault,
-        count: 0,
-        end: 0,
+        self.fewest <= count && count <= self.most
     }
 }
 
 // The section from `at` on. Its count is tested before its body.
-fn section_at(image: &[u8], at: usize, kind: Kind) -> Section
+fn section_at(image: &[u8], at: usize, kind: Kind) -> Result<Section, Refusal>
     requires { (at ≤ length image.now) × Small (kind_by kind) }
     ensures { Reads image.now at (kind_by kind) result }
 {
     let left = image.len() - at;
     if left < 2 {
-        return no_section(refusals::IMAGE_TRUNCATED);
+        return Err(Refusal::ImageTruncated);
     }
     let count = memory::two_bytes(image, at);
     if !kind.allows(count) {
-        return no_section(kind.wrong);
+        return Err(kind.wrong);
     }
     let size = kind.size * count;
     if left - 2 < size {
-        return no_section(refusals::IMAGE_TRUNCATED);
+        return Err(Refusal::ImageTruncated);
     }
-    Section {
-        fault: 0,
+    Ok(Section {
         count,
         end: at + 2 + size,
-    }
-}
-
-// A fault, in place of a file.
-fn no_file(fault: u32) -> File
-    ensures { result.fault ≡ fault }
-{
-    File {
-        fault,
-        base: 0,
-        t: 0,
-        used: 0,
-        roots: 0,
-    }
+    })
 }
 
 // The file: its four sections, each behind the one before it, and nothing else.
-pub fn parse(image: &[u8]) -> File
-    ensures { (result.fault ≡ fault_of image.now) × (result.fault ≡ 0 → Says image.now result) }
+pub fn parse(image: &[u8]) -> Result<File, Refusal>
+    ensures { (refused_by result ≡ fault_of image.now) × IfOk result (λ file. Says image.now file) }
 {
-    let base = section_at(image, 0, Kind::one_base());
-    if base.fault != 0 {
-        return no_file(base.fault);
-    }
-    let table = section_at(image, base.end, Kind::table_bytes());
-    if table.fault != 0 {
-        return no_file(table.fault);
-    }
-    let end = table.end;
-    let used = packing::used(&image[8..end]);
-    let blocks = section_at(image, end, Kind::blocks(used));
-    if blocks.fault != 0 {
-        return no_file(blocks.fault);
-    }
-    let roots = section_at(image, blocks.end, Kind::root_words());
-    if roots.fault != 0 {
-        return no_file(roots.fault);
-    }
+    let base = section_at(image, 0, Kind::one_base())?;
+    let table = section_at(image, base.end, Kind::table_bytes())?;
+    let used = packing::used(&image[8..table.end]);
+    let blocks = section_at(image, table.end, Kind::blocks(used))?;
+    let roots = section_at(image, blocks.end, Kind::root_words())?;
     if roots.end < image.len() {
-        return no_file(refusals::TRAILING_BYTES);
+        return Err(Refusal::TrailingBytes);
     }
-    File {
-        fault: 0,
+    Ok(File {
         base: memory::word(&image[2..6], 0),
         t: table.count,
         used,
         roots: roots.count,
-    }
+    })
 }

@@ -9,188 +9,106 @@ use Rattle.rules.specs.Entries.{entries_of}
 use Rattle.rules.specs.Tables.{used}
 use Rattle.rules.specs.Files.{one_base, table_bytes, blocks_of, root_words, entries_for, used_in, file_of}
 use Rattle.laws.proofs.Sections.{left_all, left_fault, left_over_is, left_none, from_table, from_blocks, from_roots, from_end}
-use Rattle.parser.specs.Reading.{kind_by, Reads}
-use Rattle.parser.proofs.Parsing.{faulty, small_base, small_table, small_blocks, small_roots, Base, base_known, Table, table_known, Blocks, blocks_known, Roots, roots_known, file_says}
+use Rattle.refusals.proofs.Codes.{not_accepted}
+use Rattle.parser.specs.Reading.{kind_by}
+use Rattle.parser.proofs.Parsing.{faulty, small_table, small_blocks, small_roots, Base, base_known, Table, table_known, Blocks, blocks_known, Roots, roots_known, file_says}
 use Rattle.parser.proofs.parse.Goals as goal
+use Rattle.parser.proofs.parse.Goals.{After-table_bytes, In_ok-table, After-blocks-2, After-root_words, In_ok-roots}
+
+-- ---- what is known behind each section
+
+base : (c : After-table_bytes) → Base c.args.image.now c.in_ok-base.base
+base c = base_known _ (rw c.one_base.ensures at c.in_ok-base.ensures)
+
+table : (c : In_ok-table) → Table c.args.image.now c.in_ok-table.table
+table c = table_known _ (base (goal.at.In_ok-table c).After-table_bytes) (rw c.table_bytes.ensures at c.in_ok-table.ensures)
+
+used_is : (c : After-blocks-2) → c.used-used.result ≡ used (entries_for (file_of c.args.image.now).table)
+used_is c = c.used-used.ensures ∙ ap (λ (bs : List ℕ). used (entries_of bs)) (sym (table (goal.at.After-blocks-2 c).In_ok-table).body)
+
+kind_is : (c : After-blocks-2) → kind_by c.blocks-2.result ≡ used_in (file_of c.args.image.now).table
+kind_is c = c.blocks-2.ensures ∙ ap blocks_of (used_is c)
+
+blocks : (c : After-root_words) → Blocks c.args.image.now c.in_ok-table.table c.in_ok-blocks.blocks
+blocks c =
+    let at = goal.at.After-root_words c in
+    blocks_known _ (table at.In_ok-table) (rw (kind_is at.After-blocks-2) at c.in_ok-blocks.ensures)
+
+roots : (c : In_ok-roots) → Roots c.args.image.now c.in_ok-table.table c.in_ok-roots.roots
+roots c = roots_known _ (blocks (goal.at.In_ok-roots c).After-root_words) (rw c.root_words.ensures at c.in_ok-roots.ensures)
 
 -- ---- the base
 
-pub section_at-base-requires : goal.section_at-base-requires
-section_at-base-requires c = (omega arith, rw c.one_base.ensures small_base)
-
-pub returns-then-base-ne0 : goal.returns-then-base-ne0
-returns-then-base-ne0 c =
-    let file : List ℕ = c.args.image.now in
-    let base_read : Reads file 0 one_base c.section_at-base.result = rw c.one_base.ensures at c.section_at-base.ensures in
-    let fault = c.if-base-ne0.true in
-    faulty _ c.no_file.ensures fault (left_fault one_base (from_table _) (left_all _) base_read.fault fault)
+pub returns-in_err-base : goal.returns-in_err-base
+returns-in_err-base c =
+    let read = rw c.one_base.ensures at c.in_err-base.ensures in
+    faulty _ _ _ c.from_residual.ensures.1 (left_fault one_base (from_table _) (left_all _) read.fault (not_accepted _))
 
 -- ---- the table
 
-pub section_at-table-requires : goal.section_at-table-requires
-section_at-table-requires c =
-    let file : List ℕ = c.args.image.now in
-    let base_read : Reads file 0 one_base c.section_at-base.result = rw c.one_base.ensures at c.section_at-base.ensures in
-    let base : Base file c.section_at-base.result = base_known _ base_read c.if-base-ne0.false in
-    let b = base in (omega (arith, b.end, b.room), rw c.table_bytes.ensures small_table)
+pub section_at-requires-2 : goal.section_at-requires-2
+section_at-requires-2 c =
+    let b = base (goal.at.section_at-requires-2 c).After-table_bytes in (omega (arith, b.end, b.room), rw c.table_bytes.ensures small_table)
 
-pub returns-then-table-ne0 : goal.returns-then-table-ne0
-returns-then-table-ne0 c =
-    let file : List ℕ = c.args.image.now in
-    let base_read : Reads file 0 one_base c.section_at-base.result = rw c.one_base.ensures at c.section_at-base.ensures in
-    let base : Base file c.section_at-base.result = base_known _ base_read c.if-base-ne0.false in
-    let file2 : List ℕ = file in
-    let table_read : Reads file2 c.section_at-base.result.end table_bytes c.section_at-table.result = rw c.table_bytes.ensures at c.section_at-table.ensures in
-    let fault = c.if-table-ne0.true in
-    faulty _ c.no_file-then-table-ne0.ensures fault (left_fault table_bytes (from_blocks _) base.left table_read.fault fault)
+pub returns-in_err-table : goal.returns-in_err-table
+returns-in_err-table c =
+    let read = rw c.table_bytes.ensures at c.in_err-table.ensures in
+    let b = base (goal.at.returns-in_err-table c).After-table_bytes in
+    faulty _ _ _ c.from_residual-in_err-table.ensures.1 (left_fault table_bytes (from_blocks _) b.left read.fault (not_accepted _))
 
 -- ---- its used blocks
 
 pub slice_bounds-used-count : goal.slice_bounds-used-count
-slice_bounds-used-count c =
-    let file : List ℕ = c.args.image.now in
-    let base_read : Reads file 0 one_base c.section_at-base.result = rw c.one_base.ensures at c.section_at-base.ensures in
-    let base : Base file c.section_at-base.result = base_known _ base_read c.if-base-ne0.false in
-    let file2 : List ℕ = file in
-    let table_read : Reads file2 c.section_at-base.result.end table_bytes c.section_at-table.result = rw c.table_bytes.ensures at c.section_at-table.ensures in
-    let table : Table file2 c.section_at-table.result = table_known _ base table_read c.if-table-ne0.false in
-    omega (arith, table.end)
+slice_bounds-used-count c = omega (arith, (table (goal.at.slice_bounds-used-count c).In_ok-table).end)
 
 pub slice_bounds-used-start : goal.slice_bounds-used-start
-slice_bounds-used-start c =
-    let file : List ℕ = c.args.image.now in
-    let base_read : Reads file 0 one_base c.section_at-base.result = rw c.one_base.ensures at c.section_at-base.ensures in
-    let base : Base file c.section_at-base.result = base_known _ base_read c.if-base-ne0.false in
-    let file2 : List ℕ = file in
-    let table_read : Reads file2 c.section_at-base.result.end table_bytes c.section_at-table.result = rw c.table_bytes.ensures at c.section_at-table.ensures in
-    let table : Table file2 c.section_at-table.result = table_known _ base table_read c.if-table-ne0.false in
-    omega (arith, table.end)
+slice_bounds-used-start c = omega (arith, (table (goal.at.slice_bounds-used-start c).In_ok-table).end)
 
 pub slice_bounds-used-end : goal.slice_bounds-used-end
-slice_bounds-used-end c =
-    let file : List ℕ = c.args.image.now in
-    let base_read : Reads file 0 one_base c.section_at-base.result = rw c.one_base.ensures at c.section_at-base.ensures in
-    let base : Base file c.section_at-base.result = base_known _ base_read c.if-base-ne0.false in
-    let file2 : List ℕ = file in
-    let table_read : Reads file2 c.section_at-base.result.end table_bytes c.section_at-table.result = rw c.table_bytes.ensures at c.section_at-table.ensures in
-    let table : Table file2 c.section_at-table.result = table_known _ base table_read c.if-table-ne0.false in
-    table.room
+slice_bounds-used-end c = (table (goal.at.slice_bounds-used-end c).In_ok-table).room
 
 pub used-used-requires : goal.used-used-requires
 used-used-requires c =
-    let file : List ℕ = c.args.image.now in
-    let base_read : Reads file 0 one_base c.section_at-base.result = rw c.one_base.ensures at c.section_at-base.ensures in
-    let base : Base file c.section_at-base.result = base_known _ base_read c.if-base-ne0.false in
-    let file2 : List ℕ = file in
-    let table_read : Reads file2 c.section_at-base.result.end table_bytes c.section_at-table.result = rw c.table_bytes.ensures at c.section_at-table.ensures in
-    let table : Table file2 c.section_at-table.result = table_known _ base table_read c.if-table-ne0.false in
-    omega (arith, table.end, table.most, length-take (c.section_at-table.result.end - 8) (drop 8 file2))
+    let t = table (goal.at.used-used-requires c).In_ok-table in
+    omega (arith, t.end, t.most, length-take (c.in_ok-table.table.end - 8) (drop 8 c.args.image.now))
 
-pub section_at-blocks-requires : goal.section_at-blocks-requires
-section_at-blocks-requires c =
-    let file : List ℕ = c.args.image.now in
-    let base_read : Reads file 0 one_base c.section_at-base.result = rw c.one_base.ensures at c.section_at-base.ensures in
-    let base : Base file c.section_at-base.result = base_known _ base_read c.if-base-ne0.false in
-    let file2 : List ℕ = file in
-    let table_read : Reads file2 c.section_at-base.result.end table_bytes c.section_at-table.result = rw c.table_bytes.ensures at c.section_at-table.ensures in
-    let table : Table file2 c.section_at-table.result = table_known _ base table_read c.if-table-ne0.false in
-    let used_is : c.used-used.result ≡ used (entries_for (file_of file2).table) = c.used-used.ensures ∙ ap (λ (bs : List ℕ). used (entries_of bs)) (sym table.body) in
-    let file3 : List ℕ = file2 in
-    let kind_is : kind_by c.blocks-2.result ≡ used_in (file_of file3).table = c.blocks-2.ensures ∙ ap blocks_of used_is in
-    let t = table in (t.room, rw kind_is (small_blocks _ t))
+pub section_at-requires-3 : goal.section_at-requires-3
+section_at-requires-3 c =
+    let at = goal.at.section_at-requires-3 c in
+    let t = table at.In_ok-table in
+    (t.room, rw (kind_is at.After-blocks-2) (small_blocks _ t))
 
-pub returns-then-blocks-ne0 : goal.returns-then-blocks-ne0
-returns-then-blocks-ne0 c =
-    let file : List ℕ = c.args.image.now in
-    let base_read : Reads file 0 one_base c.section_at-base.result = rw c.one_base.ensures at c.section_at-base.ensures in
-    let base : Base file c.section_at-base.result = base_known _ base_read c.if-base-ne0.false in
-    let file2 : List ℕ = file in
-    let table_read : Reads file2 c.section_at-base.result.end table_bytes c.section_at-table.result = rw c.table_bytes.ensures at c.section_at-table.ensures in
-    let table : Table file2 c.section_at-table.result = table_known _ base table_read c.if-table-ne0.false in
-    let used_is : c.used-used.result ≡ used (entries_for (file_of file2).table) = c.used-used.ensures ∙ ap (λ (bs : List ℕ). used (entries_of bs)) (sym table.body) in
-    let file3 : List ℕ = file2 in
-    let kind_is : kind_by c.blocks-2.result ≡ used_in (file_of file3).table = c.blocks-2.ensures ∙ ap blocks_of used_is in
-    let blocks_read : Reads file3 c.section_at-table.result.end (used_in (file_of file3).table) c.section_at-blocks.result = rw kind_is at c.section_at-blocks.ensures in
-    let fault = c.if-blocks-ne0.true in
-    faulty _ c.no_file-then-blocks-ne0.ensures fault (left_fault (used_in (file_of file3).table) (from_roots _) table.left blocks_read.fault fault)
+pub returns-in_err-blocks : goal.returns-in_err-blocks
+returns-in_err-blocks c =
+    let at = goal.at.returns-in_err-blocks c in
+    let read = rw (kind_is at.After-blocks-2) at c.in_err-blocks.ensures in
+    faulty _ _ _ c.from_residual-in_err-blocks.ensures.1
+    (left_fault (used_in (file_of c.args.image.now).table) (from_roots _) (table at.In_ok-table).left read.fault (not_accepted _))
 
 -- ---- the roots
 
-pub section_at-roots-requires : goal.section_at-roots-requires
-section_at-roots-requires c =
-    let file : List ℕ = c.args.image.now in
-    let base_read : Reads file 0 one_base c.section_at-base.result = rw c.one_base.ensures at c.section_at-base.ensures in
-    let base : Base file c.section_at-base.result = base_known _ base_read c.if-base-ne0.false in
-    let file2 : List ℕ = file in
-    let table_read : Reads file2 c.section_at-base.result.end table_bytes c.section_at-table.result = rw c.table_bytes.ensures at c.section_at-table.ensures in
-    let table : Table file2 c.section_at-table.result = table_known _ base table_read c.if-table-ne0.false in
-    let used_is : c.used-used.result ≡ used (entries_for (file_of file2).table) = c.used-used.ensures ∙ ap (λ (bs : List ℕ). used (entries_of bs)) (sym table.body) in
-    let file3 : List ℕ = file2 in
-    let kind_is : kind_by c.blocks-2.result ≡ used_in (file_of file3).table = c.blocks-2.ensures ∙ ap blocks_of used_is in
-    let blocks_read : Reads file3 c.section_at-table.result.end (used_in (file_of file3).table) c.section_at-blocks.result = rw kind_is at c.section_at-blocks.ensures in
-    let file4 : List ℕ = file3 in
-    let blocks : Blocks file4 c.section_at-table.result c.section_at-blocks.result = blocks_known _ table blocks_read c.if-blocks-ne0.false in
-    (blocks.room, rw c.root_words.ensures small_roots)
+pub section_at-requires-4 : goal.section_at-requires-4
+section_at-requires-4 c = ((blocks (goal.at.section_at-requires-4 c).After-root_words).room, rw c.root_words.ensures small_roots)
 
-pub returns-then-roots-ne0 : goal.returns-then-roots-ne0
-returns-then-roots-ne0 c =
-    let file : List ℕ = c.args.image.now in
-    let base_read : Reads file 0 one_base c.section_at-base.result = rw c.one_base.ensures at c.section_at-base.ensures in
-    let base : Base file c.section_at-base.result = base_known _ base_read c.if-base-ne0.false in
-    let file2 : List ℕ = file in
-    let table_read : Reads file2 c.section_at-base.result.end table_bytes c.section_at-table.result = rw c.table_bytes.ensures at c.section_at-table.ensures in
-    let table : Table file2 c.section_at-table.result = table_known _ base table_read c.if-table-ne0.false in
-    let used_is : c.used-used.result ≡ used (entries_for (file_of file2).table) = c.used-used.ensures ∙ ap (λ (bs : List ℕ). used (entries_of bs)) (sym table.body) in
-    let file3 : List ℕ = file2 in
-    let kind_is : kind_by c.blocks-2.result ≡ used_in (file_of file3).table = c.blocks-2.ensures ∙ ap blocks_of used_is in
-    let blocks_read : Reads file3 c.section_at-table.result.end (used_in (file_of file3).table) c.section_at-blocks.result = rw kind_is at c.section_at-blocks.ensures in
-    let file4 : List ℕ = file3 in
-    let blocks : Blocks file4 c.section_at-table.result c.section_at-blocks.result = blocks_known _ table blocks_read c.if-blocks-ne0.false in
-    let roots_read : Reads file4 c.section_at-blocks.result.end root_words c.section_at-roots.result = rw c.root_words.ensures at c.section_at-roots.ensures in
-    let fault = c.if-roots-ne0.true in
-    faulty _ c.no_file-then-roots-ne0.ensures fault (left_fault root_words (from_end _) blocks.left roots_read.fault fault)
+pub returns-in_err-roots : goal.returns-in_err-roots
+returns-in_err-roots c =
+    let read = rw c.root_words.ensures at c.in_err-roots.ensures in
+    let b = blocks (goal.at.returns-in_err-roots c).After-root_words in
+    faulty _ _ _ c.from_residual-in_err-roots.ensures.1 (left_fault root_words (from_end _) b.left read.fault (not_accepted _))
 
 -- ---- the end
 
 pub returns-then-roots-image : goal.returns-then-roots-image
 returns-then-roots-image c =
-    let file : List ℕ = c.args.image.now in
-    let base_read : Reads file 0 one_base c.section_at-base.result = rw c.one_base.ensures at c.section_at-base.ensures in
-    let base : Base file c.section_at-base.result = base_known _ base_read c.if-base-ne0.false in
-    let file2 : List ℕ = file in
-    let table_read : Reads file2 c.section_at-base.result.end table_bytes c.section_at-table.result = rw c.table_bytes.ensures at c.section_at-table.ensures in
-    let table : Table file2 c.section_at-table.result = table_known _ base table_read c.if-table-ne0.false in
-    let used_is : c.used-used.result ≡ used (entries_for (file_of file2).table) = c.used-used.ensures ∙ ap (λ (bs : List ℕ). used (entries_of bs)) (sym table.body) in
-    let file3 : List ℕ = file2 in
-    let kind_is : kind_by c.blocks-2.result ≡ used_in (file_of file3).table = c.blocks-2.ensures ∙ ap blocks_of used_is in
-    let blocks_read : Reads file3 c.section_at-table.result.end (used_in (file_of file3).table) c.section_at-blocks.result = rw kind_is at c.section_at-blocks.ensures in
-    let file4 : List ℕ = file3 in
-    let blocks : Blocks file4 c.section_at-table.result c.section_at-blocks.result = blocks_known _ table blocks_read c.if-blocks-ne0.false in
-    let roots_read : Reads file4 c.section_at-blocks.result.end root_words c.section_at-roots.result = rw c.root_words.ensures at c.section_at-roots.ensures in
-    let roots : Roots file4 c.section_at-table.result c.section_at-roots.result = roots_known _ blocks roots_read c.if-roots-ne0.false in
-    faulty 16 c.no_file-then-roots-image.ensures (λ z. omega arith) (left_over_is roots.left c.if-roots-image.true)
+    (left_over_is (roots (goal.at.returns-then-roots-image c).In_ok-roots).left c.if-roots-image.true, tt)
 
 pub slice_bounds-word-end : goal.slice_bounds-word-end
-slice_bounds-word-end c =
-    let file : List ℕ = c.args.image.now in
-    let base_read : Reads file 0 one_base c.section_at-base.result = rw c.one_base.ensures at c.section_at-base.ensures in
-    let base : Base file c.section_at-base.result = base_known _ base_read c.if-base-ne0.false in
-    base.room
+slice_bounds-word-end c = (base (goal.at.slice_bounds-word-end c).After-table_bytes).room
 
 pub returns : goal.returns
 returns c =
-    let file : List ℕ = c.args.image.now in
-    let base_read : Reads file 0 one_base c.section_at-base.result = rw c.one_base.ensures at c.section_at-base.ensures in
-    let base : Base file c.section_at-base.result = base_known _ base_read c.if-base-ne0.false in
-    let file2 : List ℕ = file in
-    let table_read : Reads file2 c.section_at-base.result.end table_bytes c.section_at-table.result = rw c.table_bytes.ensures at c.section_at-table.ensures in
-    let table : Table file2 c.section_at-table.result = table_known _ base table_read c.if-table-ne0.false in
-    let used_is : c.used-used.result ≡ used (entries_for (file_of file2).table) = c.used-used.ensures ∙ ap (λ (bs : List ℕ). used (entries_of bs)) (sym table.body) in
-    let file3 : List ℕ = file2 in
-    let kind_is : kind_by c.blocks-2.result ≡ used_in (file_of file3).table = c.blocks-2.ensures ∙ ap blocks_of used_is in
-    let blocks_read : Reads file3 c.section_at-table.result.end (used_in (file_of file3).table) c.section_at-blocks.result = rw kind_is at c.section_at-blocks.ensures in
-    let file4 : List ℕ = file3 in
-    let blocks : Blocks file4 c.section_at-table.result c.section_at-blocks.result = blocks_known _ table blocks_read c.if-blocks-ne0.false in
-    let roots_read : Reads file4 c.section_at-blocks.result.end root_words c.section_at-roots.result = rw c.root_words.ensures at c.section_at-roots.ensures in
-    let roots : Roots file4 c.section_at-table.result c.section_at-roots.result = roots_known _ blocks roots_read c.if-roots-ne0.false in
-    (left_none roots.left c.if-roots-image.false, λ z. file_says _ base table blocks roots c.if-roots-image.false c.word.ensures used_is)
+    let at = goal.at.returns c in
+    let r = roots at.In_ok-roots in (
+      left_none r.left c.if-roots-image.false,
+      file_says _ (base at.After-table_bytes) (table at.In_ok-table) (blocks at.After-root_words) r c.if-roots-image.false c.word.ensures (used_is at.After-blocks-2),
+    )
