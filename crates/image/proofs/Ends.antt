@@ -8,6 +8,7 @@ use native.Mathlib.Omega.{arith}
 use lib.ListN.{length}
 use lib.Seq.{sets, sets-eq}
 use borrow.Author.Tests.{lt-ltb, le-ltb}
+use Rattle.std.specs.Prelude.{Ok, Err}
 use Rattle.rules.specs.Tables.{used}
 use Rattle.laws.specs.Meaning.{AllBytes}
 use Rattle.rules.specs.Outcomes.{Heap, writing}
@@ -22,11 +23,15 @@ use Rattle.laws.proofs.Planes.{length_entries_in, planes_faithful}
 use Rattle.laws.proofs.Refusals.{refusal_is, first_yes, first_last, first_more, accepts, roots_passed}
 use Rattle.laws.proofs.Images.{length_image}
 use Rattle.laws.proofs.Memory.{sound_of, refused_first_in, refused_next_in, left_in, acted_filling}
+use Rattle.refusals.specs.declared.Refusal.{Refusal}
+use Rattle.refusals.specs.declared.Refusal.TheVariants.{OutputTooShort}
+use Rattle.refusals.specs.Codes.{code}
+use Rattle.refusals.proofs.Codes.{not_accepted}
 use Rattle.checks.specs.Refusal.{refusal_by}
 use Rattle.checks.proofs.FirstTests.{is_table_roots}
-use Rattle.image.specs.Answers.{written, unwritten_by}
+use Rattle.image.specs.Answers.{written}
 
-module _ (t base : ℕ) (pool table roots buffer : List ℕ) {r : ℕ} (first : r ≡ refusal_by t pool table (λ (h : Heap). root_tests base h roots)) where
+module _ (t base : ℕ) (pool table roots buffer : List ℕ) where
   abbrev h : Heap
   h = heap_at t pool table
 
@@ -47,20 +52,21 @@ module _ (t base : ℕ) (pool table roots buffer : List ℕ) {r : ℕ} (first : 
   number = refusal_is (first_of (image_tests base h roots (length buffer))) h [] _ (λ _. refl)
 
   -- a refusal writes nothing
-  refused : (n : ℕ) → 0 < n → n ≡ first_of (tests_in (planes t) call m (first_of (image_tests base h roots (length buffer))))
-      → written (unwritten_by n) pool table buffer ≡ with_buffer buffer (perform (planes t) call [] m)
+  refused : (r : Refusal) → code r ≡ first_of (tests_in (planes t) call m (first_of (image_tests base h roots (length buffer))))
+      → written (Err r) pool table buffer ≡ with_buffer buffer (perform (planes t) call [] m)
   unfolding step
-  refused n p e = rw (← left_in (planes t) call [] m n (ap (λ (n : ℕ). first_of (tests_in (planes t) call m n)) number ∙ sym e) p)
+  refused r e = rw (← left_in (planes t) call [] m (code r) (ap (λ (n : ℕ). first_of (tests_in (planes t) call m n)) number ∙ sym e) (omega (arith, not_accepted r)))
 
   -- by the tests of the heap and the roots
-  pub image_refused : (r ≡ 0 → ⊥) → written (unwritten_by r) pool table buffer ≡ with_buffer buffer (perform (planes t) call [] m)
-  image_refused ne = refused r (omega arith) (refused_first_in (planes t) m (root_tests base h roots) (short_buffer (length buffer) image ∷ []) refl refl first ne)
+  pub image_refused : (r : Refusal) → code r ≡ refusal_by t pool table (λ (h : Heap). root_tests base h roots)
+      → written (Err r) pool table buffer ≡ with_buffer buffer (perform (planes t) call [] m)
+  image_refused r first = refused r (refused_first_in (planes t) m (root_tests base h roots) (short_buffer (length buffer) image ∷ []) refl refl first (not_accepted r))
 
   -- ---- where those do not refuse
 
-  module _ (ok : r ≡ 0) where
+  module _ (first : 0 ≡ refusal_by t pool table (λ (h : Heap). root_tests base h roots)) where
     passes : Sound (planes t) m × (first_of (root_tests base h roots) ≡ 0)
-    passes = sound_of (planes t) m (root_tests base h roots) first ok
+    passes = sound_of (planes t) m (root_tests base h roots) first refl
 
     -- what is known then
     pub record Known : Type 0 where
@@ -76,7 +82,7 @@ module _ (t base : ℕ) (pool table roots buffer : List ℕ) {r : ℕ} (first : 
         let (good, whole_words_are, few_words, _) = roots_passed base h roots [] passes.1 in
         let shape = good.shape in
         record {
-          is = (is_table_roots base t pool table roots first ok).0;
+          is = (is_table_roots base t pool table roots first refl).0;
           whole = shape.pool;
           address = omega (arith, shape.below, shape.some);
           few = omega (arith, used_le (entries_in t table), shape.few);
@@ -85,15 +91,15 @@ module _ (t base : ℕ) (pool table roots buffer : List ℕ) {r : ℕ} (first : 
         }
 
     -- the buffer is too short
-    pub image_short : length buffer < length image → written (unwritten_by 10) pool table buffer ≡ with_buffer buffer (perform (planes t) call [] m)
+    pub image_short : length buffer < length image → written (Err OutputTooShort) pool table buffer ≡ with_buffer buffer (perform (planes t) call [] m)
     image_short short =
-        refused 10 (omega arith)
-        (refused_next_in (planes t) m (root_tests base h roots) (short_buffer (length buffer) image ∷ []) refl first ok
+        refused OutputTooShort
+        (refused_next_in (planes t) m (root_tests base h roots) (short_buffer (length buffer) image ∷ []) refl first refl
         (sym (first_yes (short_buffer (length buffer) image) [] (lt-ltb (length buffer) (length image) short))))
 
     -- it is long enough, and the image is written from its front on
     pub image_done : {n : ℕ} {buffer' : List ℕ} → length image ≤ length buffer → n ≡ length image → AllBytes table → buffer' ≡ sets buffer 0 image
-        → written (record { refusal = 0; length = n }) pool table buffer' ≡ with_buffer buffer (perform (planes t) call [] m)
+        → written (Ok n) pool table buffer' ≡ with_buffer buffer (perform (planes t) call [] m)
     unfolding step write_image
     image_done fits long bytes e =
         let s = passes.0 in

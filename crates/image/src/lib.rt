@@ -8,16 +8,10 @@ ghost use Rattle.rules.specs.Planes.{planes, entries_in, IsTable, heap_at};
 ghost use Rattle.rules.specs.Images.{image_of};
 ghost use Rattle.rules.specs.Runs.{WriteImage};
 ghost use Rattle.rules.specs.Memory.{memory, with_buffer, perform};
-ghost use Rattle.image.specs.Answers.{written, unwritten_by};
+ghost use Rattle.image.specs.Answers.{written};
 
 use numbers::{Address, Bytes};
-
-// The refusal number, and how long the image is.
-#[derive(Clone, Copy)]
-pub struct Written {
-    pub refusal: u32,
-    pub length: u32,
-}
+use refusals::Refusal;
 
 // The four sections, one behind the other: the base, the packed table, the used blocks, the roots.
 fn write_sections(
@@ -45,14 +39,7 @@ fn write_sections(
     memory::set_part(&mut *image, list + 2, roots);
 }
 
-// A refusal: the length is zero.
-fn unwritten(refusal: u32) -> Written
-    ensures { result ≡ unwritten_by refusal }
-{
-    Written { refusal, length: 0 }
-}
-
-// The image of the heap and the roots, from the front of the buffer on. What is behind it stays.
+// The image of the heap and the roots, from the front of the buffer on, and how long it is. What is behind it stays.
 pub fn write(
     base: Address,
     t: usize,
@@ -60,22 +47,16 @@ pub fn write(
     table: &[u8],
     roots: &[u8],
     image: &mut [u8],
-) -> Written
+) -> Result<u32, Refusal>
     ensures { written result pool.now table.now image.new
         ≡ with_buffer image.old (perform (planes t) (WriteImage base.0 roots.now (length image.old)) [] (memory pool.now table.now)) }
 {
-    let r = checks::root_list(base, t, pool, table, roots.len());
-    if r != 0 {
-        return unwritten(r);
-    }
+    checks::root_list(base, t, pool, table, roots.len())?;
     let used = whole::count(t, table).used;
     let length = 12 + t + Bytes::of_blocks(used).index() + roots.len();
     if image.len() < length {
-        return unwritten(refusals::OUTPUT_TOO_SHORT);
+        return Err(Refusal::OutputTooShort);
     }
     write_sections(base, t, pool, table, roots, image, used);
-    Written {
-        refusal: 0,
-        length: length as u32,
-    }
+    Ok(length as u32)
 }

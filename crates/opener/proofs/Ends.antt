@@ -9,6 +9,7 @@ use lib.Dec.{eqb, ltb}
 use lib.ListN.{length, drop, length-drop}
 use lib.Seq.{sets-eq, length-take-le}
 use borrow.Author.Tests.{eqb-true, ne_eqb}
+use Rattle.std.specs.Prelude.{Ok, Err}
 use Rattle.rules.specs.Tests.{pick, both, either}
 use Rattle.rules.specs.Tables.{well_formed}
 use Rattle.laws.specs.Meaning.{AllBytes}
@@ -24,9 +25,12 @@ use Rattle.laws.proofs.Entries.{length_entries_of}
 use Rattle.laws.proofs.Planes.{length_entries_in, planes_faithful, table_sound}
 use Rattle.laws.proofs.Memory.{Passes, tests_passed, left_in, acted_filling}
 use Rattle.laws.proofs.Opening.{Opens, open_passed}
+use Rattle.refusals.specs.declared.Refusal.{Refusal}
+use Rattle.refusals.specs.Codes.{code}
+use Rattle.refusals.proofs.Codes.{not_accepted}
 use Rattle.parser.specs.declared.File.{File}
 use Rattle.parser.specs.Reading.{Says}
-use Rattle.opener.specs.Answers.{opened, unopened_by}
+use Rattle.opener.specs.Answers.{opened}
 use Rattle.opener.specs.Filling.{lent_tests, Suits, Filled}
 
 -- ---- what a file says of its lengths
@@ -65,14 +69,14 @@ module _ (t : ℕ) (image pool table roots : List ℕ) where
   number = refusal_is (first_of (open_tests h image room)) h [] _ (λ _. refl)
 
   -- a refusal writes nothing
-  refused : (n : ℕ) → 0 < n → n ≡ first_of (tests_in (planes t) call m (first_of (open_tests h image room)))
-      → opened (unopened_by n) pool table roots ≡ with_buffer roots (perform (planes t) call [] m)
+  refused : (r : Refusal) → code r ≡ first_of (tests_in (planes t) call m (first_of (open_tests h image room)))
+      → opened (Err r) pool table roots ≡ with_buffer roots (perform (planes t) call [] m)
   unfolding step
-  refused n p e = rw (← left_in (planes t) call [] m n (ap (λ (n : ℕ). first_of (tests_in (planes t) call m n)) number ∙ sym e) p)
+  refused r e = rw (← left_in (planes t) call [] m (code r) (ap (λ (n : ℕ). first_of (tests_in (planes t) call m n)) number ∙ sym e) (omega (arith, not_accepted r)))
 
   -- by a fault
-  pub open_faulty : {r : ℕ} → r ≡ fault_of image → (r ≡ 0 → ⊥) → opened (unopened_by r) pool table roots ≡ with_buffer roots (perform (planes t) call [] m)
-  open_faulty {r} e ne = refused r (omega arith) (e ∙ sym (first_yes _ _ (ap not (ne_eqb (fault_of image) 0 (λ z. ne (e ∙ z))))))
+  pub open_faulty : (r : Refusal) → code r ≡ fault_of image → opened (Err r) pool table roots ≡ with_buffer roots (perform (planes t) call [] m)
+  open_faulty r e = refused r (e ∙ sym (first_yes _ _ (ap not (ne_eqb (fault_of image) 0 (λ z. not_accepted r (e ∙ z))))))
 
   -- ---- where the file has no fault
 
@@ -100,14 +104,14 @@ module _ (t : ℕ) (image pool table roots : List ℕ) where
         go true true true false = refl
         go true true true true = refl
 
-    pub open_unsuited : {r : ℕ} → r ≡ first_of (lent_tests t image pool table room) → (r ≡ 0 → ⊥) → opened (unopened_by r) pool table roots ≡ with_buffer roots (perform (planes t) call [] m)
-    open_unsuited {r} e ne = refused r (omega arith) (e ∙ as_lent)
+    pub open_unsuited : (r : Refusal) → code r ≡ first_of (lent_tests t image pool table room) → opened (Err r) pool table roots ≡ with_buffer roots (perform (planes t) call [] m)
+    open_unsuited r e = refused r (e ∙ as_lent)
 
     -- ---- where nothing refuses
 
-    module _ {file : File} (says : Says image file) {r : ℕ} (tests : r ≡ first_of (lent_tests t image pool table room)) (accepted : r ≡ 0) where
+    module _ {file : File} (says : Says image file) (accepted : 0 ≡ first_of (lent_tests t image pool table room)) where
       passes : Passes (planes t) call m (first_of (open_tests h image room))
-      passes = tests_passed (planes t) call m (first_of (open_tests h image room)) (sym as_lent ∙ sym tests ∙ accepted)
+      passes = tests_passed (planes t) call m (first_of (open_tests h image room)) (sym (accepted ∙ as_lent))
 
       opens : Opens h image room
       opens = open_passed h image room passes.own
@@ -124,7 +128,7 @@ module _ (t : ℕ) (image pool table roots : List ℕ) where
 
       -- and is opened
       pub open_done : {pool' table' roots' : List ℕ} → AllBytes table' → Filled image t roots pool' table' roots'
-          → opened (record { refusal = 0; base = file.base; roots = file.roots }) pool' table' roots' ≡ with_buffer roots (perform (planes t) call [] m)
+          → opened (Ok (record { base = file.base; roots = file.roots })) pool' table' roots' ≡ with_buffer roots (perform (planes t) call [] m)
       unfolding step open_image
       open_done {pool' = pool'} {table' = table'} bytes filled =
           let words : length (roots_of f) / 4 ≡ file.roots = omega (arith, roots_long says) in

@@ -6,44 +6,52 @@ ghost use Rattle.rules.specs.Planes.{planes};
 ghost use Rattle.rules.specs.Refusals.{first_of};
 ghost use Rattle.rules.specs.Runs.{OpenImage};
 ghost use Rattle.rules.specs.Memory.{memory, with_buffer, perform};
+ghost use Rattle.refusals.specs.Codes.{refused_by};
 ghost use Rattle.parser.specs.Reading.{Says};
-ghost use Rattle.opener.specs.Answers.{opened, unopened_by};
+ghost use Rattle.opener.specs.Answers.{opened};
 ghost use Rattle.opener.specs.Filling.{lent_tests, Suits, Filled};
 
 use numbers::{Address, Bytes};
 use parser::File;
+use refusals::Refusal;
 
-// The refusal number, the base, and how many roots there are.
+// The base, and how many roots there are.
 #[derive(Clone, Copy)]
 pub struct Opened {
-    pub refusal: u32,
     pub base: u32,
     pub roots: u32,
 }
 
 // Refusals 1, 2 and 17: whether the file, which has no fault, suits what is lent. What that holds is not looked at.
-fn check(image: &[u8], file: File, t: usize, pool: &[u8], table: &[u8], roots: &[u8]) -> u32
+fn check(
+    image: &[u8],
+    file: File,
+    t: usize,
+    pool: &[u8],
+    table: &[u8],
+    roots: &[u8],
+) -> Result<(), Refusal>
     requires { Says image.now file }
-    ensures { result ≡ first_of (lent_tests t image.now pool.now table.now (length roots.now)) }
+    ensures { refused_by result ≡ first_of (lent_tests t image.now pool.now table.now (length roots.now)) }
 {
     if file.t != t {
-        return refusals::BAD_SHAPE;
+        return Err(Refusal::BadShape);
     }
     if roots.len() % 4 != 0 {
-        return refusals::BAD_SHAPE;
+        return Err(Refusal::BadShape);
     }
-    if !checks::good_shape(Address::of_number(file.base as u64), t, pool, table) {
-        return refusals::BAD_SHAPE;
+    if !checks::good_shape(Address::from(file.base), t, pool, table) {
+        return Err(Refusal::BadShape);
     }
     let end = 8 + t;
     let packed = &image[8..end];
     if !packing::well_formed(packed) {
-        return refusals::BAD_TABLE;
+        return Err(Refusal::BadTable);
     }
     if roots.len() < 4 * file.roots {
-        return refusals::ROOTS_TOO_SHORT;
+        return Err(Refusal::RootsTooShort);
     }
-    0
+    Ok(())
 }
 
 // The table, the pool and the roots become those of the file. Every block that is not used becomes zero, and what is behind the roots stays.
@@ -60,17 +68,6 @@ fn fill(image: &[u8], file: File, t: usize, pool: &mut [u8], table: &mut [u8], r
     memory::set_part(&mut *roots, 0, &image[words..]);
 }
 
-// A refusal: the other answers are zero.
-fn unopened(refusal: u32) -> Opened
-    ensures { result ≡ unopened_by refusal }
-{
-    Opened {
-        refusal,
-        base: 0,
-        roots: 0,
-    }
-}
-
 // The file becomes the heap in the lent pool and table, and its roots the first of the lent list.
 pub fn open_image(
     image: &[u8],
@@ -78,22 +75,15 @@ pub fn open_image(
     pool: &mut [u8],
     table: &mut [u8],
     roots: &mut [u8],
-) -> Opened
+) -> Result<Opened, Refusal>
     ensures { opened result pool.new table.new roots.new
         ≡ with_buffer roots.old (perform (planes t) (OpenImage image.now (length roots.old)) [] (memory pool.old table.old)) }
 {
-    let file = parser::parse(image);
-    if file.fault != 0 {
-        return unopened(file.fault);
-    }
-    let r = check(image, file, t, &*pool, &*table, &*roots);
-    if r != 0 {
-        return unopened(r);
-    }
+    let file = parser::parse(image)?;
+    check(image, file, t, &*pool, &*table, &*roots)?;
     fill(image, file, t, pool, table, roots);
-    Opened {
-        refusal: 0,
+    Ok(Opened {
         base: file.base,
         roots: file.roots as u32,
-    }
+    })
 }

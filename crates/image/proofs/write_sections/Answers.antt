@@ -9,8 +9,8 @@ use lib.Seq.{sets}
 use borrow.Author.Rules.{rules}
 use Rattle.rules.specs.Words.{bytes_of}
 use Rattle.rules.specs.Entries.{table_of}
-use Rattle.rules.specs.Tables.{used}
-use Rattle.rules.specs.Planes.{entries_in, heap_at}
+use Rattle.rules.specs.Tables.{used as used_of}
+use Rattle.rules.specs.Planes.{entries_in, IsTable, heap_at}
 use Rattle.rules.specs.Images.{used_from}
 use Rattle.laws.proofs.Words.{length_bytes_of}
 use Rattle.laws.proofs.Entries.{length_table_of}
@@ -20,10 +20,19 @@ use Rattle.laws.proofs.Images.{length_used}
 use Rattle.laws.proofs.Widths.{in_32_bits}
 use Rattle.image.proofs.Sections.{begins_empty, section_next, all_sections}
 use Rattle.image.proofs.write_sections.Goals as goal
+use Rattle.image.proofs.write_sections.Goals.{After-index}
 
 -- the base is stored as the word that it is
 word_at : (image : List ℕ) (at : ℕ) {v w : ℕ} → v ≡ w → sets image at (bytes_of v) ≡ sets image at (bytes_of w)
 word_at image at e = rw e
+
+-- the table and the used blocks are few bytes
+small : {t used : ℕ} {table : List ℕ} → IsTable t table → used ≡ used_of (entries_in t table) → t + 16 * used ≤ 1024 + 16 * 4096
+small {t} {table = table} is count = omega (arith, is.sized.few, used_le (entries_in t table), few_entries t table is)
+
+-- the bytes of the used blocks
+size : (c : After-index) → c.index.result ≡ 16 * c.args.used
+size c = omega (arith, c.index.ensures, c.of_blocks.ensures)
 
 pub overflow_add-blocks : goal.overflow_add-blocks
 overflow_add-blocks c = in_32_bits (search rules)
@@ -31,68 +40,23 @@ overflow_add-blocks c = in_32_bits (search rules)
 pub overflow_add-blocks-2 : goal.overflow_add-blocks-2
 overflow_add-blocks-2 c = in_32_bits (search rules)
 
-pub gather-requires : goal.gather-requires
-gather-requires c =
-    let long : length c.set_two_bytes-3.new.bytes ≡ length c.args.image.now =
-    c.set_two_bytes-3.auto.bytes ∙ c.pack.auto.buffer ∙ c.set_two_bytes-2.auto.bytes ∙ c.set_four_bytes.auto.bytes ∙ c.set_two_bytes.auto.bytes in
-    (c.requires.table.0, (c.requires.table.1.0, omega (arith, long, c.requires.used_value.0, c.requires.used_value.1)))
-
 pub overflow_add-list : goal.overflow_add-list
-overflow_add-list c =
-    let small : c.args.t + 16 * c.args.used ≤ 1024 + 16 * 4096 =
-    let is = c.requires.table.0 in
-    omega (arith, is.sized.few, c.requires.used_value.0, used_le (entries_in c.args.t c.args.table.now), few_entries c.args.t c.args.table.now is) in
-    in_32_bits (record { fits = omega (arith, small) })
+overflow_add-list c = in_32_bits (record { fits = omega (arith, small c.requires.table.0 c.requires.used_value.0) })
 
 pub of_blocks-requires : goal.of_blocks-requires
-of_blocks-requires c =
-    let small : c.args.t + 16 * c.args.used ≤ 1024 + 16 * 4096 =
-    let is = c.requires.table.0 in
-    omega (arith, is.sized.few, c.requires.used_value.0, used_le (entries_in c.args.t c.args.table.now), few_entries c.args.t c.args.table.now is) in
-    omega (arith, small)
+of_blocks-requires c = omega (arith, small c.requires.table.0 c.requires.used_value.0)
 
 pub overflow_add-list-2 : goal.overflow_add-list-2
 overflow_add-list-2 c =
-    let small : c.args.t + 16 * c.args.used ≤ 1024 + 16 * 4096 =
-    let is = c.requires.table.0 in
-    omega (arith, is.sized.few, c.requires.used_value.0, used_le (entries_in c.args.t c.args.table.now), few_entries c.args.t c.args.table.now is) in
-    let size : c.index.result ≡ 16 * c.args.used = omega (arith, c.index.ensures, c.of_blocks.ensures) in
-    in_32_bits (record { fits = omega (arith, size, small) })
-
-pub set_two_bytes-requires-4 : goal.set_two_bytes-requires-4
-set_two_bytes-requires-4 c =
-    let long : length c.set_two_bytes-3.new.bytes ≡ length c.args.image.now =
-    c.set_two_bytes-3.auto.bytes ∙ c.pack.auto.buffer ∙ c.set_two_bytes-2.auto.bytes ∙ c.set_four_bytes.auto.bytes ∙ c.set_two_bytes.auto.bytes in
-    let still_long : length c.gather.new.image ≡ length c.args.image.now = c.gather.auto.image ∙ long in
-    let size : c.index.result ≡ 16 * c.args.used = omega (arith, c.index.ensures, c.of_blocks.ensures) in
-    omega (arith, size, still_long, c.requires.used_value.1)
+    in_32_bits (record { fits = omega (arith, size (goal.at.overflow_add-list-2 c).After-index, small c.requires.table.0 c.requires.used_value.0) })
 
 pub overflow_add-list-3 : goal.overflow_add-list-3
 overflow_add-list-3 c =
-    let small : c.args.t + 16 * c.args.used ≤ 1024 + 16 * 4096 =
-    let is = c.requires.table.0 in
-    omega (arith, is.sized.few, c.requires.used_value.0, used_le (entries_in c.args.t c.args.table.now), few_entries c.args.t c.args.table.now is) in
-    let size : c.index.result ≡ 16 * c.args.used = omega (arith, c.index.ensures, c.of_blocks.ensures) in
-    in_32_bits (record { fits = omega (arith, size, small) })
-
-pub set_part-requires : goal.set_part-requires
-set_part-requires c =
-    let long : length c.set_two_bytes-3.new.bytes ≡ length c.args.image.now =
-    c.set_two_bytes-3.auto.bytes ∙ c.pack.auto.buffer ∙ c.set_two_bytes-2.auto.bytes ∙ c.set_four_bytes.auto.bytes ∙ c.set_two_bytes.auto.bytes in
-    let still_long : length c.gather.new.image ≡ length c.args.image.now = c.gather.auto.image ∙ long in
-    let size : c.index.result ≡ 16 * c.args.used = omega (arith, c.index.ensures, c.of_blocks.ensures) in
-    omega (arith, size, c.set_two_bytes-4.auto.bytes, still_long, c.requires.used_value.1)
-
-pub shape_of-image : goal.shape_of-image
-shape_of-image c =
-    let long : length c.set_two_bytes-3.new.bytes ≡ length c.args.image.now =
-    c.set_two_bytes-3.auto.bytes ∙ c.pack.auto.buffer ∙ c.set_two_bytes-2.auto.bytes ∙ c.set_four_bytes.auto.bytes ∙ c.set_two_bytes.auto.bytes in
-    let still_long : length c.gather.new.image ≡ length c.args.image.now = c.gather.auto.image ∙ long in
-    c.set_part.auto.bytes ∙ c.set_two_bytes-4.auto.bytes ∙ still_long
+    in_32_bits (record { fits = omega (arith, size (goal.at.overflow_add-list-3 c).After-index, small c.requires.table.0 c.requires.used_value.0) })
 
 pub returns : goal.returns
 returns c =
-    let size : c.index.result ≡ 16 * c.args.used = omega (arith, c.index.ensures, c.of_blocks.ensures) in
+    let size_is = size (goal.at.returns c).After-index in
     let a = c.args in
     let es = entries_in a.t a.table.now in
     let entries = length_entries_in a.t a.table.now in
@@ -104,9 +68,9 @@ returns c =
     section_next (length es / 4) (table_of es) {m = 8 + a.t} first c.set_two_bytes-2.ensures c.pack.ensures
     (omega arith) (omega arith) (omega (arith, entries)) (omega (arith, entries, length_table_of es)) in
     let third =
-    section_next (used es) (used_from a.pool.now 0 es) {m = 10 + a.t + 16 * a.used} second c.set_two_bytes-3.ensures c.gather.ensures
+    section_next (used_of es) (used_from a.pool.now 0 es) {m = 10 + a.t + 16 * a.used} second c.set_two_bytes-3.ensures c.gather.ensures
     (omega arith) (omega arith) (omega (arith, count)) (omega (arith, count, length_used a.pool.now 0 es (omega (arith, c.requires.table.1.0)))) in
     let fourth =
     section_next (length a.roots.now / 4) a.roots.now {m = 12 + a.t + 16 * a.used + length a.roots.now} third c.set_two_bytes-4.ensures c.set_part.ensures
-    (omega (arith, size)) (omega (arith, size)) (omega arith) (omega arith) in
+    (omega (arith, size_is)) (omega (arith, size_is)) (omega arith) (omega arith) in
     all_sections a.base.0 (heap_at a.t a.pool.now a.table.now) a.roots.now _ _ _ fourth

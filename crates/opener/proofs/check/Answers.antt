@@ -25,6 +25,7 @@ use Rattle.parser.specs.Reading.{Says}
 use Rattle.opener.specs.Filling.{lent_tests}
 use Rattle.opener.proofs.Ends.{table_long, roots_long}
 use Rattle.opener.proofs.check.Goals as goal
+use Rattle.opener.proofs.check.Goals.{After-good_shape}
 
 module _ {image : List ℕ} {file : File} (says : Says image file) (t : ℕ) (pool table : List ℕ) (room : ℕ) where
   abbrev f : FileOf
@@ -77,6 +78,10 @@ module _ {image : List ℕ} {file : File} (says : Says image file) (t : ℕ) (po
         neither l =
             sym (first_no _ _ (ap not (sym target_is ∙ fine)) ∙ first_no _ _ (ap not (sym formed_is ∙ fits)) ∙ first_last _ (le-ltb room (length (roots_of f)) (omega (arith, roots_long says))))
 
+-- whether the shape is good
+shape_is : (c : After-good_shape) → c.good_shape.result ≡ both (good_shape c.args.file.base (heap_at c.args.t c.args.pool.now c.args.table.now)) ((planes c.args.t).fits c.args.table.now)
+shape_is c = rw c.from.ensures at c.good_shape.ensures
+
 pub returns-then-file-t : goal.returns-then-file-t
 returns-then-file-t c = other_size c.requires _ _ _ _ c.if-file-t.true
 
@@ -85,26 +90,26 @@ returns-then-roots-ne0 c = torn c.requires _ _ _ _ c.if-roots-ne0.true
 
 pub returns-then-not-good_shape : goal.returns-then-not-good_shape
 returns-then-not-good_shape c =
-    let shape_is : c.good_shape.result ≡ both (good_shape c.args.file.base (heap_at c.args.t c.args.pool.now c.args.table.now)) ((planes c.args.t).fits c.args.table.now) = rw c.of_number.ensures at c.good_shape.ensures in
-    ill_shaped c.requires _ _ _ _ c.if-file-t.false c.if-roots-ne0.false shape_is c.if-not-good_shape.true
+    let shape = shape_is (goal.at.returns-then-not-good_shape c).After-good_shape in
+    ill_shaped c.requires _ _ _ _ c.if-file-t.false c.if-roots-ne0.false shape c.if-not-good_shape.true
 
 pub overflow_add-end : goal.overflow_add-end
 overflow_add-end c = in_slice c.args.image.now (search rules) (search rules)
 
 pub returns-then-not-well_formed : goal.returns-then-not-well_formed
 returns-then-not-well_formed c =
-    let shape_is : c.good_shape.result ≡ both (good_shape c.args.file.base (heap_at c.args.t c.args.pool.now c.args.table.now)) ((planes c.args.t).fits c.args.table.now) = rw c.of_number.ensures at c.good_shape.ensures in
-    ill_formed c.requires _ _ _ _ c.if-file-t.false c.if-roots-ne0.false shape_is c.if-not-good_shape.false c.well_formed-2.ensures c.if-not-well_formed.true
+    let shape = shape_is (goal.at.returns-then-not-well_formed c).After-good_shape in
+    ill_formed c.requires _ _ _ _ c.if-file-t.false c.if-roots-ne0.false shape c.if-not-good_shape.false c.well_formed-2.ensures c.if-not-well_formed.true
 
 pub overflow_mul-file : goal.overflow_mul-file
 overflow_mul-file c = in_32_bits (search rules)
 
 pub returns-then-roots-file : goal.returns-then-roots-file
 returns-then-roots-file c =
-    let shape_is : c.good_shape.result ≡ both (good_shape c.args.file.base (heap_at c.args.t c.args.pool.now c.args.table.now)) ((planes c.args.t).fits c.args.table.now) = rw c.of_number.ensures at c.good_shape.ensures in
-    short c.requires _ _ _ _ c.if-file-t.false c.if-roots-ne0.false shape_is c.if-not-good_shape.false c.well_formed-2.ensures c.if-not-well_formed.false c.if-roots-file.true
+    let shape = shape_is (goal.at.returns-then-roots-file c).After-good_shape in
+    short c.requires _ _ _ _ c.if-file-t.false c.if-roots-ne0.false shape c.if-not-good_shape.false c.well_formed-2.ensures c.if-not-well_formed.false c.if-roots-file.true
 
 pub returns : goal.returns
 returns c =
-    let shape_is : c.good_shape.result ≡ both (good_shape c.args.file.base (heap_at c.args.t c.args.pool.now c.args.table.now)) ((planes c.args.t).fits c.args.table.now) = rw c.of_number.ensures at c.good_shape.ensures in
-    neither c.requires _ _ _ _ c.if-file-t.false c.if-roots-ne0.false shape_is c.if-not-good_shape.false c.well_formed-2.ensures c.if-not-well_formed.false c.if-roots-file.false
+    let shape = shape_is (goal.at.returns c).After-good_shape in
+    neither c.requires _ _ _ _ c.if-file-t.false c.if-roots-ne0.false shape c.if-not-good_shape.false c.well_formed-2.ensures c.if-not-well_formed.false c.if-roots-file.false

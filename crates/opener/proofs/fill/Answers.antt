@@ -18,6 +18,7 @@ use Rattle.parser.specs.declared.File.{File}
 use Rattle.opener.specs.Filling.{Suits}
 use Rattle.opener.proofs.Ends.{table_long, blocks_long}
 use Rattle.opener.proofs.fill.Goals as goal
+use Rattle.opener.proofs.fill.Goals.{After-index}
 
 -- at most 4,096 blocks are used
 few : {image : List ℕ} {file : File} {t : ℕ} {pool table roots : List ℕ} → Suits image file t pool table roots → file.used ≤ 4096
@@ -63,6 +64,10 @@ module _ {image : List ℕ} {file : File} {t : ℕ} {pool table roots : List ℕ
     pool_is : {pool' : List ℕ} → pool' ≡ pool_of (entries_in t table') (take (from_blocks + n - from_blocks) (drop from_blocks image)) → pool' ≡ pool_of (entries_for f.table) f.blocks.body
     pool_is e = rw (holds.entries, blocks_part) at e
 
+-- the bytes of the used blocks
+size : (c : After-index) → c.index.result ≡ 16 * c.args.file.used
+size c = omega (arith, c.index.ensures, c.of_blocks.ensures)
+
 pub overflow_add-table_end : goal.overflow_add-table_end
 overflow_add-table_end c = in_32_bits (search rules)
 
@@ -74,20 +79,17 @@ of_blocks-requires c = omega (arith, few c.requires)
 
 pub overflow_add-blocks_end : goal.overflow_add-blocks_end
 overflow_add-blocks_end c =
-    let size_is : c.index.result ≡ 16 * c.args.file.used = omega (arith, c.index.ensures, c.of_blocks.ensures) in
-    in_slice c.args.image.now (omega (arith, size_is, c.requires.says.long, c.requires.bytes)) (search rules)
+    in_slice c.args.image.now (omega (arith, size (goal.at.overflow_add-blocks_end c).After-index, c.requires.says.long, c.requires.bytes)) (search rules)
 
 pub scatter-requires : goal.scatter-requires
-scatter-requires c =
-    let size_is : c.index.result ≡ 16 * c.args.file.used = omega (arith, c.index.ensures, c.of_blocks.ensures) in
-    scattered c.requires size_is c.unpack.ensures
+scatter-requires c = scattered c.requires (size (goal.at.scatter-requires c).After-index) c.unpack.ensures
 
 pub overflow_add-words : goal.overflow_add-words
 overflow_add-words c = in_slice c.args.image.now (search rules) (search rules)
 
 pub returns : goal.returns
 returns c =
-    let size_is : c.index.result ≡ 16 * c.args.file.used = omega (arith, c.index.ensures, c.of_blocks.ensures) in
+    let size_is = size (goal.at.returns c).After-index in
     let suits = c.requires in
     record {
       entries = holds suits size_is c.unpack.ensures;

@@ -1,38 +1,27 @@
 -- `open_image`: a file with a fault, or one that does not suit what is lent, is refused before anything is written.
 -- Assumes nothing.
-use mathlib.Core.Path.{◌≡◌, sym, ◌∙◌}
+use mathlib.Core.Path.{sym}
 use native.Mathlib.Omega.{arith}
-use Rattle.rules.specs.Files.{fault_of}
-use Rattle.parser.specs.Reading.{Says}
+use Rattle.std.proofs.lemmas.Result.{err_from_is_err_and}
 use Rattle.opener.proofs.Ends.{open_faulty, open_unsuited, suits, open_done}
 use Rattle.opener.proofs.open_image.Goals as goal
 
-pub returns-then-file-ne0 : goal.returns-then-file-ne0
-returns-then-file-ne0 c = rw c.unopened.ensures (open_faulty _ _ _ _ _ c.parse-file.ensures.0 c.if-file-ne0.true)
+pub returns-in_err-file : goal.returns-in_err-file
+returns-in_err-file c = let p = err_from_is_err_and c.from_residual.result c.from_residual.ensures.1 in rw (p.1, p.2) (open_faulty _ _ _ _ _ _ c.in_err-file.ensures.0)
 
-pub check-r-requires : goal.check-r-requires
-check-r-requires c =
-    let says : Says c.args.image.now c.parse-file.result = c.parse-file.ensures.1 c.if-file-ne0.false in
-    says
+pub check-requires : goal.check-requires
+check-requires c = c.in_ok-file.ensures.1
 
-pub returns-then-r-ne0 : goal.returns-then-r-ne0
-returns-then-r-ne0 c =
-    let sound : fault_of c.args.image.now ≡ 0 = sym c.parse-file.ensures.0 ∙ c.if-file-ne0.false in
-    rw c.unopened-then-r-ne0.ensures (open_unsuited _ _ _ _ _ sound c.check-r.ensures c.if-r-ne0.true)
+pub returns-in_err-check : goal.returns-in_err-check
+returns-in_err-check c =
+    let p = err_from_is_err_and c.from_residual-in_err-check.result c.from_residual-in_err-check.ensures.1 in
+    rw (p.1, p.2) (open_unsuited _ _ _ _ _ (sym c.in_ok-file.ensures.0) _ c.in_err-check.ensures)
 
 pub fill-requires : goal.fill-requires
-fill-requires c =
-    let sound : fault_of c.args.image.now ≡ 0 = sym c.parse-file.ensures.0 ∙ c.if-file-ne0.false in
-    let says : Says c.args.image.now c.parse-file.result = c.parse-file.ensures.1 c.if-file-ne0.false in
-    suits _ _ _ _ _ sound says c.check-r.ensures c.if-r-ne0.false
+fill-requires c = suits _ _ _ _ _ (sym c.in_ok-file.ensures.0) c.in_ok-file.ensures.1 c.in_ok-check.ensures
 
 pub overflow_cast-result : goal.overflow_cast-result
-overflow_cast-result c =
-    let says : Says c.args.image.now c.parse-file.result = c.parse-file.ensures.1 c.if-file-ne0.false in
-    record { fits = omega (arith, says.few_roots) }
+overflow_cast-result c = let says = c.in_ok-file.ensures.1 in record { fits = omega (arith, says.few_roots) }
 
 pub returns : goal.returns
-returns c =
-    let sound : fault_of c.args.image.now ≡ 0 = sym c.parse-file.ensures.0 ∙ c.if-file-ne0.false in
-    let says : Says c.args.image.now c.parse-file.result = c.parse-file.ensures.1 c.if-file-ne0.false in
-    open_done _ _ _ _ _ sound says c.check-r.ensures c.if-r-ne0.false (λ i. (c.slice_known-5-1.given i).fits) c.fill.ensures
+returns c = open_done _ _ _ _ _ (sym c.in_ok-file.ensures.0) c.in_ok-file.ensures.1 c.in_ok-check.ensures (λ i. (c.slice_known-5-1.given i).fits) c.fill.ensures
