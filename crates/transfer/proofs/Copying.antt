@@ -8,7 +8,7 @@ use native.Mathlib.Decide.{ℕ_discrete, dec_lt}
 use native.Mathlib.Omega.{arith}
 use lib.ListN.{length, take, drop, set, length-append, length-take, length-set, drop_of_length-le, get_or-eq_default}
 use lib.Seq.{sets, length-sets, ext_get_or, take-add, take_all, drop-drop, get_or-take, get_or-drop, get_or-set_same, get_or-set_other}
-use lib.Bits.{bit_and}
+use lib.Bits.{bit_and, bit_or}
 use borrow.Author.Tests.{eq-eqb, ne_eqb}
 use borrow.Rule.Slice.PartMut.{mid_of, put_mid}
 use Rattle.rules.specs.Words.{bytes_of, word_at}
@@ -20,8 +20,11 @@ use Rattle.rules.specs.Tables.{entry_at, is_free}
 use Rattle.rules.specs.Images.{block_bytes, used_from}
 use Rattle.laws.proofs.Lists.{length_tabulate, get_d_tabulate, sets_append, sets_next}
 use Rattle.laws.proofs.Words.{length_bytes_of, bytes_of_word_at}
-use Rattle.laws.proofs.Bits.{LowestBit, lowest_gone, lowest_others, lowest_less}
-use Rattle.laws.proofs.Images.{used_split, used_first, used_alike}
+use Rattle.std.specs.Int.{div_ceil}
+use Rattle.rules.specs.Planes.{entries_in, IsTable}
+use Rattle.laws.proofs.Planes.{few_entries}
+use Rattle.laws.proofs.Bits.{bit_of_or, LowestBit, lowest_gone, lowest_others, lowest_less}
+use Rattle.laws.proofs.Images.{length_block, used_split, used_first, used_alike}
 use Rattle.memory.proofs.Parts.{part_length, part_back}
 use Rattle.entries.specs.Groups.{InGroup}
 use Rattle.freeruns.specs.Rows.{Zeros}
@@ -129,8 +132,8 @@ pub record First (left j : ℕ) : Type 0 where
   pub others : set (lanes left) j FREE ≡ lanes (bit_and left (left - 1))
   pub less : bit_and left (left - 1) < left
 
-pub first_bit : (left j : ℕ) → left < 2 ^ 64 → left ≢ 0 → Zeros left j → First left j
-first_bit left j small some-bit zeros = record {
+pub first_bit : {left j : ℕ} → left < 2 ^ 64 → left ≢ 0 → Zeros left j → First left j
+first_bit {left} {j} small some-bit zeros = record {
   few = j_lt;
   before = λ m l. lane left m (omega (arith, j_lt, l)) ∙ zeros.before m l;
   here = λ z. omega (arith, z, lane left j j_lt, zeros.next j_lt);
@@ -156,7 +159,7 @@ module _ (pool : List ℕ) (i left j : ℕ) (f : First left j) where
   others = bit_and left (left - 1)
 
   -- its block comes first, and the blocks of the other bits follow
-  pub first_split : Splits (blocks_in pool i left) (block_bytes pool (64 * i + j)) (blocks_in pool i others)
+  first_split : Splits (blocks_in pool i left) (block_bytes pool (64 * i + j)) (blocks_in pool i others)
   first_split = record { is = rw (← f.others) (used_first pool (64 * i) (lanes left) j f.before f.here) }
 
   module _ (inside : Inside pool i left) where
@@ -171,6 +174,47 @@ module _ (pool : List ℕ) (i left j : ℕ) (f : First left j) where
         go : Dec (m ≡ j) → 16 * (64 * i + m) + 16 ≤ length pool
         go (yes e) = rw e first_inside
         go (no o) = inside m l (λ z. ne (sym (get_d_tabulate 64 (bit_of others) m FREE l) ∙ rw (← f.others) (get_or-set_other (lanes left) j m FREE FREE o ∙ get_d_tabulate 64 (bit_of left) m FREE l ∙ z)))
+
+-- the blocks of the bits that are left remain: then the image is as it was, with those of `bits` from `at` on
+pub record Copies (image₀ pool : List ℕ) (i at bits : ℕ) (image : List ℕ) (to left : ℕ) : Type 0 where
+  pub small : left < 2 ^ 64
+  pub inside : Inside pool i left
+  pub remains : Remains image₀ at (blocks_in pool i bits) image to (blocks_in pool i left)
+
+pub copies_all : (image pool : List ℕ) (i at bits : ℕ) → bits < 2 ^ 64 → Inside pool i bits → Copies image pool i at bits image at bits
+copies_all image pool i at bits small inside = record { small = small; inside = inside; remains = remains_all image at (blocks_in pool i bits) }
+
+-- what a turn knows of where it copies
+pub record CopyTurn (pool : List ℕ) (i left j : ℕ) (image : List ℕ) (to : ℕ) : Type 0 where
+  pub first : First left j
+  pub inside : 16 * (64 * i + j) + 16 ≤ length pool
+  pub room : to + 16 ≤ length image
+
+module _ {image₀ pool : List ℕ} {i at bits : ℕ} {image : List ℕ} {to left : ℕ} (c : Copies image₀ pool i at bits image to left) where
+  -- no bit is left
+  pub copies_none : left ≡ 0 → (image ≡ sets image₀ at (blocks_in pool i bits)) × (to ≡ at + length (blocks_in pool i bits))
+  copies_none e = remains_none c.remains (rw e (blocks_none pool i))
+
+  pub copy_turn : {j : ℕ} → left ≢ 0 → Zeros left j → at + length (blocks_in pool i bits) ≤ length image₀ → CopyTurn pool i left j image to
+  copy_turn {j} some-bit zeros room =
+      let f : First left j = first_bit c.small some-bit zeros in
+      let inside : 16 * (64 * i + j) + 16 ≤ length pool = first_inside pool i left j f c.inside in
+      let long : length (block_bytes pool (64 * i + j)) ≡ 16 = length_block pool (64 * i + j) inside in
+      record { first = f; inside = inside; room = rw (← long) (remains_room c.remains (first_split pool i left j f) room) }
+
+  -- once the block is stored, the others remain
+  pub copies_next : {j : ℕ} → CopyTurn pool i left j image to → (last : List ℕ) (from : ℕ) → from ≡ 16 * (64 * i + j) → last ≡ mid_of from (from + 16 - from) pool
+      → Copies image₀ pool i at bits (put_mid to (to + 16 - to) image last) (to + 16) (bit_and left (left - 1))
+  unfolding block_bytes
+  copies_next {j} turn last from e is =
+      let f = turn.first in
+      let stored : put_mid to (to + 16 - to) image last ≡ sets image to (block_bytes pool (64 * i + j)) =
+      rw (← e) (moved image pool last to from (omega (arith, e, turn.inside)) turn.room is) in
+      record {
+        small = omega (arith, f.less, c.small);
+        inside = others_inside pool i left j f c.inside;
+        remains = remains_next c.remains (first_split pool i left j f) stored (rw (length_block pool (64 * i + j) turn.inside));
+      }
 
 -- ---- all used blocks, 64 at a time
 
@@ -187,31 +231,45 @@ pub groups_end : (pool es : List ℕ) (i : ℕ) → length es ≤ 64 * i → use
 unfolding used_from
 groups_end pool es i h = rw (drop_of_length-le es h)
 
--- `bits` has a bit where one of the entry's two is set
-module _ (pool es : List ℕ) (i low high bits : ℕ) (g : InGroup es i low high) (either_bit : (j : ℕ) → bit_of bits j ≡ max (bit_of low j) (bit_of high j)) where
-  -- so it has none where the entry is FREE, as past the end of the table
-  pub group_alike : (j : ℕ) → is_free (entry_at (group_in es i) j) ≡ is_free (entry_at (lanes bits) j)
+-- there are as many groups as begin before the end
+pub in_groups : {n k i : ℕ} → i < k → k ≡ div_ceil n 64 → 64 * i < n
+in_groups l e = omega arith
+
+pub past_groups : {n k i : ℕ} → k ≤ i → k ≡ div_ceil n 64 → n ≤ 64 * i
+past_groups l e = omega arith
+
+-- which are at most 64
+pub few_groups : {t i : ℕ} {table : List ℕ} → IsTable t table → 64 * i < length (entries_in t table) → i < 64
+few_groups {t} {i} {table} is l = omega (arith, l, few_entries t table is)
+
+-- a block is used where one of its two bits is set
+module _ (pool es : List ℕ) (i low high : ℕ) (g : InGroup es i low high) where
+  either : (j : ℕ) → bit_of (bit_or low high) j ≡ max (bit_of low j) (bit_of high j)
+  either j = omega (arith, bit_of_or low high j)
+
+  -- so no bit is where the entry is FREE, as past the end of the table
+  pub group_alike : (j : ℕ) → is_free (entry_at (group_in es i) j) ≡ is_free (entry_at (lanes (bit_or low high)) j)
   group_alike j = go (dec_lt j 64)
     where
-      go : Dec (j < 64) → is_free (entry_at (group_in es i) j) ≡ is_free (entry_at (lanes bits) j)
-      go (no out) = ap is_free (past_lanes (group_in es i) j (rw length-take (omega arith)) out ∙ sym (past_lanes (lanes bits) j (simp length_tabulate (omega arith)) out))
+      go : Dec (j < 64) → is_free (entry_at (group_in es i) j) ≡ is_free (entry_at (lanes (bit_or low high)) j)
+      go (no out) = ap is_free (past_lanes (group_in es i) j (rw length-take (omega arith)) out ∙ sym (past_lanes (lanes (bit_or low high)) j (simp length_tabulate (omega arith)) out))
       go (yes l) =
-          rw (get_or-take 64 (drop (64 * i) es) j FREE l, get_or-drop (64 * i) es j FREE, g j l, get_d_tabulate 64 (bit_of bits) j FREE l, either_bit j) (free_or (bit_of low j) (bit_of high j))
+          rw (get_or-take 64 (drop (64 * i) es) j FREE l, get_or-drop (64 * i) es j FREE, g j l, get_d_tabulate 64 (bit_of (bit_or low high)) j FREE l, either j) (free_or (bit_of low j) (bit_of high j))
 
   -- those of the 64 come first, and those behind them follow
-  pub group_next : Splits (used_from pool (64 * i) (drop (64 * i) es)) (blocks_in pool i bits) (used_from pool (64 * (i + 1)) (drop (64 * (i + 1)) es))
+  pub group_next : Splits (used_from pool (64 * i) (drop (64 * i) es)) (blocks_in pool i (bit_or low high)) (used_from pool (64 * (i + 1)) (drop (64 * (i + 1)) es))
   group_next = record {
     is =
         let e : 64 * (i + 1) ≡ 64 * i + 64 = omega arith in
-        rw (e, ← drop-drop 64 (64 * i) es, ← used_alike pool (64 * i) (group_in es i) (lanes bits) group_alike) (used_split pool (64 * i) 64 (drop (64 * i) es));
+        rw (e, ← drop-drop 64 (64 * i) es, ← used_alike pool (64 * i) (group_in es i) (lanes (bit_or low high)) group_alike) (used_split pool (64 * i) 64 (drop (64 * i) es));
   }
 
   -- they lie in the pool
-  pub group_inside : length pool ≡ 16 * length es → Inside pool i bits
+  pub group_inside : length pool ≡ 16 * length es → Inside pool i (bit_or low high)
   group_inside whole j l ne = go (dec_lt (64 * i + j) (length es))
     where
       go : Dec (64 * i + j < length es) → 16 * (64 * i + j) + 16 ≤ length pool
       go (yes h) = omega arith
       go (no h) =
           let free : entry_at es (64 * i + j) ≡ 0 = get_or-eq_default es FREE (omega arith) in
-          absurd (ne (omega (arith, free, g j l, either_bit j)))
+          absurd (ne (omega (arith, free, g j l, either j)))

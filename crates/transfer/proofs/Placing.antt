@@ -4,11 +4,12 @@ use mathlib.Core.Path.{◌≡◌, refl, sym, ap, ◌∙◌}
 use mathlib.Core.Logic.{◌≢◌}
 use mathlib.Core.Bool.{Bool, true, false}
 use mathlib.Core.List.{List, [], ◌∷◌, ◌++◌}
-use Prim.Native.Nat.{ℕ, zero, suc, ◌+◌, ◌-◌, ◌*◌, ◌^◌, ◌≤◌, ◌<◌, max}
+use Prim.Native.Nat.{ℕ, zero, suc, ◌+◌, ◌-◌, ◌*◌, ◌^◌, ◌≤◌, ◌<◌}
 use native.Mathlib.Omega.{arith}
 use lib.ListN.{length, set, take, drop, replicate, drop_of_length-le, take-append-drop, length-take, length-drop, get_or-replicate, replicate-append-replicate}
 use lib.Seq.{sets, length-sets, length-take-le, drop-drop}
-use lib.Bits.{bit_and}
+use lib.Bits.{bit_and, bit_or}
+use borrow.Rule.Slice.PartMut.{mid_of, put_mid}
 use borrow.Author.Tests.{eq-eqb, ne_eqb, eqb-false}
 use Rattle.rules.specs.Tests.{count, tabulate}
 use Rattle.rules.specs.Bits.{bit_of}
@@ -20,8 +21,10 @@ use Rattle.laws.proofs.Lists.{sets_append, sets_next, sets_over, sets_all, one, 
 use Rattle.laws.proofs.Tables.{entry_inside}
 use Rattle.laws.proofs.Files.{length_pool, pool_split, pool_run}
 use Rattle.entries.specs.Groups.{InGroup}
+use Rattle.memory.proofs.Parts.{part_length}
+use Rattle.freeruns.specs.Rows.{Zeros}
 use Rattle.transfer.specs.Copying.{lanes, Inside, group_in, with_used}
-use Rattle.transfer.proofs.Copying.{Remains, Splits, remains_all, remains_none, remains_next, First, others_inside, group_alike}
+use Rattle.transfer.proofs.Copying.{Remains, Splits, remains_all, remains_none, remains_next, part_moved, moved, First, first_bit, first_inside, others_inside, group_alike}
 
 -- ---- the used blocks get their bytes
 
@@ -100,6 +103,13 @@ pub record Places (pool₀ bytes : List ℕ) (i first bits : ℕ) (pool : List �
 pub places_all : (pool bytes : List ℕ) (i first bits : ℕ) → bits < 2 ^ 64 → Inside pool i bits → Places pool bytes i first bits pool first bits
 places_all pool bytes i first bits small inside = record { small = small; inside = inside; long = refl; end = refl; same = refl }
 
+-- what a turn knows of where it stores
+pub record PlaceTurn (bytes : List ℕ) (i left j : ℕ) (pool : List ℕ) (next : ℕ) : Type 0 where
+  pub first : First left j
+  pub inside : 16 * (64 * i + j) + 16 ≤ length pool
+  pub few : next < 4096
+  pub enough : 16 * next + 16 ≤ length bytes
+
 module _ {pool₀ bytes : List ℕ} {i first bits : ℕ} {pool : List ℕ} {next left : ℕ} (p : Places pool₀ bytes i first bits pool next left) where
   -- no bit is left
   pub places_none : left ≡ 0 → (pool ≡ with_used pool₀ (64 * i) (lanes bits) (drop (16 * first) bytes)) × (next ≡ first + used (lanes bits))
@@ -107,26 +117,39 @@ module _ {pool₀ bytes : List ℕ} {i first bits : ℕ} {pool : List ℕ} {next
       let end : Places pool₀ bytes i first bits pool next 0 = rw (← e) p in
       (sym (rw no_lanes (with_gap pool (64 * i) 64 (drop (16 * next) bytes))) ∙ end.same, omega (arith, end.end, none_used))
 
-  module _ {j : ℕ} (f : First left j) where
-    -- one is the first
-    pub fewer : used (lanes left) ≡ 1 + used (lanes (bit_and left (left - 1)))
-    unfolding used
-    fewer =
-        let was : one (is_used (entry_at (lanes left) j)) ≡ 1 = rw (ne_eqb (entry_at (lanes left) j) FREE f.here) in
-        rw (← f.others) (omega (arith, was, count_set is_used (lanes left) j FREE FREE (entry_inside (lanes left) j f.here)))
+  -- one is the first
+  fewer : {j : ℕ} → First left j → used (lanes left) ≡ 1 + used (lanes (bit_and left (left - 1)))
+  unfolding used
+  fewer {j} f =
+      let was : one (is_used (entry_at (lanes left) j)) ≡ 1 = rw (ne_eqb (entry_at (lanes left) j) FREE f.here) in
+      rw (← f.others) (omega (arith, was, count_set is_used (lanes left) j FREE FREE (entry_inside (lanes left) j f.here)))
 
-    -- and once its block has been stored, the others are left
-    pub places_next : {pool' : List ℕ} → pool' ≡ sets pool (16 * (64 * i + j)) (block_bytes bytes next) → Places pool₀ bytes i first bits pool' (next + 1) (bit_and left (left - 1))
-    unfolding block_bytes
-    places_next e =
-        let more : 16 * (next + 1) ≡ 16 * next + 16 = omega arith in
-        rw e record {
-          small = omega (arith, f.less, p.small);
-          inside = λ m l ne. rw length-sets (others_inside pool i left j f p.inside m l ne);
-          long = length-sets pool (16 * (64 * i + j)) (block_bytes bytes next) ∙ p.long;
-          end = omega (arith, p.end, fewer);
-          same = rw (more, ← f.others, ← drop-drop 16 (16 * next) bytes) (sym (with_first pool (64 * i) (lanes left) j (drop (16 * next) bytes) f.before f.here) ∙ p.same);
-        }
+  pub place_turn : {j : ℕ} → left ≢ 0 → Zeros left j → first + used (lanes bits) ≤ 4096 → 16 * (first + used (lanes bits)) ≤ length bytes → PlaceTurn bytes i left j pool next
+  place_turn {j} some-bit zeros few enough =
+      let f : First left j = first_bit p.small some-bit zeros in
+      record {
+        first = f;
+        inside = first_inside pool i left j f p.inside;
+        few = omega (arith, few, p.end, fewer f);
+        enough = omega (arith, enough, p.end, fewer f);
+      }
+
+  -- once the block is stored, the others are left
+  pub places_next : {j : ℕ} → PlaceTurn bytes i left j pool next → (last : List ℕ) (to from : ℕ) → to ≡ 16 * (64 * i + j) → from ≡ 16 * next → last ≡ mid_of from (from + 16 - from) bytes
+      → Places pool₀ bytes i first bits (put_mid to (to + 16 - to) pool last) (next + 1) (bit_and left (left - 1))
+  unfolding block_bytes
+  places_next {j} turn last to from t e is =
+      let f = turn.first in
+      let stored : put_mid to (to + 16 - to) pool last ≡ sets pool (16 * (64 * i + j)) (block_bytes bytes next) =
+      rw (← t, ← e) (moved pool bytes last to from (omega (arith, e, turn.enough)) (omega (arith, t, turn.inside)) is) in
+      let more : 16 * (next + 1) ≡ 16 * next + 16 = omega arith in
+      rw stored record {
+        small = omega (arith, f.less, p.small);
+        inside = λ m l ne. rw length-sets (others_inside pool i left j f p.inside m l ne);
+        long = length-sets pool (16 * (64 * i + j)) (block_bytes bytes next) ∙ p.long;
+        end = omega (arith, p.end, fewer f);
+        same = rw (more, ← f.others, ← drop-drop 16 (16 * next) bytes) (sym (with_first pool (64 * i) (lanes left) j (drop (16 * next) bytes) f.before f.here) ∙ p.same);
+      }
 
 -- ---- 64 blocks
 
@@ -147,33 +170,52 @@ all_used : used (lanes 18446744073709551615) ≡ 64
 unfolding used
 all_used = rw all_lanes (count_all is_used 64 1 refl)
 
--- `bits` has a bit where one of the entry's two is set
-module _ (es : List ℕ) (i low high bits : ℕ) (g : InGroup es i low high) (either_bit : (j : ℕ) → bit_of bits j ≡ max (bit_of low j) (bit_of high j)) where
-  pub group_used : used (group_in es i) ≡ used (lanes bits)
-  group_used = as_many (group_in es i) (lanes bits) (group_alike [] es i low high bits g either_bit)
+-- what is known of 64 blocks that are all used
+pub record Full (es bytes pool : List ℕ) (i passed : ℕ) : Type 0 where
+  pub sixty_four : used (group_in es i) ≡ 64
+  pub enough : 16 * passed + 1024 ≤ length bytes
+  pub inside : 1024 * i + 1024 ≤ length pool
 
-  -- all have one
-  module _ (all : bits ≡ 18446744073709551615) where
+module _ (es : List ℕ) (i low high : ℕ) (g : InGroup es i low high) where
+  pub group_used : used (group_in es i) ≡ used (lanes (bit_or low high))
+  group_used = as_many (group_in es i) (lanes (bit_or low high)) (group_alike [] es i low high g)
+
+  -- all are used
+  module _ (all : bit_or low high ≡ 18446744073709551615) where
     each_used : (j : ℕ) → j < 64 → entry_at (group_in es i) j ≢ FREE
-    each_used j l = eqb-false (entry_at (group_in es i) j) FREE (group_alike [] es i low high bits g either_bit j ∙ rw (all, all_lanes) (ap is_free (get_or-replicate 64 j 1 FREE l)))
+    each_used j l = eqb-false (entry_at (group_in es i) j) FREE (group_alike [] es i low high g j ∙ rw (all, all_lanes) (ap is_free (get_or-replicate 64 j 1 FREE l)))
 
     group_full : length (group_in es i) ≡ 64
     group_full = omega (arith, length-take 64 (drop (64 * i) es), entry_inside (group_in es i) 63 (each_used 63 (omega arith)))
 
-    pub full_used : used (group_in es i) ≡ 64
+    full_used : used (group_in es i) ≡ 64
     full_used = group_used ∙ rw all all_used
 
-    pub full_inside : 64 * i + 64 ≤ length es
+    full_inside : 64 * i + 64 ≤ length es
     full_inside = omega (arith, group_full, length-take 64 (drop (64 * i) es), length-drop (64 * i) es)
 
-    pub full_pool : (bs : List ℕ) → pool_of (group_in es i) bs ≡ take 1024 bs
+    full_pool : (bs : List ℕ) → pool_of (group_in es i) bs ≡ take 1024 bs
     full_pool bs = rw group_full at (pool_run (group_in es i) bs (λ j l. each_used j (omega (arith, group_full))))
 
+    module _ (bytes pool : List ℕ) (passed : ℕ) (room : 16 * (passed + used (group_in es i)) ≤ length bytes) (whole : length pool ≡ 16 * length es) where
+      pub full_group : Full es bytes pool i passed
+      full_group = record { sixty_four = full_used; enough = omega (arith, room, full_used); inside = omega (arith, whole, full_inside) }
+
+      -- and they are stored as one part
+      pub full_moved : (last : List ℕ) (at from to : ℕ) → at ≡ 1024 * i → from ≡ 16 * passed → to ≡ 16 * passed + 1024 → last ≡ mid_of from (to - from) bytes
+          → put_mid at (at + 1024 - at) pool last ≡ sets pool (1024 * i) (pool_of (group_in es i) (drop (16 * passed) bytes))
+      full_moved last at from to a f t is =
+          let n : to - from ≡ 1024 = omega arith in
+          let full = full_group in
+          let long : length (mid_of from (to - from) bytes) ≡ at + 1024 - at = part_length bytes from (to - from) (omega (arith, full.enough, f, t)) ∙ omega arith in
+          part_moved pool bytes last at (at + 1024 - at) from (to - from) (omega (arith, full.inside, a)) long is ∙ rw (a, n, f, full_pool (drop (16 * passed) bytes))
+
   -- the used ones are stored where all are zero
-  pub group_pool : (pool bs : List ℕ) → 16 * used (group_in es i) ≤ length bs → with_used (sets pool (16 * (64 * i)) (replicate (16 * length (group_in es i)) 0)) (64 * i) (lanes bits) bs ≡ sets pool (1024 * i) (pool_of (group_in es i) bs)
+  pub group_pool : (pool bs : List ℕ) → 16 * used (group_in es i) ≤ length bs
+      → with_used (sets pool (16 * (64 * i)) (replicate (16 * length (group_in es i)) 0)) (64 * i) (lanes (bit_or low high)) bs ≡ sets pool (1024 * i) (pool_of (group_in es i) bs)
   group_pool pool bs room =
       let at : 16 * (64 * i) ≡ 1024 * i = omega arith in
-      sym (with_alike (sets pool (16 * (64 * i)) (replicate (16 * length (group_in es i)) 0)) (64 * i) (group_in es i) (lanes bits) bs (group_alike [] es i low high bits g either_bit)) ∙ with_zeros pool (64 * i) (group_in es i) bs room ∙ rw at
+      sym (with_alike (sets pool (16 * (64 * i)) (replicate (16 * length (group_in es i)) 0)) (64 * i) (group_in es i) (lanes (bit_or low high)) bs (group_alike [] es i low high g)) ∙ with_zeros pool (64 * i) (group_in es i) bs room ∙ rw at
 
 -- ---- all, 64 blocks at a time
 

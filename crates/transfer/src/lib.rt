@@ -15,8 +15,17 @@ use numbers::{Block, Bytes};
 // 64 blocks that are all used.
 const ALL: u64 = 18446744073709551615;
 
+// Where the bytes of block 64 * i + j start.
+fn block_offset(i: usize, j: usize) -> Bytes
+    requires { (i < 64) × (j < 64) }
+    ensures { result.0 ≡ 16 * (64 * i + j) }
+{
+    Block::first().plus(64 * i + j).offset()
+}
+
 // A block's 16 bytes are copied. All are read before the first is written: so the compiler moves them at once. They are one part of the source and of the target,
 // which the caller cuts out: where indices are checked at run time, the compiler then knows both lengths, and the copy has no other check.
+// Word by word: `copy_from_slice` would be a call of `memcpy`, and the library calls nothing but `memset`.
 fn copy_block(block: &[u8], to: &mut [u8])
     requires { (length block.now ≡ 16) × (length to.old ≡ 16) }
     ensures { to.new ≡ block.now }
@@ -36,16 +45,15 @@ fn copy_run(source: &[u8], target: &mut [u8])
     requires { (length source.now % 16 ≡ 0) × (length target.old ≡ length source.now) }
     ensures { target.new ≡ source.now }
 {
-    let mut at = 0;
-    while at < source.len() {
+    for i in 0..source.len() / 16 {
+        let at = 16 * i;
         let end = at + 16;
         copy_block(&source[at..end], &mut target[at..end]);
-        at = end;
     }
 }
 
 // Of the 64 blocks from block 64 * i on, those that have a bit in `used` are copied, from `at` on. Returns the place behind them. The lowest bit that is left goes with each
-// turn, by a difference: a shift by j would have the next turn wait for j.
+// turn, by a difference: a shift by j would have the next turn wait for j. (Nothing in core goes over the bits of a number.)
 fn copy_group(pool: &[u8], i: usize, used: u64, image: &mut [u8], at: usize) -> usize
     requires { (i < 64) × ((at + length (blocks_in pool.now i used) ≤ length image.old) × Inside pool.now i used) }
     ensures { (image.new ≡ sets image.old at (blocks_in pool.now i used)) × (result ≡ at + length (blocks_in pool.now i used)) }
@@ -54,12 +62,12 @@ fn copy_group(pool: &[u8], i: usize, used: u64, image: &mut [u8], at: usize) -> 
     let mut to = at;
     while left != 0 {
         let j = freeruns::first(left);
-        let from = Block::first().plus(64 * i + j).offset().index();
+        let from = block_offset(i, j).index();
         let from_end = from + 16;
         let to_end = to + 16;
         copy_block(&pool[from..from_end], &mut image[to..to_end]);
         to = to_end;
-        left = left & (left - 1);
+        left &= left - 1;
     }
     to
 }
@@ -69,13 +77,10 @@ pub fn gather(t: usize, pool: &[u8], table: &[u8], image: &mut [u8], at: usize)
     requires { IsTable t table.now × ((length pool.now ≡ 16 * length (entries_in t table.now)) × (at + 16 * used_of (entries_in t table.now) ≤ length image.old)) }
     ensures { image.new ≡ sets image.old at (used_from pool.now 0 (entries_in t table.now)) }
 {
-    let n = entries::blocks(t);
-    let mut i = 0;
     let mut to = at;
-    while 64 * i < n {
+    for i in 0..entries::blocks(t).div_ceil(64) {
         let g = entries::group::<u64>(t, table, i);
         to = copy_group(pool, i, g.low | g.high, &mut *image, to);
-        i += 1;
     }
 }
 
@@ -91,11 +96,11 @@ fn place_group(bytes: &[u8], passed: usize, i: usize, used: u64, pool: &mut [u8]
         let j = freeruns::first(left);
         let from = Bytes::of_blocks(next).index();
         let from_end = from + 16;
-        let to = Block::first().plus(64 * i + j).offset().index();
+        let to = block_offset(i, j).index();
         let to_end = to + 16;
         copy_block(&bytes[from..from_end], &mut pool[to..to_end]);
         next += 1;
-        left = left & (left - 1);
+        left &= left - 1;
     }
     next
 }
@@ -105,11 +110,7 @@ fn group_end(n: usize, i: usize) -> usize
     requires { i < 64 }
     ensures { result ≡ min (64 * i + 64) n }
 {
-    let end = 64 * i + 64;
-    if end < n {
-        return end;
-    }
-    n
+    n.min(64 * i + 64)
 }
 
 // The 64 blocks from block 64 * i on, or as many as there are: the used ones get the next blocks of the bytes, of which `passed` come before, and the others become zero.
@@ -129,7 +130,7 @@ fn fill_group(
 {
     let g = entries::group::<u64>(t, table, i);
     let used = g.low | g.high;
-    let start = Block::first().plus(64 * i).offset();
+    let start = block_offset(i, 0);
     if used == ALL {
         let next = passed + 64;
         let from = Bytes::of_blocks(passed).index();
@@ -149,11 +150,8 @@ pub fn scatter(t: usize, bytes: &[u8], table: &[u8], pool: &mut [u8])
     requires { IsTable t table.now × ((length pool.old ≡ 16 * length (entries_in t table.now)) × (length bytes.now ≡ 16 * used_of (entries_in t table.now))) }
     ensures { pool.new ≡ pool_of (entries_in t table.now) bytes.now }
 {
-    let n = entries::blocks(t);
-    let mut i = 0;
     let mut next = 0;
-    while 64 * i < n {
+    for i in 0..entries::blocks(t).div_ceil(64) {
         next = fill_group(t, bytes, next, table, i, &mut *pool);
-        i += 1;
     }
 }

@@ -1,11 +1,11 @@
--- `group_end`: the branch says which of the two it is.
+-- `group_end`: 64 blocks more fit.
 -- Assumes nothing.
 use borrow.Author.Rules.{rules}
 use Rattle.laws.proofs.Widths.{in_32_bits}
 use Rattle.transfer.proofs.group_end.Goals as goal
 
-pub overflow_mul-end : goal.overflow_mul-end
-overflow_mul-end c = in_32_bits (search rules)
+pub overflow_mul-i : goal.overflow_mul-i
+overflow_mul-i c = in_32_bits (search rules)
 
-pub overflow_add-end : goal.overflow_add-end
-overflow_add-end c = in_32_bits (search rules)
+pub overflow_add-i : goal.overflow_add-i
+overflow_add-i c = in_32_bits (search rules)

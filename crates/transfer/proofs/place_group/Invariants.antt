@@ -1,6 +1,5 @@
 -- `place_group`: the block of the first bit gets the next block of the bytes and the bit is cleared, as long as there is one. What is left is the blocks of the bits that are left.
 -- Assumes nothing.
-use Prim.Native.Nat.{◌-◌}
 use Rattle.transfer.proofs.Placing.{Places}
 use Rattle.transfer.proofs.place_group.Given as goal
 
