@@ -12,7 +12,7 @@ loop-left-init c = copies_all _ _ _ _ _ (omega arith) c.requires.1.1
 pub block_offset-requires : goal.block_offset-requires
 block_offset-requires c =
     let turn = copy_turn c.loop-left.invariant c.loop-left-test.true c.first-j.ensures c.requires.1.0 in
-    (c.requires.0, turn.first.few)
+    (c.requires.0, omega (arith, c.requires.0, turn.first.few))
 
 pub overflow_add-from_end : goal.overflow_add-from_end
 overflow_add-from_end c =

@@ -32,7 +32,7 @@ pub overflow_add-at_end : goal.overflow_add-at_end
 overflow_add-at_end c =
     let a = c.args in
     let full = full_group (entries_in a.t a.table.now) a.i _ _ c.group-g.ensures c.if-used.true a.bytes.now a.pool.now a.passed c.requires.i_bound.1 c.requires.table.1.1 in
-    in_slice a.pool.now (omega (arith, full.inside, c.index-at.ensures, c.block_offset-start.ensures)) (search rules)
+    in_slice c.args.pool.now (omega (arith, full.inside, c.index-at.ensures, c.block_offset-start.ensures)) (search rules)
 
 pub slice_bounds-copy_run-end : goal.slice_bounds-copy_run-end
 slice_bounds-copy_run-end c =
