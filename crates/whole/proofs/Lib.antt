@@ -1,4 +1,5 @@
 pub mod Lanes
+pub mod Planes
 pub mod Sums
 pub mod Ones
 pub mod Steps

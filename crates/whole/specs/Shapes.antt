@@ -33,6 +33,10 @@ pub record TestedFrom (es : List ℕ) (b n bad before : ℕ) : Type 0 where
   pub full : ((k : ℕ) → Allowed es k) → bad ≡ 0
   pub last : before ≡ used_before es (b + n)
 
+-- the n entries in two numbers are tested, wherever they stand
+abbrev pub TestsBits : ℕ → ℕ → ℕ → ℕ → ℕ → ℕ → Type 0
+TestsBits low high n before bad before' = (es : List ℕ) (b : ℕ) → ((j : ℕ) → j < n → entry_at es (b + j) ≡ lane low high j) → before ≡ used_before es b → TestedFrom es b n bad before'
+
 -- the entries of n bytes of both planes from byte `at` on are tested, whatever entries the planes hold
 abbrev pub TestsOn : List ℕ → List ℕ → ℕ → ℕ → ℕ → ℕ → ℕ → Type 0
 TestsOn lows highs at n before bad before' = (es : List ℕ) → InPlanes es lows highs → before ≡ used_before es (8 * at) → TestedFrom es (8 * at) (8 * n) bad before'

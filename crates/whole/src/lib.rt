@@ -2,11 +2,11 @@
 // `packing` only this crate knows where an entry's bits lie.
 #![tactic(auto)]
 
-ghost use Rattle.std.specs.Prelude.{◌≡◌, ◌+◌, ◌*◌, ◌<◌, ◌≤◌, length};
+ghost use Rattle.std.specs.Prelude.{◌≡◌, ◌+◌, ◌*◌, ◌^◌, ◌<◌, ◌≤◌, length};
 ghost use Rattle.rules.specs.Tables.{used, objects, well_formed};
 ghost use Rattle.rules.specs.Marking.{sweep as sweep_of};
 ghost use Rattle.rules.specs.Planes.{entries_in, spare_free, Sized, IsTable, Holds};
-ghost use Rattle.whole.specs.Shapes.{BadBits, TestsOn};
+ghost use Rattle.whole.specs.Shapes.{BadBits, TestsBits, TestsOn};
 ghost use Rattle.whole.specs.Sweeps.{SweptBits, SweepsOn};
 
 // Whether no spare bit is set: of the last byte of each plane the upper half, if t is odd.
@@ -36,6 +36,17 @@ struct Tested {
     before: u32,
 }
 
+// The first `count` of 32 entries are tested. There are no others.
+fn test(low: u32, high: u32, count: u32, before: u32) -> Tested
+    requires { (before < 2) × (((0 < count) × (count ≤ 32)) × ((low < 2 ^ count) × (high < 2 ^ count))) }
+    ensures { (result.before < 2) × TestsBits low high count before result.bad result.before }
+{
+    Tested {
+        bad: bad_bits(low, high, before),
+        before: (low | high) >> (count - 1),
+    }
+}
+
 // The entries of eight bytes of both planes from byte `at` of each are tested, two words of each.
 fn test_eight(lows: &[u8], highs: &[u8], at: usize, before: u32) -> Tested
     requires { (before < 2) × ((at + 8 ≤ length lows.now) × (at + 8 ≤ length highs.now)) }
@@ -46,10 +57,11 @@ fn test_eight(lows: &[u8], highs: &[u8], at: usize, before: u32) -> Tested
     let high_part = &highs[at..end];
     let a = entries::words_at(low_part, high_part, 0);
     let b = entries::words_at(low_part, high_part, 1);
-    let bad = bad_bits(a.low, a.high, before);
+    let first = test(a.low, a.high, 32, before);
+    let second = test(b.low, b.high, 32, first.before);
     Tested {
-        bad: bad | bad_bits(b.low, b.high, (a.low | a.high) >> 31),
-        before: (b.low | b.high) >> 31,
+        bad: first.bad | second.bad,
+        before: second.before,
     }
 }
 
@@ -58,12 +70,7 @@ fn test_one(lows: &[u8], highs: &[u8], at: usize, before: u32) -> Tested
     requires { (before < 2) × ((at < length lows.now) × (at < length highs.now)) }
     ensures { TestsOn lows.now highs.now at 1 before result.bad result.before }
 {
-    let low = lows[at] as u32;
-    let high = highs[at] as u32;
-    Tested {
-        bad: bad_bits(low, high, before),
-        before: (low | high) >> 7,
-    }
+    test(u32::from(lows[at]), u32::from(highs[at]), 8, before)
 }
 
 // Whether there is no MARK, block 0 is no TAIL, and no TAIL follows a FREE.
@@ -77,19 +84,15 @@ pub fn well_formed(t: usize, table: &[u8]) -> bool
     let groups = half / 8;
     let mut bad: u32 = 0;
     let mut before: u32 = 0;
-    let mut i = 0;
-    while i < groups {
+    for i in 0..groups {
         let r = test_eight(lows, highs, 8 * i, before);
         bad = bad | r.bad;
         before = r.before;
-        i += 1;
     }
-    let mut j = 8 * groups;
-    while j < half {
+    for j in 8 * groups..half {
         let r = test_one(lows, highs, j, before);
         bad = bad | r.bad;
         before = r.before;
-        j += 1;
     }
     bad == 0
 }
@@ -112,15 +115,13 @@ pub fn count(t: usize, table: &[u8]) -> Counts
     let words = half / 4;
     let mut used: u32 = 0;
     let mut heads: u32 = 0;
-    let mut i = 0;
-    while i < words {
+    for i in 0..words {
         let low = entries::word_at(lows, i);
         let high = entries::word_at(highs, i);
         used += u32::count_ones(low | high);
         heads += u32::count_ones(low & !high);
-        i += 1;
     }
-    let w = entries::last_words(lows, highs, words);
+    let w = entries::last_words::<u32>(lows, highs, words);
     used += u32::count_ones(w.low | w.high);
     heads += u32::count_ones(w.low & !w.high);
     Counts {
@@ -159,8 +160,8 @@ fn sweep_four(table: &mut [u8], half: usize, at: usize, keeping: u32) -> u32
     ensures { SweepsOn half at 4 keeping result table.old table.new }
 {
     let s = sweep_bits(
-        memory::four_bits(&*table, at),
-        memory::four_bits(&*table, half + at),
+        memory::bits(&*table, at),
+        memory::bits(&*table, half + at),
         keeping,
     );
     memory::set_four_bytes(&mut *table, at, s.low);
@@ -168,12 +169,12 @@ fn sweep_four(table: &mut [u8], half: usize, at: usize, keeping: u32) -> u32
     s.keeping >> 31
 }
 
-// The same of byte `at` of both planes.
+// The same of byte `at` of both planes. It has its own way to read and to store; what is between is `sweep_bits` in both.
 fn sweep_one(table: &mut [u8], half: usize, at: usize, keeping: u32) -> u32
     requires { (keeping < 2) × ((at < half) × (length table.old ≡ 2 * half)) }
     ensures { SweepsOn half at 1 keeping result table.old table.new }
 {
-    let s = sweep_bits(table[at] as u32, table[half + at] as u32, keeping);
+    let s = sweep_bits(u32::from(table[at]), u32::from(table[half + at]), keeping);
     table[at] = s.low as u8;
     table[half + at] = s.high as u8;
     (s.keeping >> 7) & 1
@@ -187,14 +188,10 @@ pub fn sweep(t: usize, table: &mut [u8])
     let half = entries::plane_bytes(t);
     let words = half / 4;
     let mut keeping: u32 = 1;
-    let mut i = 0;
-    while i < words {
+    for i in 0..words {
         keeping = sweep_four(&mut *table, half, 4 * i, keeping);
-        i += 1;
     }
-    let mut j = 4 * words;
-    while j < half {
+    for j in 4 * words..half {
         keeping = sweep_one(&mut *table, half, j, keeping);
-        j += 1;
     }
 }

@@ -1,6 +1,6 @@
 -- `count`: a word of both planes has a one for each used entry in its or, and for each HEAD in the low bits without the high ones.
 -- Assumes nothing.
-use Rattle.std.proofs.Common.{◌≡◌, ◌-◌, ◌≤◌}
+use Rattle.std.proofs.Common.{◌≡◌}
 use Rattle.rules.specs.Tables.{is_used, is_head}
 use Rattle.rules.specs.Planes.{entries_in}
 use Rattle.whole.proofs.Ones.{up_to}
@@ -8,7 +8,4 @@ use Rattle.whole.proofs.count.Given as goal
 
 abbrev pub invariant-loop-i : goal.invariant-loop-i
 invariant-loop-i l =
-    (l.i ≤ l.words) × (l.used ≡ up_to is_used (entries_in l.t l.table) l.i) × (l.heads ≡ up_to is_head (entries_in l.t l.table) l.i)
-
-abbrev pub decreases-loop-i : goal.decreases-loop-i
-decreases-loop-i l = l.words - l.i
+    (l.used ≡ up_to is_used (entries_in l.t l.table) l.i) × (l.heads ≡ up_to is_head (entries_in l.t l.table) l.i)

@@ -75,8 +75,8 @@ overflow_add-half-2 c = in_slice c.args.table.now (search rules) (search rules)
 
 pub returns : goal.returns
 returns c t es is_half s =
-    let low = c.four_bits in
-    let high = c.four_bits-2 in
+    let low = c.bits in
+    let high = c.bits-2 in
     let swept = c.sweep_bits-s in
     let set_low = c.set_four_bytes in
     let set_high = c.set_four_bytes-2 in

@@ -50,22 +50,16 @@ last_bit : (a : ℕ) → bit_and (a / 128) 1 ≡ bit_of a 7
 unfolding bit_of
 last_bit a = and_mask (a / 128) 1
 
-pub overflow_cast-table : goal.overflow_cast-table
-overflow_cast-table c = record { fits = omega (arith, (c.slice_known-2-1.given c.args.at).fits) }
-
 pub overflow_add-half : goal.overflow_add-half
 overflow_add-half c = in_slice c.args.table.now (search rules) (search rules)
 
+pub overflow_cast-table : goal.overflow_cast-table
+overflow_cast-table c = record { fits = omega (arith, c.sweep_bits-s.ensures.fits.0, c.from.ensures, (c.slice_known-3-1.given c.args.at).fits) }
+
 pub overflow_cast-table-2 : goal.overflow_cast-table-2
-overflow_cast-table-2 c = record { fits = omega (arith, (c.slice_known-3-1.given (c.args.half + c.args.at)).fits) }
-
-pub overflow_cast-table-3 : goal.overflow_cast-table-3
-overflow_cast-table-3 c = record { fits = omega (arith, c.sweep_bits-s.ensures.fits.0, (c.slice_known-3-1.given c.args.at).fits) }
-
-pub overflow_cast-table-4 : goal.overflow_cast-table-4
-overflow_cast-table-4 c =
+overflow_cast-table-2 c =
     let a = c.args in
-    record { fits = omega (arith, c.sweep_bits-s.ensures.fits.1, (c.slice_known-3-1.given (a.half + a.at)).fits) }
+    record { fits = omega (arith, c.sweep_bits-s.ensures.fits.1, c.from-2.ensures, (c.slice_known-3-1.given (a.half + a.at)).fits) }
 
 pub overflow_add-table : goal.overflow_add-table
 overflow_add-table c = in_slice c.args.table.now (search rules) (search rules)
@@ -80,4 +74,4 @@ returns c t es is_half s =
     let r = c.sweep_bits-s in
     swept_on t es b (after t b c.args.half c.args.at r.result.low r.result.high is_half c.requires.1.0 c.requires.1.1) c.args.at 1 c.args.keeping (get_or b c.args.at 0) (get_or b (c.args.half + c.args.at) 0) r.result.low r.result.high r.result.keeping
     (step t b c.args.half c.args.at r.result.low r.result.high is_half c.requires.1.0 c.requires.1.1)
-    r.ensures s (bit_and (r.result.keeping / 128) 1) (last_bit r.result.keeping)
+    (rw (c.from.ensures, c.from-2.ensures) at r.ensures) s (bit_and (r.result.keeping / 128) 1) (last_bit r.result.keeping)
