@@ -18,13 +18,13 @@ use Rattle.rules.specs.Planes.{planes, entries_in, Sized, IsTable, Holds, heap_a
 use Rattle.rules.specs.Calls.{init, survey, load, store}
 use Rattle.rules.specs.Runs.{Call, Init, Survey, Load, Store, step}
 use Rattle.rules.specs.Memory.{Memory, memory, Sound, Result, result, AcceptedIn, reads_table, stack_for, tests_in, perform}
-use Rattle.laws.proofs.Planes.{planes_faithful, is_table, table_sound}
+use Rattle.laws.proofs.Planes.{planes_faithful, is_table, table_sound, few_entries}
 use Rattle.laws.proofs.Tables.{extent_of}
 use Rattle.checks.proofs.FirstTests.{sized_by}
-use Rattle.laws.proofs.Refusals.{refusal_is, true_not_false, both_false, both_left, both_right, first_last, first_none, accepts, passed, named_object, after_names}
-use Rattle.laws.proofs.Memory.{fault_refuses, tests_own, passes_in, refusal_in, sound_of, refused_first_in, refused_next_in, left_in, acted_in}
+use Rattle.laws.proofs.Refusals.{refusal_is, true_not_false, both_false, both_left, both_right, first_last, first_none, first_rest, accepts, passed, named, own_tests}
+use Rattle.laws.proofs.Memory.{fault_refuses, tests_own, refusal_in, sound_of, refused_first_in, refused_next_in, left_in, acted_in}
 use Rattle.checks.specs.Refusal.{refusal_by}
-use Rattle.heap.specs.Answers.{status, surveyed, loaded}
+use Rattle.heap.specs.Answers.{given}
 
 positive : {r : ℕ} → (r ≡ 0 → ⊥) → 0 < r
 positive ne = omega arith
@@ -36,6 +36,17 @@ unfolding first_of
 init_number false fits e = refl
 init_number true false e = refl
 init_number true true e = absurd (true_not_false refl e)
+
+-- a word that is an object's lies before the end of the blocks
+pub word_below : (t : ℕ) (table : List ℕ) (k i : ℕ) → IsTable t table → let h = heap_at t [] table in first_of (name_tests h k ++ no_word h k i ∷ []) ≡ 0
+    → (4 * k + i < 4 * length (entries_in t table)) × (length (entries_in t table) ≤ 4096)
+word_below t table k i is e =
+    let h = heap_at t [] table in
+    let name = named h k (no_word h k i ∷ []) e in
+    let room = (extent_of (entries_in t table) k name.inside).room in
+    let last = first_rest (no_head h k) (no_word h k i ∷ []) (omega arith) (first_rest (outside h k) (no_head h k ∷ no_word h k i ∷ []) (omega arith) e) in
+    let within = leb-false (4 * block_count (entries_in t table) k) i (first_none (no_word h k i) [] (omega arith) last).0 in
+    (omega arith, few_entries t table is)
 
 module _ (t base : ℕ) (pool table : List ℕ) where
   abbrev h : Heap
@@ -69,23 +80,23 @@ module _ (t base : ℕ) (pool table : List ℕ) where
     pub shape : Shape base h
     pub is : IsTable t table
 
-  pub checked : (ts : List Test) {r : ℕ} → r ≡ first_of (tests_in (planes t) (Survey 0) m (first_of (heap_tests base h ++ ts))) → r ≡ 0 → Checked ts
-  checked ts test z =
-      let s = sound_of (planes t) m (heap_tests base h ++ ts) test z in
+  pub checked : (ts : List Test) → 0 ≡ first_of (tests_in (planes t) (Survey 0) m (first_of (heap_tests base h ++ ts))) → Checked ts
+  checked ts test =
+      let s = sound_of (planes t) m (heap_tests base h ++ ts) test refl in
       let shape = (passed base h ts s.1).shape in
       record { sound = s.0; passes = s.1; shape = shape; is = is_table t pool table shape.few s.0 }
 
   -- ---- init
 
   module _ {g : Bool} (test : g ≡ both (good_shape base h) ((planes t).fits table)) where
-    pub init_refused : g ≡ false → status 1 pool table ≡ perform (planes t) (Init base) [] m
+    pub init_refused : g ≡ false → given (only_refusal 1) pool table ≡ perform (planes t) (Init base) [] m
     unfolding step init first_of
     init_refused n =
         refused (Init base) (refusal_is (first_of (init_tests base h)) h [] _ (λ _. refl))
         (sym (init_number (good_shape base h) ((planes t).fits table) (sym test ∙ n))) (λ z. omega arith)
 
     pub init_done : (after : List ℕ) → g ≡ true → AllBytes after → ((t : ℕ) → Sized t table → Holds t (replicate (length (entries_in t table)) 0) after)
-        → status 0 pool after ≡ perform (planes t) (Init base) [] m
+        → given (only_refusal 0) pool after ≡ perform (planes t) (Init base) [] m
     unfolding step init
     init_done after n bytes done =
         let e = sym test ∙ n in
@@ -99,77 +110,67 @@ module _ (t base : ℕ) (pool table : List ℕ) where
   unfolding step survey
   survey_own = refusal_is (first_of (heap_tests base h)) h [] _ (λ _. refl)
 
-  module _ {r : ℕ} (test : r ≡ refusal_by t pool table (λ (g : Heap). heap_tests base g)) where
-    pub survey_refused : (r ≡ 0 → ⊥) → surveyed (record { refusal = r; used = 0; objects = 0; longest = 0 }) pool table ≡ perform (planes t) (Survey base) [] m
-    survey_refused ne = refused (Survey base) survey_own test ne
+  pub survey_refused : {r : ℕ} → r ≡ refusal_by t pool table (λ (g : Heap). heap_tests base g) → (r ≡ 0 → ⊥) → given (only_refusal r) pool table ≡ perform (planes t) (Survey base) [] m
+  survey_refused test ne = refused (Survey base) survey_own test ne
 
-    pub survey_checked : r ≡ 0 → Checked []
-    survey_checked ok = checked [] test ok
+  module _ (test : 0 ≡ refusal_by t pool table (λ (g : Heap). heap_tests base g)) where
+    pub survey_checked : Checked []
+    survey_checked = checked [] test
 
-    pub survey_done : (u n l : ℕ) → r ≡ 0 → AllBytes table → u ≡ used (entries_in t table) → n ≡ objects (entries_in t table) → l ≡ longest (entries_in t table)
-        → surveyed (record { refusal = 0; used = u; objects = n; longest = l }) pool table ≡ perform (planes t) (Survey base) [] m
+    pub survey_done : (u n l : ℕ) → AllBytes table → u ≡ used (entries_in t table) → n ≡ objects (entries_in t table) → l ≡ longest (entries_in t table)
+        → given (findings 0 u n l) pool table ≡ perform (planes t) (Survey base) [] m
     unfolding step survey
-    survey_done u n l ok all eu en el =
-        let p = survey_checked ok in
+    survey_done u n l all eu en el =
+        let p = survey_checked in
         acts (Survey base) pool table (findings 0 u n l) p.sound all p.is refl (rw (eu, en, el) (sym (accepts _ _ _ p.passes)))
 
-    -- the check alone gives its number
-    pub survey_number : r ≡ (perform (planes t) (Survey base) [] m).answer.refusal
-    survey_number = go r refl
-      where
-        go : (n : ℕ) → r ≡ n → r ≡ (perform (planes t) (Survey base) [] m).answer.refusal
-        go zero z = let p = survey_checked z in z ∙ sym (refusal_in (planes t) (planes_faithful t) (Survey base) [] m p.sound ∙ survey_own ∙ p.passes)
-        go (suc n) q = ap (λ (x : Result). x.answer.refusal) (survey_refused (λ z. omega arith))
+  -- the check alone gives its number
+  pub survey_number : refusal_by t pool table (λ (g : Heap). heap_tests base g) ≡ (perform (planes t) (Survey base) [] m).answer.refusal
+  survey_number = go (refusal_by t pool table (λ (g : Heap). heap_tests base g)) refl
+    where
+      go : (n : ℕ) → refusal_by t pool table (λ (g : Heap). heap_tests base g) ≡ n → refusal_by t pool table (λ (g : Heap). heap_tests base g) ≡ (perform (planes t) (Survey base) [] m).answer.refusal
+      go zero z = let p = survey_checked (sym z) in z ∙ sym (refusal_in (planes t) (planes_faithful t) (Survey base) [] m p.sound ∙ survey_own ∙ p.passes)
+      go (suc n) q = ap (λ (x : Result). x.answer.refusal) (survey_refused refl (λ z. omega arith))
 
   -- one that is accepted has passed the check
-  pub survey_accepted : AcceptedIn (perform (planes t) (Survey base) [] m) → 0 ≡ refusal_by t pool table (λ (g : Heap). heap_tests base g)
-  survey_accepted x =
-      let p = passes_in (planes t) (Survey base) [] m x in
-      sym (tests_own (planes t) (Survey 0) m _ (λ ne. absurd (ne refl)) p.fits p.clean ∙ sym survey_own ∙ p.own)
+  pub accepted_checked : AcceptedIn (perform (planes t) (Survey base) [] m) → Checked []
+  accepted_checked x = survey_checked (sym x ∙ sym survey_number)
 
   -- ---- load and store
 
-  -- the check of a word in two steps: the heap, and then the object's word
-  module _ (k i : ℕ) {r : ℕ} (test : r ≡ refusal_by t pool table (λ (g : Heap). heap_tests base g)) where
-    pub word_first : (r ≡ 0 → ⊥) → r ≡ refusal_by t pool table (λ (g : Heap). word_tests base g k i)
-    word_first ne = refused_first_in (planes t) m (heap_tests base h) (name_tests h k ++ no_word h k i ∷ []) refl refl test ne
+  module _ (k i : ℕ) where
+    -- the check of a word in two steps: the heap, and then the object's word
+    pub word_first : {r : ℕ} → r ≡ (perform (planes t) (Survey base) [] m).answer.refusal → (r ≡ 0 → ⊥) → r ≡ refusal_by t pool table (λ (g : Heap). word_tests base g k i)
+    word_first test ne = refused_first_in (planes t) m (heap_tests base h) (name_tests h k ++ no_word h k i ∷ []) refl refl (test ∙ sym survey_number) ne
 
-    pub word_next : {n : ℕ} → r ≡ 0 → n ≡ first_of (name_tests h k ++ no_word h k i ∷ []) → n ≡ refusal_by t pool table (λ (g : Heap). word_tests base g k i)
-    word_next ok e = refused_next_in (planes t) m (heap_tests base h) (name_tests h k ++ no_word h k i ∷ []) refl test ok e
+    pub word_next : {n : ℕ} → AcceptedIn (perform (planes t) (Survey base) [] m) → n ≡ first_of (name_tests h k ++ no_word h k i ∷ []) → n ≡ refusal_by t pool table (λ (g : Heap). word_tests base g k i)
+    word_next x e = refused_next_in (planes t) m (heap_tests base h) (name_tests h k ++ no_word h k i ∷ []) refl (sym x ∙ sym survey_number) refl e
 
-  module _ (k i : ℕ) {r : ℕ} (test : r ≡ refusal_by t pool table (λ (g : Heap). word_tests base g k i)) where
-    word_checked : r ≡ 0 → Checked (outside h k ∷ no_head h k ∷ no_word h k i ∷ [])
-    word_checked ok = checked (outside h k ∷ no_head h k ∷ no_word h k i ∷ []) test ok
+    module _ {r : ℕ} (test : r ≡ refusal_by t pool table (λ (g : Heap). word_tests base g k i)) (ne : r ≡ 0 → ⊥) where
+      pub load_refused : given (only_refusal r) pool table ≡ perform (planes t) (Load base k i) [] m
+      unfolding step load
+      load_refused = refused (Load base k i) (refusal_is (first_of (word_tests base h k i)) h [] _ (λ _. refl)) test ne
 
-    pub load_refused : (r ≡ 0 → ⊥) → loaded (record { refusal = r; value = 0 }) pool table ≡ perform (planes t) (Load base k i) [] m
-    unfolding step load
-    load_refused ne = refused (Load base k i) (refusal_is (first_of (word_tests base h k i)) h [] _ (λ _. refl)) test ne
+      pub store_refused : (w : ℕ) → given (only_refusal r) pool table ≡ perform (planes t) (Store base k i w) [] m
+      unfolding step store
+      store_refused w = refused (Store base k i w) (refusal_is (first_of (word_tests base h k i)) h [] _ (λ _. refl)) test ne
 
-    -- with the object's first word at f
-    pub load_done : (w : ℕ) {f : ℕ} → r ≡ 0 → AllBytes table → f ≡ 4 * k → w ≡ word_at pool (f + i)
-        → loaded (record { refusal = 0; value = w }) pool table ≡ perform (planes t) (Load base k i) [] m
-    unfolding step load
-    load_done w ok all first e =
-        let p = word_checked ok in
-        acts (Load base k i) pool table (reading 0 w) p.sound all p.is refl (rw (e, first) (sym (accepts _ _ _ p.passes)))
+    -- of a word that is the object's, at the place `at` of the pool
+    module _ (test : 0 ≡ refusal_by t pool table (λ (g : Heap). word_tests base g k i)) {at : ℕ} (place : at ≡ 4 * k + i) where
+      word_checked : Checked (outside h k ∷ no_head h k ∷ no_word h k i ∷ [])
+      word_checked = checked (outside h k ∷ no_head h k ∷ no_word h k i ∷ []) test
 
-    pub store_refused : (w : ℕ) → (r ≡ 0 → ⊥) → status r pool table ≡ perform (planes t) (Store base k i w) [] m
-    unfolding step store
-    store_refused w ne = refused (Store base k i w) (refusal_is (first_of (word_tests base h k i)) h [] _ (λ _. refl)) test ne
+      pub load_done : (w : ℕ) → AllBytes table → w ≡ word_at pool at → given (reading 0 w) pool table ≡ perform (planes t) (Load base k i) [] m
+      unfolding step load
+      load_done w all e =
+          let p = word_checked in
+          acts (Load base k i) pool table (reading 0 w) p.sound all p.is refl (rw (e, place) (sym (accepts _ _ _ p.passes)))
 
-    pub store_done : (w : ℕ) (pool' : List ℕ) {f : ℕ} → r ≡ 0 → AllBytes table → f ≡ 4 * k → pool' ≡ with_word pool (f + i) w
-        → status 0 pool' table ≡ perform (planes t) (Store base k i w) [] m
-    unfolding step store
-    store_done w pool' ok all first e =
-        let p = word_checked ok in
-        acts (Store base k i w) pool' table (only_refusal 0) p.sound all p.is refl (rw (e, first) (sym (accepts _ _ _ p.passes)))
+      pub store_done : (w : ℕ) (pool' : List ℕ) → AllBytes table → pool' ≡ with_word pool at w → given (only_refusal 0) pool' table ≡ perform (planes t) (Store base k i w) [] m
+      unfolding step store
+      store_done w pool' all e =
+          let p = word_checked in
+          acts (Store base k i w) pool' table (only_refusal 0) p.sound all p.is refl (rw (e, place) (sym (accepts _ _ _ p.passes)))
 
-    -- the word lies in the pool
-    pub word_inside : r ≡ 0 → (k < 4096) × (4 * (4 * k + i) + 4 ≤ length pool) × (length pool ≤ 65536)
-    word_inside ok =
-        let p = word_checked ok in
-        let shape = p.shape in
-        let name = named_object base h k (no_word h k i ∷ []) p.passes in
-        let room = (extent_of (entries_in t table) k name.inside).room in
-        let within = leb-false (4 * block_count (entries_in t table) k) i (first_none (no_word h k i) [] (omega arith) (after_names base h k (no_word h k i ∷ []) p.passes)).0 in
-        (omega arith, omega arith, omega arith)
+      pub word_inside : 4 * at + 4 ≤ length pool
+      word_inside = let p = word_checked in omega (arith, place, p.shape.pool, word_below t table k i p.is (own_tests base h _ p.passes))

@@ -21,7 +21,7 @@ use Rattle.rules.specs.Memory.{Result, memory, AcceptedIn, perform}
 use Rattle.laws.specs.Meaning.{AllBytes}
 use Rattle.laws.proofs.Refusals.{both_left, both_right}
 use Rattle.heap.specs.Answers.{next_by}
-use Rattle.heap.proofs.Ends.{survey_accepted, word_next, load_refused, load_done}
+use Rattle.heap.proofs.Ends.{word_next, load_refused, load_done}
 
 module _ (t base : ℕ) (pool table : List ℕ) (bytes : AllBytes table) (ok : AcceptedIn (perform (planes t) (Survey base) [] (memory pool table))) (k : ℕ) where
   abbrev es : List ℕ
@@ -36,7 +36,7 @@ module _ (t base : ℕ) (pool table : List ℕ) (bytes : AllBytes table) (ok : A
 
   load_value : (i : ℕ) → number i ≡ 0 → ((load i).refusal ≡ 0) × ((load i).value ≡ word_at pool (4 * k + i))
   load_value i z =
-      let done = load_done t base pool table k i (word_next t base pool table k i (survey_accepted t base pool table ok) refl refl) (word_at pool (4 * k + i)) z bytes refl refl in
+      let done = load_done t base pool table k i (word_next t base pool table k i ok (sym z)) refl (word_at pool (4 * k + i)) bytes refl in
       (sym (ap (λ (x : Result). x.answer.refusal) done), sym (ap (λ (x : Result). x.answer.value) done))
 
   load_number : (i : ℕ) → (load i).refusal ≡ number i
@@ -45,7 +45,7 @@ module _ (t base : ℕ) (pool table : List ℕ) (bytes : AllBytes table) (ok : A
       go : (n : ℕ) → number i ≡ n → (load i).refusal ≡ number i
       go zero z = (load_value i z).0 ∙ sym z
       go (suc n) q =
-          sym (ap (λ (x : Result). x.answer.refusal) (load_refused t base pool table k i (word_next t base pool table k i (survey_accepted t base pool table ok) refl refl) (λ z. omega (arith, q, z))))
+          sym (ap (λ (x : Result). x.answer.refusal) (load_refused t base pool table k i (word_next t base pool table k i ok refl) (λ z. omega (arith, q, z))))
 
   -- ---- the three ways it is no object of two blocks, and the one that it is
 

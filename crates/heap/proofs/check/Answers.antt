@@ -1,6 +1,7 @@
 -- `heap::check` gives the number of a survey. Assumes nothing.
+use mathlib.Core.Path.{◌∙◌}
 use Rattle.heap.proofs.Ends.{survey_number}
 use Rattle.heap.proofs.check.Goals as goal
 
 pub returns : goal.returns
-returns c = survey_number _ _ _ _ c.heap.ensures
+returns c = c.heap.ensures ∙ survey_number _ _ _ _

@@ -1,43 +1,23 @@
 -- `heap::load_checked` meets its contract: with the check that was passed before, its tests are those of a load. Assumes nothing.
-use mathlib.Core.Path.{◌≡◌, refl}
-use native.Mathlib.Omega.{arith}
-use Rattle.rules.specs.Outcomes.{Heap}
-use Rattle.rules.specs.Refusals.{word_tests}
-use Rattle.checks.specs.Refusal.{refusal_by}
-use Rattle.laws.proofs.Widths.{in_32_bits}
-use Rattle.heap.proofs.Ends.{survey_accepted, survey_checked, word_next, load_refused, load_done, word_inside}
+use Rattle.std.proofs.lemmas.Result.{err_from_is_err_and}
+use Rattle.refusals.proofs.Codes.{not_accepted}
+use Rattle.heap.proofs.Ends.{accepted_checked, word_next, load_refused, load_done, word_inside}
 use Rattle.heap.proofs.load_checked.Goals as goal
 
-pub object_word-r-requires : goal.object_word-r-requires
-object_word-r-requires c = (survey_checked _ _ _ _ (survey_accepted _ _ _ _ c.requires) refl).is
+pub word_index-requires : goal.word_index-requires
+word_index-requires c = (accepted_checked _ _ _ _ c.requires).is
 
-pub returns-then-r-ne0 : goal.returns-then-r-ne0
-returns-then-r-ne0 c =
-    let tested : let a = c.args in
-    c.object_word-r.result ≡ refusal_by a.t a.pool.now a.table.now (λ (g : Heap). word_tests a.base.0 g a.k.0 a.i) = word_next _ _ _ _ _ _ (survey_accepted _ _ _ _ c.requires) refl c.object_word-r.ensures in
-    load_refused _ _ _ _ _ _ tested c.if-r-ne0.true
-
-pub first_word-requires : goal.first_word-requires
-first_word-requires c =
-    let tested : let a = c.args in
-    c.object_word-r.result ≡ refusal_by a.t a.pool.now a.table.now (λ (g : Heap). word_tests a.base.0 g a.k.0 a.i) = word_next _ _ _ _ _ _ (survey_accepted _ _ _ _ c.requires) refl c.object_word-r.ensures in
-    omega (arith, (word_inside _ _ _ _ _ _ tested c.if-r-ne0.false).0)
-
-pub overflow_add-first_word : goal.overflow_add-first_word
-overflow_add-first_word c =
-    let tested : let a = c.args in
-    c.object_word-r.result ≡ refusal_by a.t a.pool.now a.table.now (λ (g : Heap). word_tests a.base.0 g a.k.0 a.i) = word_next _ _ _ _ _ _ (survey_accepted _ _ _ _ c.requires) refl c.object_word-r.ensures in
-    let w = word_inside _ _ _ _ _ _ tested c.if-r-ne0.false in in_32_bits (omega arith)
+pub returns-in_err-word_index : goal.returns-in_err-word_index
+returns-in_err-word_index c =
+    let p = err_from_is_err_and c.from_residual.result c.from_residual.ensures.1 in
+    rw (p.1, p.2) (load_refused _ _ _ _ _ _ (word_next _ _ _ _ _ _ c.requires c.in_err-word_index.ensures.refusal) (not_accepted _))
 
 pub word-requires : goal.word-requires
 word-requires c =
-    let tested : let a = c.args in
-    c.object_word-r.result ≡ refusal_by a.t a.pool.now a.table.now (λ (g : Heap). word_tests a.base.0 g a.k.0 a.i) = word_next _ _ _ _ _ _ (survey_accepted _ _ _ _ c.requires) refl c.object_word-r.ensures in
-    let w = word_inside _ _ _ _ _ _ tested c.if-r-ne0.false in omega arith
+    let said = c.in_ok-word_index.ensures in
+    word_inside _ _ _ _ _ _ (word_next _ _ _ _ _ _ c.requires said.refusal) said.index
 
 pub returns : goal.returns
 returns c =
-    let tested : let a = c.args in
-    c.object_word-r.result ≡ refusal_by a.t a.pool.now a.table.now (λ (g : Heap). word_tests a.base.0 g a.k.0 a.i) = word_next _ _ _ _ _ _ (survey_accepted _ _ _ _ c.requires) refl c.object_word-r.ensures in
-    load_done _ _ _ _ _ _ tested _ c.if-r-ne0.false (λ i. (c.shared_slice_known-2-1.given i).fits)
-    c.first_word.ensures c.word.ensures
+    let said = c.in_ok-word_index.ensures in
+    load_done _ _ _ _ _ _ (word_next _ _ _ _ _ _ c.requires said.refusal) said.index _ (λ i. (c.shared_slice_known-2-1.given i).fits) c.word.ensures

@@ -1,66 +1,56 @@
 -- `heap::load_link` meets its contract: three loads say whether the object has two blocks, and so does the table. Assumes nothing.
-use mathlib.Core.Path.{refl, sym, ap, ◌∙◌}
-use mathlib.Core.List.{List, []}
+use mathlib.Core.Path.{◌≡◌, sym, ap, ◌∙◌}
+use mathlib.Core.Bool.{Bool, true}
+use mathlib.Core.List.{[]}
 use mathlib.Core.Option.{some}
 use Prim.Native.Nat.{ℕ, ◌<◌}
 use native.Mathlib.Omega.{arith}
-use lib.ListN.{length}
+use lib.Dec.{ltb}
 use borrow.Author.Tests.{ltb-true, ltb-false}
 use Rattle.rules.specs.Words.{word_at}
-use Rattle.rules.specs.Planes.{planes, entries_in, heap_at}
-use Rattle.rules.specs.Runs.{Survey}
-use Rattle.rules.specs.Memory.{memory, AcceptedIn, perform}
+use Rattle.rules.specs.Planes.{heap_at}
 use Rattle.laws.proofs.Refusals.{passed}
-use Rattle.heap.proofs.Ends.{Checked, survey_accepted, survey_checked}
+use Rattle.heap.proofs.Ends.{accepted_checked}
 use Rattle.heap.proofs.Linking.{next_outside, next_of, next_other}
 use Rattle.heap.proofs.load_link.Goals as goal
+use Rattle.heap.proofs.load_link.Goals.{else-is_below-via-then-is_below+else-is_pair, else-is_below-via-else-is_below}
 
-checked_by : (t base : ℕ) (pool table : List ℕ) → AcceptedIn (perform (planes t) (Survey base) [] (memory pool table)) → Checked t base pool table []
-checked_by t base pool table ok = survey_checked t base pool table (survey_accepted t base pool table ok) refl
+-- the block is one of the m blocks, as the test said
+below : {k n m : ℕ} {b : Bool} → n ≡ m → b ≡ ltb k n → b ≡ true → k < m
+below e q y = omega (arith, e, ltb-true _ _ (sym q ∙ y))
 
 pub blocks-requires : goal.blocks-requires
-blocks-requires c = (checked_by _ _ _ _ c.requires).is.sized.few
-
-pub returns-then-not-is_below : goal.returns-then-not-is_below
-returns-then-not-is_below c =
-    let n = c.blocks-2.ensures c.args.table.now in
-    next_outside c.args.t c.args.base.0 c.args.pool.now c.args.table.now (λ i. (c.shared_slice_known-2-1.given i).fits) c.requires c.args.k.0 (omega (arith, n, ltb-false c.args.k.0 c.blocks-2.result (sym c.is_below.ensures ∙ c.if-not-is_below.true)))
+blocks-requires c = (accepted_checked _ _ _ _ c.requires).is.sized.few
 
 pub is_pair-requires : goal.is_pair-requires
 is_pair-requires c =
-    let inside_at : let a = c.args in a.k.0 < length (entries_in a.t a.table.now) =
-    let n = c.blocks-2.ensures c.args.table.now in
-    omega (arith, n, ltb-true c.args.k.0 c.blocks-2.result (sym c.is_below.ensures ∙ c.if-not-is_below.false)) in
-    let p = checked_by _ _ _ _ c.requires in
-    (p.is, (inside_at, (passed c.args.base.0 (heap_at c.args.t c.args.pool.now c.args.table.now) [] p.passes).well))
-
-pub returns-then-not-is_pair : goal.returns-then-not-is_pair
-returns-then-not-is_pair c =
-    let inside_at : let a = c.args in a.k.0 < length (entries_in a.t a.table.now) =
-    let n = c.blocks-2.ensures c.args.table.now in
-    omega (arith, n, ltb-true c.args.k.0 c.blocks-2.result (sym c.is_below.ensures ∙ c.if-not-is_below.false)) in
-    next_other c.args.t c.args.base.0 c.args.pool.now c.args.table.now (λ i. (c.shared_slice_known-2-1.given i).fits) c.requires c.args.k.0 inside_at (sym c.is_pair.ensures ∙ c.if-not-is_pair.true)
+    let a = c.args in
+    let p = accepted_checked _ _ _ _ c.requires in
+    (p.is, (below (c.blocks-2.ensures a.table.now) c.is_below.ensures c.if-is_below.true, (passed a.base.0 (heap_at a.t a.pool.now a.table.now) [] p.passes).well))
 
 pub first_word-requires : goal.first_word-requires
 first_word-requires c =
-    let inside_at : let a = c.args in a.k.0 < length (entries_in a.t a.table.now) =
-    let n = c.blocks-2.ensures c.args.table.now in
-    omega (arith, n, ltb-true c.args.k.0 c.blocks-2.result (sym c.is_below.ensures ∙ c.if-not-is_below.false)) in
-    let shape = (checked_by _ _ _ _ c.requires).shape in
-    omega (arith, inside_at, shape.few)
+    omega (arith, below (c.blocks-2.ensures c.args.table.now) c.is_below.ensures c.if-is_below.true, (accepted_checked _ _ _ _ c.requires).shape.few)
 
 pub word-requires : goal.word-requires
 word-requires c =
-    let inside_at : let a = c.args in a.k.0 < length (entries_in a.t a.table.now) =
-    let n = c.blocks-2.ensures c.args.table.now in
-    omega (arith, n, ltb-true c.args.k.0 c.blocks-2.result (sym c.is_below.ensures ∙ c.if-not-is_below.false)) in
-    let shape = (checked_by _ _ _ _ c.requires).shape in
-    omega (arith, inside_at, shape.pool, c.first_word.ensures)
+    omega (arith, below (c.blocks-2.ensures c.args.table.now) c.is_below.ensures c.if-is_below.true, (accepted_checked _ _ _ _ c.requires).shape.pool, c.first_word.ensures)
 
-pub returns : goal.returns
-returns c =
-    let inside_at : let a = c.args in a.k.0 < length (entries_in a.t a.table.now) =
-    let n = c.blocks-2.ensures c.args.table.now in
-    omega (arith, n, ltb-true c.args.k.0 c.blocks-2.result (sym c.is_below.ensures ∙ c.if-not-is_below.false)) in
-    ap some (c.word.ensures ∙ ap (word_at c.args.pool.now) (omega (arith, c.first_word.ensures)))
-    ∙ next_of c.args.t c.args.base.0 c.args.pool.now c.args.table.now (λ i. (c.shared_slice_known-2-1.given i).fits) c.requires c.args.k.0 inside_at (sym c.is_pair.ensures ∙ c.if-not-is_pair.false)
+pub returns-then-is_pair : goal.returns-then-is_pair
+returns-then-is_pair c =
+    let a = c.args in
+    ap some (c.word.ensures ∙ ap (word_at a.pool.now) (omega (arith, c.first_word.ensures)))
+    ∙ next_of a.t a.base.0 a.pool.now a.table.now (λ i. (c.shared_slice_known-2-1.given i).fits) c.requires a.k.0
+    (below (c.blocks-2.ensures a.table.now) c.is_below.ensures c.if-is_below.true) (sym c.is_pair.ensures ∙ c.if-is_pair.true)
+
+pub returns-else-is_below : goal.returns-else-is_below
+returns-else-is_below c =
+    let a = c.args in
+    elim c.else-is_below.branch [
+      | else-is_below-via-then-is_below+else-is_pair w ↦
+          next_other a.t a.base.0 a.pool.now a.table.now (λ i. (c.shared_slice_known-2-1.given i).fits) c.requires a.k.0
+          (below (c.blocks-2.ensures a.table.now) c.is_below.ensures w.if-is_below.true) (sym w.is_pair.ensures ∙ w.if-is_pair.false)
+      | else-is_below-via-else-is_below w ↦
+          next_outside a.t a.base.0 a.pool.now a.table.now (λ i. (c.shared_slice_known-2-1.given i).fits) c.requires a.k.0
+          (omega (arith, c.blocks-2.ensures a.table.now, ltb-false a.k.0 c.blocks-2.result (sym c.is_below.ensures ∙ w.if-is_below.false)))
+    ]

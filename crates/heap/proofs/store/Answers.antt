@@ -1,13 +1,10 @@
 -- `heap::store` meets its contract: once the heap is checked it is `store_checked`. Assumes nothing.
-use mathlib.Core.Path.{sym, ◌∙◌}
-use Rattle.heap.proofs.Ends.{store_refused, survey_number, word_first}
+use Rattle.std.proofs.lemmas.Result.{err_from_is_err_and}
+use Rattle.refusals.proofs.Codes.{not_accepted}
+use Rattle.heap.proofs.Ends.{store_refused, word_first}
 use Rattle.heap.proofs.store.Goals as goal
 
-pub returns-then-r-ne0 : goal.returns-then-r-ne0
-returns-then-r-ne0 c = store_refused _ _ _ _ _ _ (word_first _ _ _ _ _ _ c.heap-r.ensures c.if-r-ne0.true) _ c.if-r-ne0.true
-
-pub store_checked-requires : goal.store_checked-requires
-store_checked-requires c = sym (survey_number _ _ _ _ c.heap-r.ensures) ∙ c.if-r-ne0.false
-
-pub returns : goal.returns
-returns c = c.store_checked.ensures
+pub returns-in_err-check : goal.returns-in_err-check
+returns-in_err-check c =
+    let p = err_from_is_err_and c.from_residual.result c.from_residual.ensures.1 in
+    rw (p.1, p.2) (store_refused _ _ _ _ _ _ (word_first _ _ _ _ _ _ c.in_err-check.ensures (not_accepted _)) (not_accepted _) _)
