@@ -1,34 +1,23 @@
 // What allocate, free and reallocate do to pool and table once they are checked: an object is taken, freed, or gets fewer or more blocks.
 #![tactic(auto)]
 
-ghost use Rattle.std.specs.Prelude.{◌≡◌, ◌+◌, ◌*◌, ◌≤◌, ◌<◌, pos, neg_ℤ, length};
+ghost use Rattle.std.specs.Prelude.{◌≡◌, ◌+◌, ◌*◌, ◌≤◌, ◌<◌, pos, neg_ℤ, length, Ok};
 ghost use Rattle.rules.specs.Tables.{block_count, first_fit, released};
 ghost use Rattle.laws.specs.Meaning.{GrowsInPlace};
 ghost use Rattle.rules.specs.Outcomes.{cleared_blocks};
 ghost use Rattle.rules.specs.Planes.{entries_in, IsTable, Holds, heap_at};
 ghost use Rattle.rules.specs.Calls.{taken, placing, shrunk, grown, moves_to, along};
 ghost use Rattle.objects.specs.Held.{Held};
-ghost use Rattle.objects.specs.Answers.{placed_in, unplaced_by};
+ghost use Rattle.objects.specs.Answers.{placed_in};
 
-use numbers::{Block, Bytes, Found};
+use numbers::{Block, Bytes};
+use refusals::Refusal;
 
 // Where an object is, and the change in used blocks.
 #[derive(Clone, Copy)]
 pub struct Placed {
-    pub refusal: u32,
     pub block: Block,
     pub change: i32,
-}
-
-// A refusal: every other part of the answer is zero.
-pub fn unplaced(refusal: u32) -> Placed
-    ensures { result ≡ unplaced_by refusal }
-{
-    Placed {
-        refusal,
-        block: Block::first(),
-        change: 0,
-    }
 }
 
 // A new object of count blocks at k, all its bytes zero.
@@ -64,11 +53,10 @@ pub fn free_object(t: usize, table: &mut [u8], k: Block) -> i32
 pub fn shrink(t: usize, pool: &[u8], table: &mut [u8], k: Block, old: usize, new: usize) -> Placed
     requires held { Held t pool.now table.old k.0 old }
     requires nonzero { (0 < new) × (new ≤ old) }
-    ensures { IsTable t table.new × (placed_in result (heap_at t pool.now table.new) ≡ (let h = heap_at t pool.now table.old in placing h k.0 (shrunk h k.0 old new))) }
+    ensures { IsTable t table.new × (placed_in (Ok result) (heap_at t pool.now table.new) ≡ (let h = heap_at t pool.now table.old in placing h k.0 (shrunk h k.0 old new))) }
 {
     table::release(t, table, k.plus(new), old - new);
     Placed {
-        refusal: 0,
         block: k,
         change: numbers::difference(new, old),
     }
@@ -78,13 +66,12 @@ pub fn shrink(t: usize, pool: &[u8], table: &mut [u8], k: Block, old: usize, new
 pub fn grow(t: usize, pool: &mut [u8], table: &mut [u8], k: Block, old: usize, new: usize) -> Placed
     requires held { Held t pool.old table.old k.0 old }
     requires lt { (old < new) × GrowsInPlace (entries_in t table.old) k.0 old new }
-    ensures { IsTable t table.new × (placed_in result (heap_at t pool.new table.new) ≡ (let h = heap_at t pool.old table.old in placing h k.0 (grown h k.0 old new))) }
+    ensures { IsTable t table.new × (placed_in (Ok result) (heap_at t pool.new table.new) ≡ (let h = heap_at t pool.old table.old in placing h k.0 (grown h k.0 old new))) }
 {
     let end = k.plus(old);
     table::extend(t, table, end, new - old);
     clear_blocks(pool, end, new - old);
     Placed {
-        refusal: 0,
         block: k,
         change: numbers::difference(new, old),
     }
@@ -98,23 +85,18 @@ pub fn relocate(
     k: Block,
     old: usize,
     new: usize,
-) -> Placed
+) -> Result<Placed, Refusal>
     requires held { Held t pool.old table.old k.0 old }
     requires lt { (old < new) × (new ≤ 4096) }
     ensures { IsTable t table.new × (placed_in result (heap_at t pool.new table.new) ≡ (let h = heap_at t pool.old table.old in along (moves_to (first_fit h.entries new)) h k.0 old new)) }
 {
-    match table::first_fit(t, &*table, new) {
-        Found::At(s) => {
-            table::place(t, &mut *table, s, new);
-            memory::copy(&mut *pool, k.offset(), s.offset(), Bytes::of_blocks(old));
-            clear_blocks(&mut *pool, s.plus(old), new - old);
-            table::release(t, &mut *table, k, old);
-            Placed {
-                refusal: 0,
-                block: s,
-                change: numbers::difference(new, old),
-            }
-        }
-        Found::Nowhere => unplaced(refusals::NO_ROOM),
-    }
+    let s = table::first_fit(t, &*table, new).ok_or(Refusal::NoRoom)?;
+    table::place(t, &mut *table, s, new);
+    memory::copy(&mut *pool, k.offset(), s.offset(), Bytes::of_blocks(old));
+    clear_blocks(&mut *pool, s.plus(old), new - old);
+    table::release(t, &mut *table, k, old);
+    Ok(Placed {
+        block: s,
+        change: numbers::difference(new, old),
+    })
 }

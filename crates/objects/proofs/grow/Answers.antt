@@ -32,10 +32,6 @@ plus-end-requires c =
     let held = c.requires.held in
     omega (arith, held_room held, held_few held)
 
-pub extend-requires : goal.extend-requires
-extend-requires c =
-    (c.requires.held.is_table, omega (arith, c.requires.lt.1.run.room))
-
 pub clear_blocks-requires : goal.clear_blocks-requires
 clear_blocks-requires c =
     let room = c.requires.lt.1.run.room in
