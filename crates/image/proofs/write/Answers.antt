@@ -55,11 +55,8 @@ returns-then-image-length c =
     let at = goal.at.returns-then-image-length c in
     image_short _ _ _ _ _ _ (c.in_ok-root_list.ensures _ refl) (omega (arith, c.if-image-length.true, size at.After-index, (knows at.In_ok-root_list).long, c.count-used.ensures.0))
 
-pub write_sections-requires : goal.write_sections-requires
-write_sections-requires c =
-    let at = goal.at.write_sections-requires c in
-    let k = knows at.In_ok-root_list in
-    record { table = (k.is, (k.whole, k.address)); used_value = (c.count-used.ensures.0, omega (arith, size at.After-index, c.if-image-length.false)) }
+pub write_sections-requires-clause-table : goal.write_sections-requires-clause-table
+write_sections-requires-clause-table c = let k = knows (goal.at.write_sections-requires-clause-table c).In_ok-root_list in (k.is, (k.whole, k.address))
 
 pub overflow_cast-result : goal.overflow_cast-result
 overflow_cast-result c =

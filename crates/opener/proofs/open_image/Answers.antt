@@ -1,16 +1,12 @@
 -- `open_image`: a file with a fault, or one that does not suit what is lent, is refused before anything is written.
 -- Assumes nothing.
 use mathlib.Core.Path.{sym}
-use native.Mathlib.Omega.{arith}
 use Rattle.std.proofs.lemmas.Result.{err_from_is_err_and}
 use Rattle.opener.proofs.Ends.{open_faulty, open_unsuited, suits, open_done}
 use Rattle.opener.proofs.open_image.Goals as goal
 
 pub returns-in_err-file : goal.returns-in_err-file
 returns-in_err-file c = let p = err_from_is_err_and c.from_residual.result c.from_residual.ensures.1 in rw (p.1, p.2) (open_faulty _ _ _ _ _ _ c.in_err-file.ensures.0)
-
-pub check-requires : goal.check-requires
-check-requires c = c.in_ok-file.ensures.1
 
 pub returns-in_err-check : goal.returns-in_err-check
 returns-in_err-check c =
@@ -19,9 +15,6 @@ returns-in_err-check c =
 
 pub fill-requires : goal.fill-requires
 fill-requires c = suits _ _ _ _ _ (sym c.in_ok-file.ensures.0) c.in_ok-file.ensures.1 c.in_ok-check.ensures
-
-pub overflow_cast-result : goal.overflow_cast-result
-overflow_cast-result c = let says = c.in_ok-file.ensures.1 in record { fits = omega (arith, says.few_roots) }
 
 pub returns : goal.returns
 returns c = open_done _ _ _ _ _ (sym c.in_ok-file.ensures.0) c.in_ok-file.ensures.1 c.in_ok-check.ensures (λ i. (c.slice_known-5-1.given i).fits) c.fill.ensures
