@@ -71,4 +71,4 @@ returns c =
     let k = knows at.In_ok-root_list in
     let same = c.count-used.ensures.0 in
     image_done _ _ _ _ _ _ (c.in_ok-root_list.ensures _ refl) (omega (arith, c.if-image-length.false, size_is, k.long, same)) (omega (arith, size_is, k.long, same))
-    (λ i. (c.shared_slice_known-2-1.given i).fits) c.write_sections.ensures
+    (λ i. (c.type_inv.table i).fits) c.write_sections.ensures

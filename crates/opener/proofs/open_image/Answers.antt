@@ -17,4 +17,4 @@ pub fill-requires : goal.fill-requires
 fill-requires c = suits _ _ _ _ _ (sym c.in_ok-file.ensures.0) c.in_ok-file.ensures.1 c.in_ok-check.ensures
 
 pub returns : goal.returns
-returns c = open_done _ _ _ _ _ (sym c.in_ok-file.ensures.0) c.in_ok-file.ensures.1 c.in_ok-check.ensures (λ i. (c.slice_known-5-1.given i).fits) c.fill.ensures
+returns c = open_done _ _ _ _ _ (sym c.in_ok-file.ensures.0) c.in_ok-file.ensures.1 c.in_ok-check.ensures (λ i. (c.type_inv.table i).fits) c.fill.ensures
