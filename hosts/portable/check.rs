@@ -2,9 +2,11 @@
 //!
 //! usage: check PROJECT SRC
 //!
-//! - Line n of SRC/NAME.rs is line n of crates/NAME/src/lib.rt, or it is empty where that has ghost text: a `ghost use`, a
-//!   clause `requires { .. }` or `ensures { .. }`, also with a name, between the end of a function's parameters and the brace
-//!   of its body, `#![tactic(..)]`, `#[tactic(..)]` before a function, or `#[unsafe(no_mangle)]`. No ghost text is left.
+//! - Line n of SRC/NAME.rs is line n of crates/NAME/src/lib.rt, or it is empty where that has ghost text: a `ghost use` or
+//!   `use std::marker::Model;`, a clause `requires { .. }` or `ensures { .. }`, also with a name, between the end of a function's
+//!   parameters and the brace of its body, or the `;` of a trait's function, which is left, a member `ghost NAME ..;` of a
+//!   trait or an `impl`, a field `ghost NAME ..,`, the first and the last line of an `impl Model for ..`, `#![tactic(..)]`,
+//!   `#[tactic(..)]` before a function, or `#[unsafe(no_mangle)]`. No ghost text is left.
 //! - SRC/lib.rs is head.rs and then these parts, each once: a module for each crate, and for each declaration of the header
 //!   a function whose parameters are made from that declaration.
 
@@ -14,6 +16,11 @@ use std::{env, fs, process};
 
 const EXPORT: &str = "#[unsafe(no_mangle)]";
 const ENTRY_CRATE: &str = "blockheap_c";
+const MODEL_USE: &str = "use std::marker::Model;";
+/// How the last line of a clause ends, where a body follows, and where none does.
+const CLAUSE: &[&str] = &["}", "};"];
+/// What a type may derive.
+const DERIVED: [&str; 7] = ["Clone", "Copy", "Debug", "Eq", "Ord", "PartialEq", "PartialOrd"];
 
 type Result<T> = std::result::Result<T, String>;
 
@@ -73,7 +80,7 @@ struct Crate {
 
 fn is_code(line: &str) -> bool {
     let line = line.trim();
-    !line.is_empty() && !["//", "ghost use ", "#![tactic("].iter().any(|start| line.starts_with(start))
+    !line.is_empty() && !["//", "ghost use ", MODEL_USE, "#![tactic("].iter().any(|start| line.starts_with(start))
 }
 
 /// From the last line of crates.txt to the first: a crate is needed if it is the library, or if a needed one names it.
@@ -106,60 +113,120 @@ fn check_lines(path: &str, source: &str, erased: &str) -> Result<(usize, usize)>
     if sources.len() != lines.len() {
         return Err(format!("{path}: it has {} lines, and the erased file has {}", sources.len(), lines.len()));
     }
-    let ghosts = ghost_lines(path, &sources)?;
+    let left = left_lines(path, &sources)?;
     for (i, line) in lines.iter().enumerate() {
-        let good = if ghosts[i] { line.is_empty() } else { line == &sources[i] };
-        if !good {
-            let what = if ghosts[i] { "ghost text that is left" } else { "a line that is not the source's" };
+        if *line != left[i] {
+            let what = if left[i] == sources[i] { "a line that is not the source's" } else { "ghost text that is left" };
             return Err(format!("{path}:{}: {what}: {line}", i + 1));
         }
     }
-    let gone = ghosts.iter().filter(|ghost| **ghost).count();
+    let gone = left.iter().zip(&sources).filter(|(left, source)| left != source).count();
     Ok((lines.len() - 1 - gone, gone))
 }
 
-/// For each line, whether it is ghost text. What a line is shows at its beginning.
-fn ghost_lines(path: &str, lines: &[&str]) -> Result<Vec<bool>> {
-    let mut ghosts = Vec::new();
-    let mut depth = 0;
-    let mut in_contract = false;
+/// Where in the source a line is.
+#[derive(Clone, Copy, PartialEq)]
+enum Inside {
+    Code,
+    /// A ghost text, to the line that ends in one of these ways.
+    Ghost(&'static [&'static str]),
+    /// A contract, between its clauses.
+    Contract,
+    /// An `impl Model`, between its members.
+    Model,
+}
+
+/// What is to be left of each line: nothing of ghost text, but for the `;` behind a contract. What a line is shows at its
+/// beginning.
+fn left_lines<'a>(path: &str, lines: &[&'a str]) -> Result<Vec<&'a str>> {
+    let mut left = Vec::new();
+    let (mut inside, mut outside, mut depth) = (Inside::Code, Inside::Code, 0);
     for (i, whole) in lines.iter().enumerate() {
         let line = whole.trim();
         let says = |what: &str| Err(format!("{path}:{}: {what}: {whole}", i + 1));
-        let opens = opens_clause(line);
-        if depth > 0 || opens {
-            if depth == 0 && !in_contract && !ends_parameters(lines, i) {
+        if inside == Inside::Contract && !opens_clause(line) {
+            if line != "{" {
+                return says("a contract that no body follows");
+            }
+            inside = Inside::Code;
+        }
+        if let (Some(ends), false) = (ghost_text(line), matches!(inside, Inside::Ghost(_))) {
+            if ends == CLAUSE && inside == Inside::Code && !ends_parameters(lines, i) {
                 return says("a clause that does not follow a function's parameters");
             }
-            depth += braces(line);
-            if depth == 0 && !line.ends_with('}') {
-                return says("text behind a clause");
+            if ends != CLAUSE && whole.len() - whole.trim_start().len() != 4 {
+                return says("a ghost member that is in no trait, impl or struct");
             }
-            in_contract = true;
-            ghosts.push(true);
-        } else if in_contract && line != "{" {
-            return says("a contract that no body follows");
+            outside = if inside == Inside::Model { inside } else { Inside::Code };
+            inside = Inside::Ghost(ends);
+        }
+        if let Inside::Ghost(ends) = inside {
+            depth += braces(line);
+            if depth == 0 && !ends.iter().any(|end| line.ends_with(end)) {
+                return says("text behind ghost text");
+            }
+            let ends_function = depth == 0 && ends == CLAUSE && line.ends_with(';');
+            left.push(if ends_function { ";" } else { "" });
+            if depth == 0 {
+                inside = if ends == CLAUSE && !ends_function { Inside::Contract } else { outside };
+            }
+        } else if inside == Inside::Model {
+            if !line.is_empty() && !line.starts_with("//") && *whole != "}" {
+                return says("a line that is no ghost member");
+            }
+            left.push(if *whole == "}" { "" } else { whole });
+            inside = if *whole == "}" { Inside::Code } else { inside };
+        } else if whole.starts_with("impl") && line.contains("Model for ") && line.ends_with(" {") {
+            left.push("");
+            inside = Inside::Model;
         } else {
-            in_contract = false;
-            let precedes = |starts: &[&str]| {
-                lines.get(i + 1).is_some_and(|next| starts.iter().any(|start| next.trim_start().starts_with(start)))
-            };
-            let imports = line.starts_with("ghost use ") && line.find(';') == Some(line.len() - 1);
-            let asks = line.starts_with("#![tactic(") && line.ends_with(")]") && !lines[..i].iter().any(|before| is_code(before))
-                || line.starts_with("#[tactic(") && line.ends_with(")]") && precedes(&["pub fn ", "fn ", EXPORT]);
-            let exports = line == EXPORT && precedes(&["pub extern \"C\" fn "]);
-            let copies = line == "#[derive(Clone, Copy)]" && precedes(&["pub struct ", "struct ", "pub enum ", "enum "]);
-            let ghost = imports || asks || exports;
-            if !ghost && !copies && !is_plain(line) {
+            let ghost = is_ghost_line(lines, i);
+            if !ghost && !is_known_attribute(lines, i) && !is_plain(line) {
                 return says("a line that is neither plain code nor ghost text");
             }
-            ghosts.push(ghost);
+            left.push(if ghost { "" } else { whole });
         }
     }
-    if depth > 0 || in_contract {
-        return Err(format!("{path}: a clause without an end"));
+    if inside != Inside::Code {
+        return Err(format!("{path}: ghost text without an end"));
     }
-    Ok(ghosts)
+    Ok(left)
+}
+
+/// In which ways the last line may end of the ghost text that begins here, if it is a clause, a member or a field.
+fn ghost_text(line: &str) -> Option<&'static [&'static str]> {
+    if opens_clause(line) {
+        return Some(CLAUSE);
+    }
+    let rest = line.strip_prefix("pub ").unwrap_or(line).strip_prefix("ghost ")?;
+    let rest = rest.trim_start_matches(|c: char| c.is_ascii_alphanumeric() || c == '_');
+    (rest.starts_with(" = {") || rest.starts_with(": {")).then_some(&["};", "},"])
+}
+
+/// A line that is ghost text by itself.
+fn is_ghost_line(lines: &[&str], i: usize) -> bool {
+    let line = lines[i].trim();
+    let imports = line.starts_with("ghost use ") && line.find(';') == Some(line.len() - 1) || line == MODEL_USE;
+    let at_head = line.starts_with("#![tactic(") && !lines[..i].iter().any(|before| is_code(before));
+    let asks = (at_head || line.starts_with("#[tactic(") && precedes_function(lines, i)) && line.ends_with(")]");
+    imports || asks || line == EXPORT && precedes(lines, i, &["pub extern \"C\" fn "])
+}
+
+/// An attribute that is left.
+fn is_known_attribute(lines: &[&str], i: usize) -> bool {
+    let line = lines[i].trim();
+    let derived = line.strip_prefix("#[derive(").and_then(|rest| rest.strip_suffix(")]"));
+    let is_derive = derived.is_some_and(|names| names.split(", ").all(|name| DERIVED.contains(&name)));
+    is_derive && precedes(lines, i, &["pub struct ", "struct ", "pub enum ", "enum "])
+        || line == "#[inline]" && precedes_function(lines, i)
+}
+
+fn precedes(lines: &[&str], i: usize, starts: &[&str]) -> bool {
+    lines.get(i + 1).is_some_and(|next| starts.iter().any(|start| next.trim_start().starts_with(start)))
+}
+
+fn precedes_function(lines: &[&str], i: usize) -> bool {
+    precedes(lines, i, &["pub fn ", "fn ", EXPORT, "#[tactic(", "#[inline]"])
 }
 
 /// Whether a clause begins here: one of two words, a name or none, and a brace.
@@ -186,9 +253,9 @@ fn is_plain(line: &str) -> bool {
     let code = line.split("//").next().unwrap_or("").replace("extern \"C\"", "extern");
     let words = code.split(|c: char| !c.is_ascii_alphanumeric() && c != '_');
     line.is_ascii()
-        && !code.contains(['"', '#', '\\', '`', '@', '$', '?', '~'])
+        && !code.contains(['"', '#', '\\', '`', '@', '$', '~'])
         && !code.contains("/*")
-        && !words.into_iter().any(|word| ["ghost", "requires", "ensures", "unsafe", "macro_rules"].contains(&word))
+        && !words.into_iter().any(|word| ["ghost", "requires", "ensures", "unsafe", "macro_rules", "Model"].contains(&word))
 }
 
 // ---- The functions for C
@@ -274,7 +341,7 @@ fn module_part(c: &Crate, crates: &[Crate]) -> String {
     let uses =
         crates.iter().filter(|other| c.needs.contains(&other.name)).map(|other| format!("    use crate::{};\n", other.name));
     format!(
-        "mod {0} {{\n    #[cfg(casts)]\n    use crate::{{Below, Small}};\n    use crate::std;\n{1}    \
+        "mod {0} {{\n    #[cfg(casts)]\n    use crate::widths::*;\n    use crate::std;\n{1}    \
          include!(\"{0}.rs\");\n}}",
         c.name,
         uses.collect::<String>()

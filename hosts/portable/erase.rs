@@ -4,8 +4,11 @@
 //!
 //! It takes the crates of crates.txt that `blockheap_c` needs and that have code, and writes into OUT/src a crate without the
 //! standard library: NAME.rs has, line for line, crates/NAME/src/lib.rt. Taken out are only these, and leave empty lines:
-//! - `ghost use ..;`
-//! - `requires { .. }` and `ensures { .. }`, also with a name before the brace, between a function's parameters and its body
+//! - `ghost use ..;` and `use std::marker::Model;`
+//! - `requires { .. }` and `ensures { .. }`, also with a name before the brace, between a function's parameters and its body,
+//!   or the `;` of a trait's function, which is left
+//! - `ghost NAME ..;` in a trait or an `impl`, and `ghost NAME ..,` in a struct
+//! - an `impl Model for ..`, which has only such members
 //! - `#![tactic(..)]` at the head of a file, and `#[tactic(..)]` before a function
 //! - `#[unsafe(no_mangle)]` before an entry point
 //! lib.rs is head.rs, then a module for each crate with the crates in scope that crates.txt lists for it, and a function
@@ -23,34 +26,68 @@ const HEAD: &str = include_str!("head.rs");
 const ENTRY_CRATE: &str = "blockheap_c";
 
 const NUMBERS: [&str; 6] = ["u8", "u16", "u32", "u64", "usize", "i32"];
-/// The functions of Rust's own library. None is of a usize, whose width would show.
-const FUNCTIONS: [&str; 8] = [
-    "u8::count_ones(", "u32::count_ones(", "u32::leading_zeros(", "u32::trailing_zeros(", "u64::leading_zeros(",
-    "u64::trailing_zeros(", "std::num::wrapping_add_u32(", "std::num::wrapping_sub_u32(",
+/// What Rust's own numbers have, and is the same on every host.
+const OF_NUMBERS: [&str; 3] = ["from", "max", "min"];
+/// What of a usize would show its width: only the other numbers have it here.
+const OF_FIXED: [&str; 14] = [
+    "BITS", "MAX", "checked_ilog2", "count_ones", "from_le_bytes", "leading_ones", "leading_zeros", "rotate_left", "rotate_right",
+    "to_le_bytes", "trailing_ones", "trailing_zeros", "wrapping_add", "wrapping_sub",
 ];
-/// The words of the language that may stand anywhere in a body.
-const WORDS_IN_BODIES: [&str; 12] =
-    ["continue", "else", "false", "if", "let", "loop", "match", "mut", "return", "self", "true", "while"];
+/// The functions of Rust's own library, beside those of its numbers.
+const FUNCTIONS: [&str; 4] =
+    ["std::cmp::max(", "std::cmp::min(", "std::num::wrapping_add_u32(", "std::num::wrapping_sub_u32("];
+/// The methods of Rust's own numbers, slices, options, results and iterators. None shows how wide a usize is.
+const METHODS: [&str; 33] = [
+    "all", "and_then", "any", "chunks_exact", "copy_from_slice", "copy_within", "div_ceil", "fill", "filter", "first",
+    "get", "into", "is_empty", "is_err", "is_none", "is_ok", "is_some", "iter", "iter_mut", "len", "map", "map_err", "map_or",
+    "max", "min", "ok_or", "rev", "saturating_sub", "split_at", "split_at_mut", "take_while", "unwrap_or", "zip",
+];
+/// Those that count in a usize. A call before them takes only iterators of so few items that any usize counts them.
+const COUNTING: [&str; 3] = ["count", "enumerate", "position"];
+/// The one that adds, where no sum stands in the source. It is called by another name, which sums of a usize have not.
+const SUM: &str = "sum";
+/// The names of Rust's own library that begin with a capital. Of its traits a type may be given one.
+const CAPITALS: [&str; 14] = [
+    "Clone", "Copy", "Eq", "Err", GIVEN, MODEL, "None", "Ok", "Option", "Ord", "PartialEq", "PartialOrd", "Result",
+    "Some",
+];
+const GIVEN: &str = "From";
+/// The trait of Rattle that has only ghost members.
+const MODEL: &str = "Model";
+/// The words of the language that may stand anywhere in a body, and the one that stands for no name.
+const WORDS_IN_BODIES: [&str; 17] = [
+    "Self", "_", "break", "continue", "else", "false", "for", "if", "in", "let", "loop", "match", "mut", "return", "self", "true",
+    "while",
+];
 /// The other words that are no names: they mean something in Rattle or in Rust, or are Rust's types and libraries.
-const NO_NAMES: [&str; 45] = [
-    "Self", "alloc", "as", "async", "await", "bool", "break", "char", "const", "core", "crate", "dyn", "ensures", "enum",
-    "extern", "f32", "f64", "fn", "for", "ghost", "i128", "i16", "i64", "i8", "impl", "in", "isize", "mod", "move", "pub",
-    "ref", "requires", "static", "std", "str", "struct", "super", "trait", "try", "type", "u128", "union", "unsafe", "use",
-    "where",
+const NO_NAMES: [&str; 41] = [
+    "alloc", "as", "async", "await", "bool", "char", "const", "core", "crate", "dyn", "ensures", "enum", "extern", "f32", "f64",
+    "fn", "ghost", "i128", "i16", "i64", "i8", "impl", "isize", "mod", "move", "pub", "ref", "requires", "static", "std", "str",
+    "struct", "super", "trait", "try", "type", "u128", "union", "unsafe", "use", "where",
 ];
 /// Longer signs first.
-const SIGNS: [&str; 36] = [
-    DERIVE, "\"C\"", "::", "->", "=>", "==", "!=", "<=", ">=", "<<", ">>", "+=", "-=", "..", "{", "}", "(", ")", "[", "]", ",", ";",
-    ":", ".", "=", "<", ">", "+", "-", "*", "/", "%", "&", "|", "^", "!",
+const SIGNS: [&str; 43] = [
+    "\"C\"", "..=", "::", "->", "=>", "==", "!=", "<=", ">=", "<<", ">>", "&&", "||", "+=", "-=", "&=", "|=", "^=", "..", "{", "}",
+    "(", ")", "[", "]", ",", ";", ":", ".", "=", "<", ">", "+", "-", "*", "/", "%", "&", "|", "^", "!", "?", "#[inline]",
 ];
 /// Longer signs of Rust that begin as one of these, and what begins a comment that it does not know.
-const UNKNOWN_SIGNS: [&str; 15] = ["///", "//!", "/*", "<<=", ">>=", "..=", "...", "&&", "||", "*=", "/=", "%=", "&=", "|=", "^="];
-/// What makes Rattle, and Rust, copy a struct or an enum.
-const DERIVE: &str = "#[derive(Clone, Copy)]";
-/// The signs and the word that a value may begin behind, and that are no part of it.
-const BEFORE_VALUES: [&str; 7] = ["(", "[", "{", ",", ";", "=", "return"];
-/// How ghost texts begin, and how they end outside of brackets of that kind, or of braces. A clause begins with one of two words.
-const GHOST: [(&str, char); 4] = [("ghost use ", ';'), ("#![tactic(", ']'), ("#[tactic(", ']'), (EXPORT, ']')];
+const UNKNOWN_SIGNS: [&str; 9] = ["///", "//!", "/*", "<<=", ">>=", "...", "*=", "/=", "%="];
+const INLINE: &str = "#[inline]";
+/// How an attribute begins that gives a type what Rust's own library can derive, and what that may be.
+const DERIVE: &str = "#[derive(";
+const DERIVED: [&str; 7] = ["Clone", "Copy", "Debug", "Eq", "Ord", "PartialEq", "PartialOrd"];
+/// The signs and the words that an operand of a shift or a sum may begin behind, and that are no part of it.
+const BEFORE_VALUES: [&str; 33] = [
+    "(", "[", "{", ",", ";", ":", "=", "+=", "-=", "&=", "|=", "^=", "=>", "==", "!=", "<=", ">=", "<", ">", "&&", "||", "&", "|", "^",
+    "..", "..=", "else", "if", "in", "let", "match", "return", "while",
+];
+/// The signs that close a group or part one: a closure ends before them.
+const CLOSING: [&str; 5] = [")", "]", "}", ",", ";"];
+/// How ghost texts begin, and the signs that end them outside of brackets of that kind, or of braces. A clause begins with one
+/// of two words.
+const GHOST: [(&str, &str); 6] = [
+    ("ghost ", ";,"), ("pub ghost ", ";,"), ("use std::marker::Model;", ";"), ("#![tactic(", "]"), ("#[tactic(", "]"), (EXPORT, "]"),
+];
 const CLAUSES: [&str; 2] = ["requires ", "ensures "];
 const EXPORT: &str = "#[unsafe(no_mangle)]";
 /// What might hide their end.
@@ -76,29 +113,51 @@ fn erase_project(project: &Path, out: &Path) -> Result<()> {
     // A crate of proofs has only `ghost use`, and the end.
     parsed.retain(|parser| parser.tokens.len() > parser.erased.len() + 1);
     check_methods(&parsed)?;
+    check_capitals(&parsed)?;
     let root = root(&parsed);
     for folder in ["src", "casts"] {
         let out = out.join(folder);
         let write = |name: &str, text: &str| fs::write(out.join(name), text).map_err(|e| format!("{name}: {e}"));
         let _ = fs::remove_dir_all(&out);
         fs::create_dir_all(&out).map_err(|e| format!("{}: {e}", out.display()))?;
-        write("lib.rs", &root)?;
+        let with_calls = folder == "casts";
+        write("lib.rs", &(root.clone() + &if with_calls { probes(&parsed) } else { String::new() }))?;
         for parser in &parsed {
-            write(&format!("{}.rs", parser.source.name), &parser.edited(folder == "casts"))?;
+            write(&format!("{}.rs", parser.source.name), &parser.edited(with_calls))?;
         }
     }
     println!("erased: {} crates, {} entry points", parsed.len(), parsed.iter().map(|p| p.entries.len()).sum::<usize>());
     Ok(())
 }
 
-/// A method is a function of the source, or the length of a slice: those that Rust's own numbers and slices have are not known.
+/// A method is a function of the source, or one that is listed.
 fn check_methods(crates: &[Parser]) -> Result<()> {
     let pairs = crates.iter().flat_map(|parser| parser.tokens.windows(2));
-    let known: Vec<&str> = pairs.filter(|pair| pair[0].text == "fn").map(|pair| pair[1].text).chain(["len"]).collect();
-    let is_unknown = |call: &&[Token]| call[0].text == "." && call[2].text == "(" && !known.contains(&call[1].text);
+    let own: Vec<&str> = pairs.filter(|pair| pair[0].text == "fn").map(|pair| pair[1].text).collect();
+    let is_unknown = |call: &&[Token]| {
+        let name = call[1].text;
+        call[0].text == "." && ["(", "::"].contains(&call[2].text) && !own.contains(&name) && !is_listed_method(name)
+    };
     for parser in crates {
         if let Some(call) = parser.tokens.windows(3).find(is_unknown) {
             return parser.source.refuse(call[1].from, &format!("`{}`, a method that no crate has", call[1].text));
+        }
+    }
+    Ok(())
+}
+
+fn is_listed_method(name: &str) -> bool {
+    [&METHODS[..], &OF_FIXED, &COUNTING, &[SUM]].concat().contains(&name)
+}
+
+/// A name that begins with a capital is declared in the source, or listed: Rust has more of them at hand.
+fn check_capitals(crates: &[Parser]) -> Result<()> {
+    let own: Vec<&str> = crates.iter().flat_map(|parser| parser.capitals.iter().copied()).collect();
+    let known = [&own[..], &CAPITALS, &OF_FIXED].concat();
+    let is_unknown = |token: &&Token| is_capital(token.text) && !known.contains(&token.text);
+    for parser in crates {
+        if let Some(token) = parser.tokens.iter().find(is_unknown) {
+            return parser.source.refuse(token.from, &format!("`{}`, a name that no crate declares", token.text));
         }
     }
     Ok(())
@@ -108,13 +167,31 @@ fn check_methods(crates: &[Parser]) -> Result<()> {
 fn root(crates: &[Parser]) -> String {
     let mut text = HEAD.to_string();
     for Parser { source, .. } in crates {
-        text += &format!("\nmod {} {{\n    #[cfg(casts)]\n    use crate::{{Below, Small}};\n    use crate::std;\n", source.name);
+        text += &format!("\nmod {} {{\n    #[cfg(casts)]\n    use crate::widths::*;\n    use crate::std;\n", source.name);
         for other in crates.iter().filter(|other| source.needs.contains(&other.source.name)) {
             text += &format!("    use crate::{};\n", other.source.name);
         }
         text += &format!("    include!(\"{}.rs\");\n}}\n", source.name);
     }
     text + &crates.iter().flat_map(|parser| parser.entries.clone()).collect::<String>()
+}
+
+/// For each trait of the source that one of Rust's own types is given, a module that compiles only if that type has no
+/// function of such a name already: Rust would call that one.
+fn probes(crates: &[Parser]) -> String {
+    let mut text = String::new();
+    for (name, kind) in crates.iter().flat_map(|parser| &parser.given) {
+        let is_it = |made: &&Trait| made.name == *name;
+        let functions = crates.iter().flat_map(|parser| &parser.traits).find(is_it).map_or(&[][..], |made| &made.functions);
+        let (mut own, mut calls) = (String::new(), String::new());
+        for function in functions {
+            own += &format!(" fn {function}() -> Own {{ Own }}");
+            calls += &format!(" let _: Own = <{kind}>::{function}();");
+        }
+        text += &format!("\nmod {name}_of_{kind} {{\n    struct Own;\n    trait Probe {{{own} }}\n    impl Probe for {kind} {{}}\n");
+        text += &format!("    fn probe() {{{calls} }}\n}}\n");
+    }
+    text
 }
 
 // ---- The crates
@@ -178,6 +255,10 @@ fn is_name(text: &str) -> bool {
     is_word && ![&WORDS_IN_BODIES[..], &NO_NAMES, &NUMBERS].concat().contains(&text)
 }
 
+fn is_capital(text: &str) -> bool {
+    is_name(text) && text.starts_with(char::is_uppercase)
+}
+
 fn is_number(text: &str) -> bool {
     let is_hexadecimal = |digits: &str| digits.chars().all(|c| c.is_ascii_hexdigit());
     !text.is_empty() && text.chars().all(|c| c.is_ascii_digit()) || text.strip_prefix("0x").is_some_and(is_hexadecimal)
@@ -232,6 +313,9 @@ impl Crate {
         if let Some(last) = ghost_last(rest) {
             return self.ghost_length(at, last);
         }
+        if let Some(length) = derive_length(rest) {
+            return Ok(length);
+        }
         let label = rest.strip_prefix('\'').map_or(0, word_length);
         match word_length(rest) {
             0 if label > 0 => Ok(1 + label),
@@ -240,8 +324,8 @@ impl Crate {
         }
     }
 
-    /// Ghost text has its lines to itself.
-    fn ghost_length(&self, at: usize, last: char) -> Result<usize> {
+    /// Ghost text has its lines to itself, but for the `;` of a trait's function behind a clause.
+    fn ghost_length(&self, at: usize, last: &str) -> Result<usize> {
         let rest = &self.text[at..];
         let Some(end) = ghost_end(rest, last) else {
             return self.refuse(at, "ghost text without an end");
@@ -251,6 +335,7 @@ impl Crate {
             return self.refuse(at + place, &format!("`{}` in ghost text", hiding.escape_default()));
         }
         let before = self.text[..at].trim_end_matches(' ');
+        let behind = behind.strip_prefix(';').filter(|_| is_clause(text)).unwrap_or(behind);
         if !(before.is_empty() || before.ends_with('\n')) || !(behind.is_empty() || behind.starts_with('\n')) {
             return self.refuse(at, "ghost text on a line with other text");
         }
@@ -269,27 +354,47 @@ impl Crate {
     }
 }
 
-/// How the ghost text ends that the text begins with, if it begins with one.
-fn ghost_last(text: &str) -> Option<char> {
+/// The signs of which the first ends the ghost text that the text begins with, if it begins with one.
+fn ghost_last(text: &str) -> Option<&'static str> {
     let clause = CLAUSES.iter().find_map(|word| text.strip_prefix(word));
     let behind_name = |rest: &str| rest[word_length(rest)..].strip_prefix(' ').unwrap_or(rest).starts_with('{');
     if clause.is_some_and(behind_name) {
-        return Some('}');
+        return Some("}");
     }
     GHOST.iter().find(|(beginning, _)| text.starts_with(beginning)).map(|(_, last)| *last)
 }
 
-fn ghost_end(text: &str, last: char) -> Option<usize> {
-    let (open, close) = if last == ']' { ('[', ']') } else { ('{', '}') };
+fn ghost_end(text: &str, last: &str) -> Option<usize> {
+    let (open, close) = if last == "]" { ('[', ']') } else { ('{', '}') };
     let mut depth = 0;
     text.char_indices().find_map(|(i, c)| {
         depth += i32::from(c == open) - i32::from(c == close);
-        (c == last && depth == 0).then_some(i)
+        (last.contains(c) && depth == 0).then_some(i)
     })
 }
 
 fn is_clause(text: &str) -> bool {
-    ghost_last(text) == Some('}')
+    ghost_last(text) == Some("}")
+}
+
+fn is_ghost_use(text: &str) -> bool {
+    text.starts_with("ghost use ") || text.starts_with("use ")
+}
+
+/// Whether it is `ghost NAME`, with a type or a value in braces or both, up to the sign that ends a member or a field.
+fn is_ghost_member(text: &str, last: char) -> bool {
+    let Some(rest) = text.strip_prefix("ghost ") else { return false };
+    let rest = &rest[word_length(rest)..];
+    let is_braced = rest.strip_suffix(last).is_some_and(|rest| rest.ends_with('}'));
+    is_braced && (rest.starts_with(": {") || rest.starts_with(" = {"))
+}
+
+/// The length of the attribute that the text begins with, if that derives only what is listed.
+fn derive_length(text: &str) -> Option<usize> {
+    let list = text.strip_prefix(DERIVE)?.split(')').next()?;
+    let length = DERIVE.len() + list.len() + ")]".len();
+    let is_whole = text.get(..length).is_some_and(|text| text.ends_with(")]"));
+    (is_whole && list.split(", ").all(|name| DERIVED.contains(&name))).then_some(length)
 }
 
 // ---- Items
@@ -302,17 +407,31 @@ struct Parser<'a> {
     tokens: Vec<Token<'a>>,
     at: usize,
     erased: Vec<Edit>,
-    /// The casts to usize as calls, and calls around what is shifted to the left or inverted.
+    /// The casts to usize as calls, and calls around or behind what may show how wide a usize is.
     calls: Vec<Edit>,
     /// The functions for C.
     entries: Vec<String>,
+    /// The names that begin with a capital and are declared here.
+    capitals: Vec<&'a str>,
+    traits: Vec<Trait<'a>>,
+    /// The traits that Rust's own types are given, each with the type.
+    given: Vec<(&'a str, &'a str)>,
+    /// The closures that are open, by their depth.
+    closures: Vec<usize>,
+}
+
+/// A trait, and the names of its functions.
+struct Trait<'a> {
+    name: &'a str,
+    functions: Vec<&'a str>,
 }
 
 impl<'a> Parser<'a> {
     /// The whole source, parsed.
     fn of(source: &'a Crate) -> Result<Parser<'a>> {
         let (tokens, erased, calls, entries) = (source.tokens()?, vec![], vec![], vec![]);
-        let mut parser = Parser { source, tokens, at: 0, erased, calls, entries };
+        let (capitals, traits, given, closures) = (vec![], vec![], vec![], vec![]);
+        let mut parser = Parser { source, tokens, at: 0, erased, calls, entries, capitals, traits, given, closures };
         while !parser.text().is_empty() {
             parser.item()?;
         }
@@ -339,15 +458,44 @@ impl<'a> Parser<'a> {
         found
     }
 
+    /// Accepts a sign, also as the first of two that are written as one, as in `&&` or `>>`.
+    fn accept_half(&mut self, sign: &str) -> bool {
+        let token = &mut self.tokens[self.at];
+        if token.text == sign.repeat(2) {
+            (token.text, token.from) = (&token.text[sign.len()..], token.from + sign.len());
+            return true;
+        }
+        self.accept(sign)
+    }
+
+    fn accept_lifetime(&mut self) -> bool {
+        let found = self.text().starts_with('\'');
+        self.at += usize::from(found);
+        found
+    }
+
+    /// What is listed up to a closing sign, between commas.
+    fn list(&mut self, close: &str, one: fn(&mut Self) -> Result<()>) -> Result<()> {
+        while !self.accept_half(close) {
+            one(self)?;
+            if !self.accept(",") && self.text() != close && self.text() != close.repeat(2) {
+                return self.refuse(&format!("where only `,` or `{close}` is known"));
+            }
+        }
+        Ok(())
+    }
+
     /// Tokens in a row: each word of the form is a token, or in capitals a kind of token.
     fn form(&mut self, form: &str) -> Result<()> {
         for part in form.split(' ') {
             let text = self.text();
             let known = match part {
                 "NAME" => is_name(text),
+                "CAPITAL" => is_capital(text),
                 "DIGITS" => is_number(text),
+                "SIZE" => is_number(text) || is_name(text),
                 "NUMBER" => NUMBERS.contains(&text),
-                "TYPE" => text == "bool" || NUMBERS.contains(&text) || is_name(text) && text.starts_with(char::is_uppercase),
+                "TYPE" => ["bool", "Self"].contains(&text) || NUMBERS.contains(&text) || is_capital(text),
                 _ => text == part,
             };
             if !known {
@@ -359,42 +507,71 @@ impl<'a> Parser<'a> {
     }
 
     fn erase(&mut self) {
-        let token = self.tokens[self.at];
-        let from = self.source.text[..token.from].trim_end_matches(' ').len();
-        self.erased.push((from, token.to, line_ends(token.text)));
         self.at += 1;
+        self.erase_from(self.at - 1);
     }
 
-    /// An item, or the beginning or the end of an `impl`, whose functions are read as items.
+    /// Erases the tokens from the first to before this one, and the blanks before them.
+    fn erase_from(&mut self, first: usize) {
+        let to = self.tokens[self.at - 1].to;
+        let from = self.source.text[..self.tokens[first].from].trim_end_matches(' ').len();
+        self.erased.push((from, to, line_ends(&self.source.text[from..to])));
+    }
+
+    /// A name that the source gives to what it declares. One of Rust's own that is listed keeps its meaning.
+    fn declare(&mut self) -> Result<&'a str> {
+        if CAPITALS.contains(&self.text()) {
+            return self.refuse("a name of Rust's own");
+        }
+        self.form("CAPITAL")?;
+        self.capitals.push(self.before());
+        Ok(self.before())
+    }
+
     fn item(&mut self) -> Result<()> {
-        if self.text().starts_with("ghost use ") || self.at == 0 && self.text().starts_with("#![tactic(") {
+        if is_ghost_use(self.text()) || self.at == 0 && self.text().starts_with("#![tactic(") {
             self.erase();
             return Ok(());
         }
-        let is_function = self.text().starts_with("#[tactic(");
-        if is_function {
-            self.erase();
-        }
-        let is_type = !is_function && self.accept(DERIVE);
+        let is_type = self.text().starts_with(DERIVE);
+        self.at += usize::from(is_type);
+        let is_function = !is_type && self.function_attributes();
         if self.text() == EXPORT && !is_type && self.source.name == ENTRY_CRATE {
             return self.entry();
         }
         let is_public = self.accept("pub");
         match self.text() {
             "fn" if !is_type => self.function(),
-            "struct" | "enum" if !is_function => self.named_type(),
+            "struct" if !is_function => self.structure(),
+            "enum" if !is_function => self.enumeration(),
             _ if is_function || is_type => self.refuse("which begins no item that may stand behind the attribute"),
             "use" if !is_public => self.import(),
-            "impl" if !is_public => self.form("impl NAME {"),
-            "}" if !is_public => self.form("}"),
-            "const" => self.form("const NAME : NUMBER = DIGITS ;"),
+            "trait" => self.declared_trait(),
+            "impl" if !is_public => self.implementation(),
+            "const" => self.constant(),
             _ => self.refuse("which begins no item that it knows"),
         }
     }
 
-    /// One name of a crate, or a list.
+    /// What stands before a function: what is asked of the prover, and a hint to the compiler. Whether there is some.
+    fn function_attributes(&mut self) -> bool {
+        let first = self.at;
+        loop {
+            if self.text().starts_with("#[tactic(") {
+                self.erase();
+            } else if !self.accept(INLINE) {
+                return self.at > first;
+            }
+        }
+    }
+
+    /// One name of a crate, or a list. Of Rust's library it may be what head.rs has of `cmp`.
     fn import(&mut self) -> Result<()> {
-        self.form("use NAME ::")?;
+        self.form("use")?;
+        if is_capital(self.text()) {
+            return self.refuse("which is no crate");
+        }
+        self.form(if self.text() == "std" { "std :: cmp ::" } else { "NAME ::" })?;
         if self.accept("{") {
             self.form("NAME")?;
             while self.accept(",") {
@@ -405,50 +582,276 @@ impl<'a> Parser<'a> {
         self.form("NAME ;")
     }
 
-    fn named_type(&mut self) -> Result<()> {
-        self.at += 1;
-        self.form("NAME")?;
-        if self.text() == "(" {
-            return self.form("( TYPE ) ;");
+    fn constant(&mut self) -> Result<()> {
+        self.form("const")?;
+        self.declare()?;
+        self.form(":")?;
+        self.kind()?;
+        self.form("=")?;
+        self.up_to(";")
+    }
+
+    // ---- Types
+
+    fn kind(&mut self) -> Result<()> {
+        if self.accept_half("&") {
+            self.accept_lifetime();
+            self.accept("mut");
+            return self.kind();
         }
-        self.form("{")?;
-        while !self.accept("}") {
-            self.accept("pub");
-            self.form("NAME")?;
-            match self.text() {
-                ":" => self.form(": TYPE ,")?,
-                "(" => self.form("( TYPE ) ,")?,
-                _ => self.form(",")?,
+        if self.accept("(") {
+            return self.list(")", Self::kind);
+        }
+        if self.accept("[") {
+            self.kind()?;
+            return self.form(if self.text() == ";" { "; SIZE ]" } else { "]" });
+        }
+        self.form("TYPE")?;
+        self.arguments()
+    }
+
+    /// What a generic type or function is given, if anything.
+    fn arguments(&mut self) -> Result<()> {
+        if !self.accept("<") {
+            return Ok(());
+        }
+        self.list(">", |parser| match parser.text() {
+            size if is_number(size) => parser.form("DIGITS"),
+            _ if parser.accept_lifetime() => Ok(()),
+            _ => parser.kind(),
+        })
+    }
+
+    /// The parameters of a generic item, if it has some.
+    fn generics(&mut self) -> Result<()> {
+        if !self.accept("<") {
+            return Ok(());
+        }
+        self.list(">", |parser| {
+            if parser.accept_lifetime() {
+                return Ok(());
+            }
+            if parser.accept("const") {
+                parser.declare()?;
+                return parser.form(": NUMBER");
+            }
+            parser.declare()?;
+            parser.bounds()
+        })
+    }
+
+    /// The traits that a type must have, if any.
+    fn bounds(&mut self) -> Result<()> {
+        if self.accept(":") {
+            self.kind()?;
+            while self.accept("+") {
+                self.kind()?;
             }
         }
         Ok(())
     }
 
-    fn function(&mut self) -> Result<()> {
-        self.form("fn NAME (")?;
-        if self.accept("self") {
-            self.accept(",");
+    fn structure(&mut self) -> Result<()> {
+        self.form("struct")?;
+        self.declare()?;
+        self.generics()?;
+        if self.accept("(") {
+            self.list(")", |parser| {
+                parser.accept("pub");
+                parser.kind()
+            })?;
+            return self.form(";");
         }
+        self.form("{")?;
+        self.fields()
+    }
+
+    /// The fields of a struct or a variant, to the brace behind them.
+    fn fields(&mut self) -> Result<()> {
+        while !self.accept("}") {
+            if is_ghost_member(self.text().trim_start_matches("pub "), ',') {
+                self.erase();
+                continue;
+            }
+            self.accept("pub");
+            self.form("NAME :")?;
+            self.kind()?;
+            self.form(",")?;
+        }
+        Ok(())
+    }
+
+    /// Where variants have numbers, these rise: so both languages order them alike.
+    fn enumeration(&mut self) -> Result<()> {
+        self.form("enum")?;
+        self.declare()?;
+        self.generics()?;
+        self.form("{")?;
+        let mut least = 0;
+        while !self.accept("}") {
+            self.form("CAPITAL")?;
+            self.capitals.push(self.before());
+            if self.accept("(") {
+                self.list(")", Self::kind)?;
+            } else if self.accept("{") {
+                self.fields()?;
+            } else if self.accept("=") {
+                match self.text().parse::<u32>() {
+                    Ok(number) if number >= least => least = number,
+                    _ => return self.refuse("where only a number that is above the last is known"),
+                }
+                self.at += 1;
+            }
+            least += 1;
+            self.form(",")?;
+        }
+        Ok(())
+    }
+
+    // ---- Traits
+
+    fn declared_trait(&mut self) -> Result<()> {
+        self.form("trait")?;
+        let mut made = Trait { name: self.declare()?, functions: Vec::new() };
+        self.bounds()?;
+        self.form("{")?;
+        while !self.accept("}") {
+            if self.ghost_member() {
+                continue;
+            }
+            let is_function = self.function_attributes();
+            if self.text() == "const" && !is_function {
+                self.form("const")?;
+                self.declare()?;
+                self.form(":")?;
+                self.kind()?;
+                self.form(";")?;
+                continue;
+            }
+            made.functions.push(self.signature()?);
+            if !self.accept(";") {
+                self.body()?;
+            }
+        }
+        self.traits.push(made);
+        Ok(())
+    }
+
+    /// The functions of a type, or a trait that it is given.
+    fn implementation(&mut self) -> Result<()> {
+        let first = self.at;
+        self.form("impl")?;
+        self.generics()?;
+        let name = self.text();
+        self.kind()?;
+        let is_given = self.accept("for");
+        if is_given {
+            self.given(name)?;
+        }
+        self.form("{")?;
+        if is_given && name == MODEL {
+            return self.model(first);
+        }
+        while !self.accept("}") {
+            self.member()?;
+        }
+        Ok(())
+    }
+
+    /// The type that is given a trait: one of the source, or a number, where the trait is the source's too.
+    fn given(&mut self, name: &'a str) -> Result<()> {
+        let kind = self.text();
+        if name == GIVEN {
+            return self.kind();
+        }
+        if CAPITALS.contains(&kind) || CAPITALS.contains(&name) && name != MODEL {
+            return self.refuse(&format!("which is given `{name}`"));
+        }
+        self.form("TYPE")?;
+        if !is_capital(kind) {
+            self.given.push((name, kind));
+        }
+        self.arguments()
+    }
+
+    /// The rest of an `impl Model`, which has only ghost members and is erased whole.
+    fn model(&mut self, first: usize) -> Result<()> {
+        self.erase_from(first);
+        while self.text() != "}" {
+            if !self.ghost_member() {
+                return self.refuse("where only ghost members are known");
+            }
+        }
+        self.erase();
+        Ok(())
+    }
+
+    fn member(&mut self) -> Result<()> {
+        if self.ghost_member() {
+            return Ok(());
+        }
+        let is_function = self.function_attributes();
+        self.accept("pub");
+        match self.text() {
+            "const" if !is_function => self.constant(),
+            _ => self.function(),
+        }
+    }
+
+    /// Erases a ghost member, or a `ghost use`, if there is one.
+    fn ghost_member(&mut self) -> bool {
+        let found = is_ghost_use(self.text()) || is_ghost_member(self.text(), ';');
+        if found {
+            self.erase();
+        }
+        found
+    }
+
+    // ---- Functions
+
+    fn function(&mut self) -> Result<()> {
+        self.signature()?;
+        self.body()
+    }
+
+    /// All of a function before its body, and its name.
+    fn signature(&mut self) -> Result<&'a str> {
+        self.form("fn NAME")?;
+        let name = self.before();
+        self.generics()?;
+        self.form("(")?;
+        self.receiver();
         while !self.accept(")") {
             self.parameter()?;
         }
         if self.accept("->") {
-            self.form("TYPE")?;
+            self.kind()?;
         }
-        self.clauses_and_body()
+        self.clauses();
+        Ok(name)
+    }
+
+    /// `self` in one of its forms, if it is there.
+    fn receiver(&mut self) {
+        let first = self.at;
+        if self.accept("&") {
+            self.accept_lifetime();
+        }
+        self.accept("mut");
+        if self.accept("self") {
+            self.accept(",");
+        } else {
+            self.at = first;
+        }
     }
 
     /// Its name and its type.
     fn parameter(&mut self) -> Result<(&'a str, &'a str)> {
+        self.accept("mut");
         self.form("NAME :")?;
         let name = self.tokens[self.at - 2].text;
         let first = self.at;
-        if self.accept("&") {
-            self.accept("mut");
-            self.form(if self.text() == "[" { "[ NUMBER ]" } else { "NUMBER" })?;
-        } else {
-            self.form("TYPE")?;
-        }
+        self.kind()?;
         let kind = &self.source.text[self.tokens[first].from..self.tokens[self.at - 1].to];
         self.accept(",");
         Ok((name, kind))
@@ -483,85 +886,197 @@ impl<'a> Parser<'a> {
             taken.join(", "),
             given.join(", ")
         ));
-        self.clauses_and_body()
+        self.clauses();
+        self.body()
     }
 
     // ---- Bodies
 
-    fn clauses_and_body(&mut self) -> Result<()> {
+    fn clauses(&mut self) {
         while is_clause(self.text()) {
             self.erase();
         }
+    }
+
+    fn body(&mut self) -> Result<()> {
         self.form("{")?;
+        self.up_to("}")
+    }
+
+    /// What stands up to the sign that ends it, and that sign.
+    fn up_to(&mut self, end: &str) -> Result<()> {
         let depth = self.tokens[self.at - 1].depth;
-        while self.text() != "}" || self.tokens[self.at].depth > depth {
+        while self.text() != end || self.tokens[self.at].depth > depth {
             self.in_body()?;
         }
-        self.form("}")
+        self.closures.clear();
+        self.form(end)
     }
 
     /// Takes a token of a body, or a few.
     fn in_body(&mut self) -> Result<()> {
-        let (before, text) = (self.before(), self.text());
+        let (before, text, depth) = (self.before(), self.text(), self.tokens[self.at].depth);
         let next = self.tokens.get(self.at + 1).map_or("", |token| token.text);
         let rest = &self.source.text[self.tokens[self.at].from..];
-        let follows_value = is_name(before) || is_number(before) || [")", "]"].contains(&before);
+        let follows_value = is_value_end(before);
+        if CLOSING.contains(&text) {
+            self.closures.retain(|closure| *closure < depth);
+        }
         match text {
             "as" => return self.cast(),
-            ":" if ["let", "mut"].contains(&self.tokens[self.at - 2].text) => return self.form(": NUMBER"),
-            "<<" => self.shifted(),
+            ":" if ["let", "mut"].contains(&self.tokens[self.at - 2].text) => {
+                self.at += 1;
+                return self.kind();
+            }
+            "::" if is_name(before) && next == "<" => {
+                self.at += 1;
+                self.arguments()?;
+                self.accept("::");
+                return Ok(());
+            }
+            "|" if !follows_value => return self.closure(),
+            "<<" | ">>" => self.hold(self.operand(), self.at),
+            "+" | "*" if follows_value && !self.closures.is_empty() => self.hold(self.operand(), self.at),
+            "+=" if !self.closures.is_empty() => self.refuse("in a closure"),
+            "." => self.method(next),
+            "!" if before == "matches" && next == "(" => Ok(()),
             "!" if is_name(before) => self.refuse("a macro"),
             "!" => self.inverted(),
-            "|" | ".." if !follows_value => self.refuse("which it does not know without a value before it"),
+            "&&" | "||" | "?" if !follows_value => self.refuse("which it does not know without a value before it"),
+            ".." | "..=" => self.range(follows_value, next),
             "::" if word_length(before) == 0 || word_length(next) == 0 => self.refuse("which is not between two words"),
             _ if FUNCTIONS.iter().any(|function| rest.starts_with(function)) => Ok(()),
-            _ if is_number(text) && next == "." => self.refuse("a number with a point"),
-            _ if text.starts_with('\'') && (before == "continue" || next == ":") => Ok(()),
+            _ if NUMBERS.contains(&text) && next == "::" => self.number_function(),
+            _ if is_number(text) && next == "." && before != "." => self.refuse("a number with a point"),
+            _ if text.starts_with('\'') && (["break", "continue"].contains(&before) || next == ":") => Ok(()),
             _ if is_name(text) || is_number(text) || WORDS_IN_BODIES.contains(&text) => Ok(()),
-            _ if SIGNS.contains(&text) && !["->", "\"C\"", DERIVE].contains(&text) => Ok(()),
+            _ if SIGNS.contains(&text) && !["->", "\"C\"", INLINE].contains(&text) => Ok(()),
             _ => self.refuse("which it does not know in a body"),
         }?;
         self.at += 1;
         Ok(())
     }
 
-    /// VALUE as NUMBER. A cast to usize is exact if the number is compared with one just before: if NAME < LIMIT as u64 { NAME as usize,
-    /// where only names of functions may stand before the cast.
-    fn cast(&mut self) -> Result<()> {
-        let (from, value) = (self.tokens[self.at - 1].to, self.before());
-        let is_function = |token: &Token| is_name(token.text) || ["::", "("].contains(&token.text);
-        let begin = self.tokens[..self.at].iter().rposition(|token| !is_function(token)).map_or(0, |i| i + 1);
-        let words: Vec<&str> = self.tokens[begin.saturating_sub(7)..begin].iter().map(|token| token.text).collect();
-        let call = match words[..] {
-            ["if", name, "<", limit, "as", "u64", "{"] if name == value && is_name(limit) => format!(".below({limit})"),
-            _ => ".small()".to_string(),
-        };
-        self.form("as NUMBER")?;
-        if self.before() == "usize" {
-            let to = self.tokens[self.at - 1].to;
-            self.calls.push((from, to, call + &line_ends(&self.source.text[from..to])));
+    /// What one of Rust's own numbers has, by its name.
+    fn number_function(&self) -> Result<()> {
+        let name = self.tokens[self.at + 2].text;
+        if OF_NUMBERS.contains(&name) || self.text() != "usize" && OF_FIXED.contains(&name) {
+            return Ok(());
+        }
+        self.refuse(&format!("of which it does not know `{name}`"))
+    }
+
+    /// A method that may show how wide a usize is has a call before it, or another name.
+    fn method(&mut self, name: &str) -> Result<()> {
+        let (from, to) = (self.tokens[self.at].from, self.tokens[self.at + 1].to);
+        if !["(", "::"].contains(&self.tokens[self.at + 2].text) {
+            return Ok(());
+        }
+        if OF_FIXED.contains(&name) {
+            self.calls.push((from, from, ".fixed()".to_string()));
+        } else if COUNTING.contains(&name) {
+            self.calls.push((from, from, ".short()".to_string()));
+        } else if name == SUM {
+            self.calls.push((from, to, ".fixed_sum".to_string()));
         }
         Ok(())
     }
 
-    /// The left side of `<<`. With more than what is shifted, as in `a | b << 1`, it has the same type or does not compile.
-    fn shifted(&mut self) -> Result<()> {
+    /// A range has both of its ends, but where it is an index, or stands in a pattern for the rest: one without an end may
+    /// stop elsewhere in Rust than in Rattle.
+    fn range(&self, follows_value: bool, next: &str) -> Result<()> {
+        let has_end = !CLOSING.contains(&next) && !["{", "=>"].contains(&next);
+        let known = match (follows_value, has_end) {
+            (true, true) => true,
+            (true, false) => next == "]",
+            (false, true) => ["[", "("].contains(&self.before()),
+            (false, false) => next != ";",
+        };
+        if !known {
+            return self.refuse("which it does not know without a value on each side");
+        }
+        Ok(())
+    }
+
+    /// The parameters of a closure. What follows up to the end of the group or the part is in it.
+    fn closure(&mut self) -> Result<()> {
+        self.closures.push(self.tokens[self.at].depth);
+        self.at += 1;
+        while !self.accept("|") {
+            match self.text() {
+                ":" => {
+                    self.at += 1;
+                    self.kind()?;
+                }
+                text if is_name(text) || ["_", "&", "&&", "mut", "(", ")", ","].contains(&text) => self.at += 1,
+                _ => return self.refuse("which it does not know in the parameters of a closure"),
+            }
+        }
+        Ok(())
+    }
+
+    /// VALUE as NUMBER. A cast to usize is exact if the number is compared with one just before: if NAME < LIMIT as u64 { NAME as usize,
+    /// where only names of functions may stand before the cast.
+    fn cast(&mut self) -> Result<()> {
+        let (end, value) = (self.tokens[self.at - 1].to, self.before());
+        let is_function = |token: &Token| is_name(token.text) || ["::", "("].contains(&token.text);
+        let begin = self.tokens[..self.at].iter().rposition(|token| !is_function(token)).map_or(0, |i| i + 1);
+        let words: Vec<&str> = self.tokens[begin.saturating_sub(7)..begin].iter().map(|token| token.text).collect();
+        let call = match words[..] {
+            ["if", name, "<", limit, "as", "u64", "{"] if name == value && is_name(limit) => format!(").below({limit})"),
+            _ => ").small()".to_string(),
+        };
+        let from = self.tokens[self.value()].from;
+        self.form("as NUMBER")?;
+        if self.before() == "usize" {
+            let to = self.tokens[self.at - 1].to;
+            self.calls.push((from, from, "(".to_string()));
+            self.calls.push((end, to, call + &line_ends(&self.source.text[end..to])));
+        }
+        Ok(())
+    }
+
+    /// Where the value begins that a cast is of: what a method would be called on, and the signs before it.
+    fn value(&self) -> usize {
         let depth = self.tokens[self.at].depth;
-        let begins_behind = |token: &Token| token.depth == depth && BEFORE_VALUES.contains(&token.text);
-        let first = self.tokens[..self.at].iter().rposition(begins_behind).map_or(0, |i| i + 1);
-        self.hold(first, self.at)
+        let goes_on = |token: &Token| match token.depth - depth {
+            0 => is_value_end(token.text) || [".", "::"].contains(&token.text),
+            1 => !["{", "}"].contains(&token.text),
+            _ => true,
+        };
+        let mut first = self.tokens[..self.at].iter().rposition(|token| !goes_on(token)).map_or(0, |i| i + 1);
+        while ["*", "-", "!"].contains(&self.tokens[first - 1].text) && !is_value_end(self.tokens[first - 2].text) {
+            first -= 1;
+        }
+        first
+    }
+
+    /// Where the left side of a shift or a sum begins. With more than that, as in `a * b + c`, it has the same type or does not compile.
+    fn operand(&self) -> usize {
+        let depth = self.tokens[self.at].depth;
+        let begins_behind = |token: &Token| {
+            token.depth == depth && BEFORE_VALUES.contains(&token.text) || token.depth == depth + 1 && token.text == "}"
+        };
+        self.tokens[..self.at].iter().rposition(begins_behind).map_or(0, |i| i + 1)
     }
 
     /// What stands behind `!`: a name with its fields, functions, arguments and indices, or a value in brackets.
     fn inverted(&mut self) -> Result<()> {
         let depth = self.tokens[self.at].depth;
-        let goes_on = |token: &&Token| match token.depth - depth {
-            0 => is_name(token.text) || is_number(token.text) || ["self", ".", "::"].contains(&token.text),
-            1 => token.text != "{",
+        let goes_on = |pair: &&[Token]| match pair[1].depth - depth {
+            0 => {
+                is_name(pair[1].text)
+                    || is_number(pair[1].text)
+                    || ["self", "Self", ".", "::", "?"].contains(&pair[1].text)
+                    || NUMBERS.contains(&pair[1].text)
+                    || pair[1].text == "*" && ["!", "*"].contains(&pair[0].text)
+                    || pair[0].text == "matches"
+            }
+            1 => pair[1].text != "{",
             _ => true,
         };
         let first = self.at + 1;
-        let count = self.tokens[first..].iter().take_while(goes_on).count();
+        let count = self.tokens[self.at..].windows(2).take_while(goes_on).count();
         self.hold(first, first + count)
     }
 
@@ -590,6 +1105,11 @@ impl<'a> Parser<'a> {
         }
         out + &self.source.text[at..]
     }
+}
+
+/// Whether a value may end with such a token.
+fn is_value_end(text: &str) -> bool {
+    is_name(text) || is_number(text) || NUMBERS.contains(&text) || ["self", "Self", "true", "false", ")", "]", "?"].contains(&text)
 }
 
 fn line_ends(text: &str) -> String {

@@ -2,7 +2,7 @@
 // Nothing is proved of what a compiler makes of it.
 #![no_std]
 #![allow(dead_code, improper_ctypes_definitions, unused_imports, unused_variables)]
-#![cfg_attr(casts, allow(unused_parens))]
+#![cfg_attr(casts, allow(non_snake_case, unused_parens))]
 
 // The proved bounds keep every usize below 2^32.
 const _: () = assert!(usize::BITS >= 32);
@@ -10,10 +10,15 @@ const _: () = assert!(usize::BITS >= 32);
 use core::slice::{from_raw_parts, from_raw_parts_mut};
 
 // With `--cfg casts`, casts to usize are calls of `small`, which only the numbers have that any usize holds, or of `below`, for a
-// number that was compared with a usize just before. And what is shifted to the left or inverted goes through `fixed`, which
-// takes only what has the same width on every host.
+// number that was compared with a usize just before. What is shifted or inverted, and what is added or multiplied in a closure,
+// goes through `fixed`, which takes only what has the same width on every host; so does what `fixed_sum` adds. And what
+// counts items in a usize is called behind `short`, which only the iterators have that come to an end where every usize can count.
 #[cfg(casts)]
 mod widths {
+    use core::iter::{Enumerate, Filter, Map, Rev, TakeWhile, Zip};
+    use core::ops::{Range, RangeInclusive};
+    use core::slice::{ChunksExact, Iter, IterMut};
+
     pub trait Small: Into<u32> {
         fn small(self) -> usize {
             self.into() as usize
@@ -32,7 +37,11 @@ mod widths {
 
     impl Below for u64 {}
 
-    pub trait Fixed {}
+    pub trait Fixed: Sized {
+        fn fixed(self) -> Self {
+            self
+        }
+    }
 
     impl Fixed for bool {}
     impl Fixed for u8 {}
@@ -40,12 +49,42 @@ mod widths {
     impl Fixed for u32 {}
     impl Fixed for u64 {}
 
-    pub fn fixed<T: Fixed>(value: T) -> T {
+    pub const fn fixed<T: Fixed>(value: T) -> T {
         value
     }
+
+    pub trait Sums: Iterator + Sized {
+        fn fixed_sum<T: Fixed + core::iter::Sum<Self::Item>>(self) -> T {
+            self.sum()
+        }
+    }
+
+    impl<I: Iterator> Sums for I {}
+
+    pub trait Short: Iterator + Sized {
+        fn short(self) -> Self {
+            self
+        }
+    }
+
+    impl<T> Short for Iter<'_, T> {}
+    impl<T> Short for IterMut<'_, T> {}
+    impl<T> Short for ChunksExact<'_, T> {}
+    impl Short for Range<u8> {}
+    impl Short for Range<u16> {}
+    impl Short for Range<u32> {}
+    impl Short for Range<usize> {}
+    impl Short for RangeInclusive<u8> {}
+    impl Short for RangeInclusive<u16> {}
+    impl<I: Short + DoubleEndedIterator> Short for Rev<I> {}
+    impl<I: Short> Short for Enumerate<I> {}
+    impl<I: Short, J: Iterator> Short for Zip<I, J> {}
+    impl<I: Short, T, F: FnMut(I::Item) -> T> Short for Map<I, F> {}
+    impl<I: Short, F: FnMut(&I::Item) -> bool> Short for Filter<I, F> {}
+    impl<I: Short, F: FnMut(&I::Item) -> bool> Short for TakeWhile<I, F> {}
 }
 #[cfg(casts)]
-use widths::{fixed, Below, Small};
+use widths::fixed;
 
 // What a failed check does: an instruction that no processor runs, or else a loop without an end.
 #[cfg(not(unchecked))]
@@ -77,6 +116,10 @@ fn never(_: &core::panic::PanicInfo) -> ! {
 }
 
 mod std {
+    pub mod cmp {
+        pub use core::cmp::{max, min};
+    }
+
     pub mod num {
         pub fn wrapping_add_u32(a: u32, b: u32) -> u32 {
             a.wrapping_add(b)
