@@ -983,13 +983,14 @@ impl<'a> Parser<'a> {
     }
 
     /// A range has both of its ends, but where it is an index, or stands in a pattern for the rest: one without an end may
-    /// stop elsewhere in Rust than in Rattle.
+    /// stop elsewhere in Rust than in Rattle. The rest of a struct may also be that of a name.
     fn range(&self, follows_value: bool, next: &str) -> Result<()> {
         let has_end = !CLOSING.contains(&next) && !["{", "=>"].contains(&next);
+        let is_rest = self.before() == "," && (is_name(next) || next == "self") && self.tokens[self.at + 2].text == "}";
         let known = match (follows_value, has_end) {
             (true, true) => true,
             (true, false) => next == "]",
-            (false, true) => ["[", "("].contains(&self.before()),
+            (false, true) => ["[", "("].contains(&self.before()) || is_rest,
             (false, false) => next != ";",
         };
         if !known {
