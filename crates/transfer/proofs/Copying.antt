@@ -43,10 +43,6 @@ pub record Remains (image₀ : List ℕ) (at : ℕ) (all image : List ℕ) (to :
 pub record Splits (rest part others : List ℕ) : Type 0 where
   pub is : rest ≡ part ++ others
 
--- at first it is all
-pub remains_all : (image : List ℕ) (at : ℕ) (all : List ℕ) → Remains image at all image at all
-remains_all image at all = record { long = refl; end = refl; same = refl }
-
 module _ {image₀ : List ℕ} {at : ℕ} {all image : List ℕ} {to : ℕ} {rest : List ℕ} (r : Remains image₀ at all image to rest) where
   -- all is stored
   pub remains_none : rest ≡ [] → (image ≡ sets image₀ at all) × (to ≡ at + length all)
@@ -96,10 +92,6 @@ module _ (block : List ℕ) (bytes : AllBytes block) (long : length block ≡ 16
       )
       (ap (sets part 0) block_words)
 
--- the part of a block's bytes has 16
-pub cut_length : (xs : List ℕ) (a : ℕ) → a + 16 ≤ length xs → length (mid_of a (a + 16 - a) xs) ≡ 16
-cut_length xs a room = part_length xs a (a + 16 - a) (omega arith) ∙ omega arith
-
 -- a part of the source comes back as a part of the target
 pub part_moved : (target source last : List ℕ) (to n from m : ℕ) → to + n ≤ length target → length (mid_of from m source) ≡ n → last ≡ mid_of from m source
     → put_mid to n target last ≡ sets target to (take m (drop from source))
@@ -110,7 +102,7 @@ pub moved : (target source last : List ℕ) (to from : ℕ) → from + 16 ≤ le
     → put_mid to (to + 16 - to) target last ≡ sets target to (take 16 (drop from source))
 moved target source last to from inside room is =
     let n : from + 16 - from ≡ 16 = omega arith in
-    part_moved target source last to (to + 16 - to) from (from + 16 - from) (omega arith) (cut_length source from inside ∙ omega arith) is ∙ rw n
+    part_moved target source last to (to + 16 - to) from (from + 16 - from) (omega arith) (part_length source from (from + 16 - from) (omega arith) ∙ omega arith) is ∙ rw n
 
 -- ---- the used ones of 64 blocks
 
@@ -180,9 +172,6 @@ pub record Copies (image₀ pool : List ℕ) (i at bits : ℕ) (image : List ℕ
   pub small : left < 2 ^ 64
   pub inside : Inside pool i left
   pub remains : Remains image₀ at (blocks_in pool i bits) image to (blocks_in pool i left)
-
-pub copies_all : (image pool : List ℕ) (i at bits : ℕ) → bits < 2 ^ 64 → Inside pool i bits → Copies image pool i at bits image at bits
-copies_all image pool i at bits small inside = record { small = small; inside = inside; remains = remains_all image at (blocks_in pool i bits) }
 
 -- what a turn knows of where it copies
 pub record CopyTurn (pool : List ℕ) (i left j : ℕ) (image : List ℕ) (to : ℕ) : Type 0 where

@@ -24,7 +24,7 @@ use Rattle.entries.specs.Groups.{InGroup}
 use Rattle.memory.proofs.Parts.{part_length}
 use Rattle.freeruns.specs.Rows.{Zeros}
 use Rattle.transfer.specs.Copying.{lanes, Inside, group_in, with_used}
-use Rattle.transfer.proofs.Copying.{Remains, Splits, remains_all, remains_none, remains_next, part_moved, moved, First, first_bit, first_inside, others_inside, group_alike}
+use Rattle.transfer.proofs.Copying.{Remains, Splits, remains_none, remains_next, part_moved, moved, First, first_bit, first_inside, others_inside, group_alike}
 
 -- ---- the used blocks get their bytes
 
@@ -99,9 +99,6 @@ pub record Places (pool₀ bytes : List ℕ) (i first bits : ℕ) (pool : List �
   pub long : length pool ≡ length pool₀
   pub end : next + used (lanes left) ≡ first + used (lanes bits)
   pub same : with_used pool (64 * i) (lanes left) (drop (16 * next) bytes) ≡ with_used pool₀ (64 * i) (lanes bits) (drop (16 * first) bytes)
-
-pub places_all : (pool bytes : List ℕ) (i first bits : ℕ) → bits < 2 ^ 64 → Inside pool i bits → Places pool bytes i first bits pool first bits
-places_all pool bytes i first bits small inside = record { small = small; inside = inside; long = refl; end = refl; same = refl }
 
 -- what a turn knows of where it stores
 pub record PlaceTurn (bytes : List ℕ) (i left j : ℕ) (pool : List ℕ) (next : ℕ) : Type 0 where
@@ -225,9 +222,6 @@ pub record Fills (es bytes pool₀ pool : List ℕ) (i next : ℕ) : Type 0 wher
   pub remains : Remains pool₀ 0 (pool_of es bytes) pool (16 * length (take (64 * i) es)) (pool_of (drop (64 * i) es) (drop (16 * next) bytes))
 
 module _ (es bytes pool₀ : List ℕ) (enough : length bytes ≡ 16 * used es) where
-  pub fills_all : Fills es bytes pool₀ pool₀ 0 0
-  fills_all = record { end = omega arith; remains = remains_all pool₀ 0 (pool_of es bytes) }
-
   module _ {pool : List ℕ} {i next : ℕ} (f : Fills es bytes pool₀ pool i next) where
     -- the used ones of the next 64, and those behind them
     group_more : used (drop (64 * i) es) ≡ used (group_in es i) + used (drop (64 * (i + 1)) es)

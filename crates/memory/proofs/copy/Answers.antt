@@ -44,9 +44,3 @@ loop-i-preserved c =
     let from = c.index-source in
     let apart = rw (← from.ensures, ← to.ensures, ← count.ensures) at c.requires.apart in
     rw c.loop-i.invariant (turn c.args.pool.now from.result to.result count.result c.loop-i.i (omega arith) (omega arith) apart)
-
-pub returns : goal.returns
-returns c =
-    let count = c.index-i-end in
-    let e : c.loop-i.i ≡ count.result = omega arith in
-    rw (e, c.index-source.ensures, c.index-target.ensures, count.ensures) at c.loop-i.invariant

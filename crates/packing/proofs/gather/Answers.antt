@@ -3,7 +3,7 @@
 use mathlib.Core.Path.{◌≡◌, sym, ap, ◌∙◌}
 use Prim.Native.Nat.{ℕ, ◌*◌, ◌/◌, ◌<◌}
 use native.Mathlib.Omega.{arith}
-use lib.Bits.{bit_and, bit_or, and_le_r}
+use lib.Bits.{bit_and, bit_or}
 use Rattle.rules.specs.Bits.{bit_of, byte_of}
 use Rattle.laws.proofs.Below.{equal_below}
 use Rattle.laws.proofs.Bits.{bit_of_lt, bit_of_byte}
@@ -38,9 +38,6 @@ gathered x j h =
     let spread : singles x ≡ base4 8 (bit_of (byte_of bit)) = even_bits 8 x ∙ base4_same 8 bit (bit_of (byte_of bit)) (λ j l. sym (at j l)) in
     let small : byte_of bit < 256 = omega (arith, s 0, s 1, s 2, s 3, s 4, s 5, s 6, s 7) in
     ap (λ (y : ℕ). bit_of y j) (ap eights spread ∙ all_bytes (byte_of bit) small) ∙ at j h
-
-pub overflow_cast-result : goal.overflow_cast-result
-overflow_cast-result c = record { fits = omega (arith, and_le_r (bit_or (fours (singles c.args.x)) (fours (singles c.args.x) / 16)) 255) }
 
 pub returns : goal.returns
 returns c = gathered c.args.x

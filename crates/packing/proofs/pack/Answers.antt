@@ -1,6 +1,6 @@
 -- `pack`: what is left of the packed table, stored from where the loop stands, gives what all of it would.
 -- Assumes nothing.
-use mathlib.Core.Path.{◌≡◌, refl, sym, ap, ◌∙◌}
+use mathlib.Core.Path.{◌≡◌, sym, ap, ◌∙◌}
 use mathlib.Core.List.{List, []}
 use Prim.Native.Nat.{ℕ, suc, ◌+◌, ◌*◌, ◌/◌, ◌%◌, ◌<◌}
 use native.Mathlib.Omega.{arith}
@@ -89,11 +89,6 @@ module _ (t : ℕ) (table : List ℕ) where
 -- byte i lies in both planes
 in_table : (t half i : ℕ) (table : List ℕ) → IsTable t table → half ≡ plane_bytes t → 2 * i < t → half + i < length table
 in_table t half i table is is_half l = omega (arith, is_half, (room_entries t).0, is.sized.long)
-
-pub loop-i-init : goal.loop-i-init
-loop-i-init c =
-    let e : c.args.at + 0 ≡ c.args.at = omega arith in
-    rw e refl
 
 pub bounds-table-i : goal.bounds-table-i
 bounds-table-i c = omega (arith, in_table c.args.t _ c.loop-i.i _ c.requires.0 c.plane_bytes-half.ensures (omega arith))

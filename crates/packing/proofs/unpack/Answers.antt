@@ -48,9 +48,6 @@ unpacked_end : (t : ℕ) (packed table : List ℕ) (i : ℕ) → Sized t table �
 unpacked_end t packed table i sized long e done =
     holds_of t (entries_of packed) table sized (length_entries_of packed ∙ ap (λ (n : ℕ). 4 * n) long) (λ k h. done k (rw e h))
 
-pub loop-i-init : goal.loop-i-init
-loop-i-init c = λ k h. absurd (omega arith)
-
 pub overflow_mul-i : goal.overflow_mul-i
 overflow_mul-i c = in_32_bits (search rules)
 

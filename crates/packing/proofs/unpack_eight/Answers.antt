@@ -5,7 +5,7 @@ use mathlib.Core.List.{List}
 use Prim.Native.Nat.{ℕ, ◌+◌, ◌*◌, ◌/◌, ◌%◌, ◌<◌}
 use native.Mathlib.Decide.{ℕ_discrete}
 use native.Mathlib.Omega.{arith}
-use lib.ListN.{length, set, length-set}
+use lib.ListN.{length, set}
 use borrow.Author.Rules.{rules}
 use Rattle.rules.specs.Bits.{bit_of}
 use Rattle.rules.specs.Entries.{entry_of}
@@ -45,10 +45,6 @@ module _ (half i x low high : ℕ) (table : List ℕ) (inside : i < half) (long 
 
 pub overflow_add-table : goal.overflow_add-table
 overflow_add-table c = in_slice c.args.table.now (search rules) (search rules)
-
-pub bounds-table-half : goal.bounds-table-half
-bounds-table-half c =
-    omega (arith, c.requires.0, c.requires.1, length-set c.args.table.now c.args.i c.gather.result)
 
 pub returns : goal.returns
 returns c =

@@ -26,9 +26,6 @@ few : (b : ℕ) → used (entries_of (b ∷ [])) ≤ 4
 unfolding used entries_of
 few b = count_le is_used (entries_of (b ∷ []))
 
-pub overflow_cast-result : goal.overflow_cast-result
-overflow_cast-result c = record { fits = omega (arith, all_bytes c.args.b c.ranges.b.fits, few c.args.b) }
-
 pub returns : goal.returns
 returns c =
     let value = all_bytes c.args.b c.ranges.b.fits in

@@ -3,11 +3,8 @@
 use native.Mathlib.Omega.{arith}
 use borrow.Author.Rules.{rules}
 use Rattle.laws.proofs.Widths.{in_slice}
-use Rattle.transfer.proofs.Copying.{cut_length, copies_all, copies_none, copy_turn, copies_next}
+use Rattle.transfer.proofs.Copying.{copies_none, copy_turn, copies_next}
 use Rattle.transfer.proofs.copy_group.Goals as goal
-
-pub loop-left-init : goal.loop-left-init
-loop-left-init c = copies_all _ _ _ _ _ (omega arith) c.requires.1.1
 
 pub block_offset-requires : goal.block_offset-requires
 block_offset-requires c =
@@ -33,16 +30,6 @@ pub slice_bounds-copy_block-end-in-loop-left : goal.slice_bounds-copy_block-end-
 slice_bounds-copy_block-end-in-loop-left c =
     let turn = copy_turn c.loop-left.invariant c.loop-left-test.true c.first-j.ensures c.requires.1.0 in
     turn.room
-
-pub copy_block-requires : goal.copy_block-requires
-copy_block-requires c =
-    let turn = copy_turn c.loop-left.invariant c.loop-left-test.true c.first-j.ensures c.requires.1.0 in
-    (cut_length c.args.pool.now c.index-from.result (omega (arith, turn.inside, c.index-from.ensures, c.block_offset.ensures)), cut_length _ _ turn.room)
-
-pub loop-left-smaller : goal.loop-left-smaller
-loop-left-smaller c =
-    let turn = copy_turn c.loop-left.invariant c.loop-left-test.true c.first-j.ensures c.requires.1.0 in
-    turn.first.less
 
 pub loop-left-preserved : goal.loop-left-preserved
 loop-left-preserved c =

@@ -3,17 +3,8 @@
 use native.Mathlib.Omega.{arith}
 use borrow.Author.Rules.{rules}
 use Rattle.laws.proofs.Widths.{in_32_bits, in_slice}
-use Rattle.transfer.proofs.Copying.{cut_length}
-use Rattle.transfer.proofs.Placing.{places_all, places_none, place_turn, places_next}
+use Rattle.transfer.proofs.Placing.{places_none, place_turn, places_next}
 use Rattle.transfer.proofs.place_group.Goals as goal
-
-pub loop-left-init : goal.loop-left-init
-loop-left-init c = places_all _ _ _ _ _ (omega arith) c.requires.inside
-
-pub of_blocks-requires : goal.of_blocks-requires
-of_blocks-requires c =
-    let turn = place_turn c.loop-left.invariant c.loop-left-test.true c.first-j.ensures c.requires.i_bound.1.0 c.requires.i_bound.1.1 in
-    omega (arith, turn.few)
 
 pub overflow_add-from_end : goal.overflow_add-from_end
 overflow_add-from_end c =
@@ -40,22 +31,10 @@ slice_bounds-copy_block-end-in-loop-left c =
     let turn = place_turn c.loop-left.invariant c.loop-left-test.true c.first-j.ensures c.requires.i_bound.1.0 c.requires.i_bound.1.1 in
     omega (arith, turn.inside, c.index-to.ensures, c.block_offset.ensures)
 
-pub copy_block-requires : goal.copy_block-requires
-copy_block-requires c =
-    let turn = place_turn c.loop-left.invariant c.loop-left-test.true c.first-j.ensures c.requires.i_bound.1.0 c.requires.i_bound.1.1 in (
-      cut_length c.args.bytes.now c.index-from.result (omega (arith, turn.enough, c.index-from.ensures, c.of_blocks.ensures)),
-      cut_length c.loop-left.pool c.index-to.result (omega (arith, turn.inside, c.index-to.ensures, c.block_offset.ensures)),
-    )
-
 pub overflow_add-next : goal.overflow_add-next
 overflow_add-next c =
     let turn = place_turn c.loop-left.invariant c.loop-left-test.true c.first-j.ensures c.requires.i_bound.1.0 c.requires.i_bound.1.1 in
     in_32_bits (record { fits = omega (arith, turn.few) })
-
-pub loop-left-smaller : goal.loop-left-smaller
-loop-left-smaller c =
-    let turn = place_turn c.loop-left.invariant c.loop-left-test.true c.first-j.ensures c.requires.i_bound.1.0 c.requires.i_bound.1.1 in
-    turn.first.less
 
 pub loop-left-preserved : goal.loop-left-preserved
 loop-left-preserved c =
