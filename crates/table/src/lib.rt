@@ -1,11 +1,14 @@
 // Objects in the allocation table, and the search for room.
 #![tactic(auto)]
 
-ghost use Rattle.std.specs.Prelude.{◌≡◌, ◌+◌, ◌≤◌, ◌<◌, leb, length};
+ghost use Rattle.std.specs.Prelude.{◌≡◌, ◌+◌, ◌≤◌, ◌<◌, leb, length, MatchOption};
 ghost use Rattle.rules.specs.Tables.{block_count, free_from, first_fit, grows_in_place, placed, released, extended};
 ghost use Rattle.rules.specs.Planes.{entries_in, IsTable, Holds};
+ghost use Rattle.laws.specs.Meaning.{Run};
+ghost use Rattle.table.specs.Runs.{UsedAt};
 ghost use Rattle.numbers.specs.Places.{found};
 
+use entries::Entry;
 use numbers::Block;
 
 // How many blocks the object with head k has.
@@ -13,15 +16,13 @@ pub fn block_count(t: usize, table: &[u8], k: Block) -> usize
     requires { IsTable t table.now × (k.0 < length (entries_in t table.now)) }
     ensures { (result ≡ block_count (entries_in t table.now) k.0) × (k.0 + result ≤ length (entries_in t table.now)) }
 {
-    let n = entries::blocks(t);
-    let mut count = 1;
-    while k.plus(count).is_below(n) {
+    let left = k.until(entries::blocks(t));
+    for count in 1..left {
         if !entries::is_tail(t, table, k.plus(count)) {
             return count;
         }
-        count += 1;
     }
-    count
+    left
 }
 
 // Whether the count blocks from `from` on are blocks of the table, and FREE.
@@ -32,12 +33,10 @@ fn is_free(t: usize, table: &[u8], from: Block, count: usize) -> bool
     if from.until(entries::blocks(t)) < count {
         return false;
     }
-    let mut i = 0;
-    while i < count {
-        if entries::entry(t, table, from.plus(i)) != entries::FREE {
+    for i in 0..count {
+        if entries::entry_at(t, table, from.plus(i)) != Entry::Free {
             return false;
         }
-        i += 1;
     }
     true
 }
@@ -53,6 +52,24 @@ pub fn grows_in_place(t: usize, table: &[u8], k: Block, old: usize, new: usize) 
     is_free(t, table, k.plus(old), new - old)
 }
 
+// The first of the count blocks from `start` on that is not FREE, by how many are before it. It goes on by as many blocks as are found FREE at once.
+fn first_used(t: usize, table: &[u8], start: Block, count: usize) -> Option<usize>
+    requires { IsTable t table.now × (start.0 + count ≤ length (entries_in t table.now)) }
+    ensures { MatchOption result (Run (entries_in t table.now) count start.0) (UsedAt (entries_in t table.now) count start.0) }
+{
+    let mut i = 0;
+    while i < count {
+        let ahead = search::free_from(t, table, start.plus(i));
+        i += ahead.free;
+        if ahead.ended {
+            if i < count {
+                return Some(i);
+            }
+        }
+    }
+    None
+}
+
 // The lowest block at which count blocks may start.
 pub fn first_fit(t: usize, table: &[u8], count: usize) -> Option<Block>
     requires { IsTable t table.now × (0 < count) }
@@ -60,19 +77,11 @@ pub fn first_fit(t: usize, table: &[u8], count: usize) -> Option<Block>
 {
     let n = entries::blocks(t);
     let mut start = search::next(t, table, Block::first(), count);
-    'starts: while count <= start.until(n) {
-        let mut i = 0;
-        while i < count {
-            let ahead = search::free_from(t, table, start.plus(i));
-            i += ahead.free;
-            if ahead.ended {
-                if i < count {
-                    start = search::next(t, table, start.plus(i + 1), count);
-                    continue 'starts;
-                }
-            }
-        }
-        return Some(start);
+    while count <= start.until(n) {
+        let Some(i) = first_used(t, table, start, count) else {
+            return Some(start);
+        };
+        start = search::next(t, table, start.plus(i + 1), count);
     }
     None
 }
@@ -82,8 +91,8 @@ pub fn place(t: usize, table: &mut [u8], k: Block, count: usize)
     requires { IsTable t table.old × ((0 < count) × (k.0 + count ≤ length (entries_in t table.old))) }
     ensures { Holds t (placed (entries_in t table.old) k.0 count) table.new }
 {
-    entries::set_run(t, &mut *table, k, 1, entries::HEAD);
-    entries::set_run(t, &mut *table, k.plus(1), count - 1, entries::TAIL);
+    entries::set_run(t, &mut *table, k, 1, Entry::Head);
+    entries::set_run(t, &mut *table, k.plus(1), count - 1, Entry::Tail);
 }
 
 // The count blocks from k on become FREE.
@@ -91,7 +100,7 @@ pub fn release(t: usize, table: &mut [u8], k: Block, count: usize)
     requires { IsTable t table.old × (k.0 + count ≤ length (entries_in t table.old)) }
     ensures { Holds t (released (entries_in t table.old) k.0 count) table.new }
 {
-    entries::set_run(t, table, k, count, entries::FREE);
+    entries::set_run(t, table, k, count, Entry::Free);
 }
 
 // The count blocks from k on become TAIL.
@@ -99,5 +108,5 @@ pub fn extend(t: usize, table: &mut [u8], k: Block, count: usize)
     requires { IsTable t table.old × (k.0 + count ≤ length (entries_in t table.old)) }
     ensures { Holds t (extended (entries_in t table.old) k.0 count) table.new }
 {
-    entries::set_run(t, table, k, count, entries::TAIL);
+    entries::set_run(t, table, k, count, Entry::Tail);
 }

@@ -176,9 +176,9 @@ loop-i-preserved c =
     let r = room _ _ _ _ _ _ _ c.requires.0 c.requires.1 c.index-first.ensures c.plane_bytes-half.ensures c.loop-i.invariant.long in
     let half = c.plane_bytes-half.ensures in
     rw half
-        (turn c.args.t c.args.table.now c.loop-i.table (number_of c.args.e) c.index-first.result _ c.loop-i.i _ _ c.span-bits.result
-        c.requires.0.sized.long (omega (arith, half, r.ends)) (omega arith) c.span-bits.ensures (rw (tag_is c.args.e) at c.with_bits.ensures)
-        (rw (half, tag_is c.args.e) at c.with_bits-in-loop-i.ensures) c.loop-i.invariant)
+    (turn c.args.t c.args.table.now c.loop-i.table (number_of c.args.e) c.index-first.result _ c.loop-i.i _ _ c.span-bits.result
+    c.requires.0.sized.long (omega (arith, half, r.ends)) (omega arith) c.span-bits.ensures (rw (tag_is c.args.e) at c.with_bits.ensures)
+    (rw (half, tag_is c.args.e) at c.with_bits-in-loop-i.ensures) c.loop-i.invariant)
 
 pub returns : goal.returns
 returns c =

@@ -10,11 +10,10 @@ use Rattle.rules.specs.Tables.{entry_at, free_from}
 use Rattle.rules.specs.Planes.{entries_in}
 use Rattle.laws.proofs.Planes.{few_entries}
 use Rattle.laws.proofs.Tables.{free_room, no_run_lt, run_le}
-use Rattle.laws.proofs.Widths.{in_32_bits}
+use Rattle.entries.specs.declared.Entry.TheVariants.{Free}
+use Rattle.entries.specs.Numbers.{number_of}
+use Rattle.entries.proofs.Numbers.{same, differ}
 use Rattle.table.proofs.is_free.Goals as goal
-
-pub until-requires : goal.until-requires
-until-requires c = omega (arith, c.blocks-2.ensures c.args.table.now, c.requires.1)
 
 pub returns-then-until-count : goal.returns-then-until-count
 returns-then-until-count c =
@@ -22,29 +21,25 @@ returns-then-until-count c =
     let es = entries_in a.t a.table.now in
     sym (lt-leb a.count (free_from es a.from.0) (omega (arith, free_room es a.from.0, c.blocks-2.ensures a.table.now)))
 
-pub loop-i-init : goal.loop-i-init
-loop-i-init c = (omega (arith, c.blocks-2.ensures c.args.table.now), λ j l. absurd (omega arith))
-
 pub plus-requires : goal.plus-requires
-plus-requires c =
-    omega (arith, few_entries _ _ c.requires.0)
+plus-requires c = omega (arith, few_entries _ _ c.requires.0, c.blocks-2.ensures c.args.table.now)
 
-pub returns-then-entry-ne-FREE : goal.returns-then-entry-ne-FREE
-returns-then-entry-ne-FREE c =
-    let entry_is : let a = c.args in c.entry.result ≡ entry_at (entries_in a.t a.table.now) (a.from.0 + c.loop-i.i) = rw (← c.plus.ensures) c.entry.ensures in
+pub entry_at-requires : goal.entry_at-requires
+entry_at-requires c = (c.requires.0, omega (arith, c.blocks-2.ensures c.args.table.now))
+
+pub returns-then-ne : goal.returns-then-ne
+returns-then-ne c =
     let l = c.loop-i in
-    sym (lt-leb _ _ (no_run_lt _ _ _ (search rules) (λ r. c.if-entry-ne-FREE.true (entry_is ∙ r.free l.i (search rules)))))
-
-pub overflow_add-i : goal.overflow_add-i
-overflow_add-i c = in_32_bits (record { fits = omega (arith, few_entries _ _ c.requires.0) })
+    let entry_is : let a = c.args in number_of c.entry_at.result ≡ entry_at (entries_in a.t a.table.now) (a.from.0 + l.i) = rw (← c.plus.ensures) c.entry_at.ensures in
+    sym (lt-leb _ _ (no_run_lt _ _ _ (search rules) (λ r. differ c.entry_at.result Free c.if-ne.ensures (entry_is ∙ r.free l.i (search rules)))))
 
 pub loop-i-preserved : goal.loop-i-preserved
 loop-i-preserved c =
-    let entry_is : let a = c.args in c.entry.result ≡ entry_at (entries_in a.t a.table.now) (a.from.0 + c.loop-i.i) = rw (← c.plus.ensures) c.entry.ensures in
     let l = c.loop-i in
-    (search rules, below_more _ _ l.invariant.1 (sym entry_is ∙ c.if-entry-ne-FREE.false))
+    let entry_is : let a = c.args in number_of c.entry_at.result ≡ entry_at (entries_in a.t a.table.now) (a.from.0 + l.i) = rw (← c.plus.ensures) c.entry_at.ensures in
+    below_more _ _ l.invariant (sym entry_is ∙ same c.entry_at.result Free c.if-ne.ensures)
 
 pub returns : goal.returns
 returns c =
     let l = c.loop-i in
-    sym (le-leb _ _ (run_le _ _ _ (record { room = omega arith; free = λ j h. l.invariant.1 j (omega arith) })))
+    sym (le-leb _ _ (run_le _ _ _ (record { room = omega (arith, c.blocks-2.ensures c.args.table.now, c.requires.1); free = λ j h. l.invariant j (omega arith) })))

@@ -11,7 +11,7 @@ use Rattle.laws.proofs.Planes.{few_entries}
 use Rattle.table.proofs.place.Goals as goal
 
 pub set_run-requires : goal.set_run-requires
-set_run-requires c = (c.requires.0, (omega (arith, c.requires.1), omega arith))
+set_run-requires c = (c.requires.0, omega (arith, c.requires.1))
 
 pub plus-requires : goal.plus-requires
 plus-requires c =
@@ -20,7 +20,7 @@ plus-requires c =
 pub set_run-requires-2 : goal.set_run-requires-2
 set_run-requires-2 c =
     let es = entries_in c.args.t c.args.table.now in
-    (c.set_run.ensures.is_table, (omega (arith, c.requires.1, c.plus.ensures, ap length c.set_run.ensures.entries ∙ length-set es c.args.k.0 1), omega arith))
+    (c.set_run.ensures.is_table, omega (arith, c.requires.1, c.plus.ensures, ap length c.set_run.ensures.entries ∙ length-set es c.args.k.0 1))
 
 pub returns : goal.returns
 unfolding placed
