@@ -1,13 +1,14 @@
 // Marking: the objects that are reachable from the roots become MARK, with a bounded mark stack and rescans after an overflow.
 #![tactic(auto)]
 
-ghost use Rattle.std.specs.Prelude.{◌≡◌, true, false, ◌∷◌, ◌/◌, ◌≤◌, ◌<◌, length, get_or};
+ghost use Rattle.std.specs.Prelude.{◌≡◌, true, false, ◌∷◌, ◌/◌, ◌≤◌, ◌<◌, length};
 ghost use Rattle.rules.specs.Words.{words_of};
 ghost use Rattle.rules.specs.Planes.{entries_in, IsTable};
 ghost use Rattle.rules.specs.Marking.{marked_in, mark_all, mark_root, mark_roots, pass_block, pass};
 ghost use Rattle.visitor.specs.Variables.{context_of, idle, Shape};
 
-use numbers::{Address, Block, Found};
+use entries::Entry;
+use numbers::{Address, Block};
 
 // A root: if it leads to a HEAD, that becomes MARK and is traced. Returns the overflow.
 fn mark_root(
@@ -23,8 +24,7 @@ fn mark_root(
     ensures { IsTable t table.new × (idle t table.new result
         ≡ mark_root (context_of base.0 pool.now stack.old) w (idle t table.old overflow)) }
 {
-    let target = base.target(entries::blocks(t), w);
-    let Found::At(k) = target else {
+    let Some(k) = base.target(entries::blocks(t), w) else {
         return overflow;
     };
     let head = backscan::start(t, &*table, k);
@@ -33,17 +33,6 @@ fn mark_root(
     }
     entries::set_mark(t, &mut *table, head);
     tracer::trace(base, t, pool, &mut *table, &mut *stack, overflow, head)
-}
-
-// Root i, where `first` is root 0 and the caller's roots come behind it.
-fn root(first: u32, roots: &[u8], i: usize) -> u32
-    requires { i ≤ length roots.now / 4 }
-    ensures { result ≡ get_or (first ∷ words_of roots.now) i 0 }
-{
-    if i == 0 {
-        return first;
-    }
-    memory::word(roots, i - 1)
 }
 
 // The root `first`, and then the caller's roots in list order. Returns the overflow.
@@ -61,19 +50,10 @@ fn mark_roots(
     ensures { IsTable t table.new × (idle t table.new result
         ≡ mark_roots (context_of base.0 pool.now stack.old) (first ∷ words_of roots.now) (idle t table.old false)) }
 {
-    let mut overflow = false;
-    let mut i = 0;
-    while i <= roots.len() / 4 {
-        overflow = mark_root(
-            base,
-            t,
-            pool,
-            &mut *table,
-            &mut *stack,
-            overflow,
-            root(first, roots, i),
-        );
-        i += 1;
+    let mut overflow = mark_root(base, t, pool, &mut *table, &mut *stack, false, first);
+    for i in 0..roots.len() / 4 {
+        let w = memory::word(roots, i);
+        overflow = mark_root(base, t, pool, &mut *table, &mut *stack, overflow, w);
     }
     overflow
 }
@@ -93,10 +73,10 @@ fn rescan_block(
     ensures { IsTable t table.new × (idle t table.new result
         ≡ pass_block (context_of base.0 pool.now stack.old) k.0 (idle t table.old overflow)) }
 {
-    if entries::entry(t, &*table, k) != entries::MARK {
-        return overflow;
+    match entries::entry_at(t, &*table, k) {
+        Entry::Mark => tracer::trace(base, t, pool, &mut *table, &mut *stack, overflow, k),
+        _ => overflow,
     }
-    tracer::trace(base, t, pool, &mut *table, &mut *stack, overflow, k)
 }
 
 // One rescan: the overflow is cleared, and then all blocks are gone through in rising order. Returns the new overflow.
@@ -107,10 +87,9 @@ fn rescan(base: Address, t: usize, pool: &[u8], table: &mut [u8], stack: &mut [u
 {
     let n = entries::blocks(t);
     let mut overflow = false;
-    let mut k = Block::first();
-    while k.is_below(n) {
+    for i in 0..n {
+        let k = Block::first().plus(i);
         overflow = rescan_block(base, t, pool, &mut *table, &mut *stack, overflow, k);
-        k = k.plus(1);
     }
     overflow
 }

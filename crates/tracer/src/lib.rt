@@ -1,7 +1,7 @@
 // A trace of one object: its words are visited, and then those of the last pushed one, until the mark stack is empty.
 #![tactic(auto)]
 
-ghost use Rattle.std.specs.Prelude.{◌≡◌, ◌/◌, ◌≤◌, ◌<◌, ltb, length};
+ghost use Rattle.std.specs.Prelude.{◌≡◌, ◌/◌, ◌≤◌, ◌<◌, length};
 ghost use Rattle.rules.specs.Planes.{entries_in, IsTable};
 ghost use Rattle.rules.specs.Marking.{walk as walk_of, trace as trace_of};
 ghost use Rattle.visitor.specs.Variables.{context_of, state_of, idle, Shape, Knows, Came};
@@ -25,10 +25,9 @@ fn walk(
         table.new stack.new result }
 {
     let first = k.first_word();
-    let mut i = 4 * table::block_count(t, &*table, k);
+    let words = 4 * table::block_count(t, &*table, k);
     let mut walked = m;
-    while 0 < i {
-        i -= 1;
+    for i in (0..words).rev() {
         walked = visitor::visit(
             base,
             t,
@@ -39,13 +38,6 @@ fn walk(
         );
     }
     walked
-}
-
-// The overflow as a number.
-fn lost_by(overflow: bool) -> usize
-    ensures { ltb 0 result ≡ overflow }
-{
-    if overflow { 1 } else { 0 }
 }
 
 // The object with head k is walked, and then the last pushed one, until the stack is empty. Returns the overflow.
@@ -65,7 +57,7 @@ pub fn trace(
 {
     let mut left = Marking {
         depth: 0,
-        lost: lost_by(overflow),
+        lost: usize::from(overflow),
         first: Block::first(),
         last: Block::first(),
     };
@@ -75,15 +67,10 @@ pub fn trace(
         if walked.depth == 0 {
             return 0 < walked.lost;
         }
-        let d = walked.depth - 1;
-        next = Block::of_word(memory::word(&*stack, d));
-        let first = walked.first;
-        let last = walked.last;
         left = Marking {
-            depth: d,
-            lost: walked.lost,
-            first,
-            last,
+            depth: walked.depth - 1,
+            ..walked
         };
+        next = Block::from(memory::word(&*stack, left.depth));
     }
 }

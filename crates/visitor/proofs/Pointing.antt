@@ -9,7 +9,7 @@ use native.Mathlib.Decide.{dec_lt}
 use native.Mathlib.Omega.{arith}
 use lib.Dec.{eqb, leb, ltb}
 use lib.ListN.{length}
-use borrow.Author.Tests.{eq-eqb, ne_eqb, ltb-true, lt-ltb, le-ltb}
+use borrow.Author.Tests.{eqb-true, eqb-false, eq-eqb, ne_eqb, ltb-true, lt-ltb, le-ltb}
 use Rattle.rules.specs.Tests.{pick, both}
 use Rattle.rules.specs.Entries.{HEAD, TAIL, MARK}
 use Rattle.rules.specs.Tables.{entry_at, is_head, start_of}
@@ -34,6 +34,13 @@ target_inside base n w k q = go (leb base w) (eqb ((w - base) % 16) 0) (ltb ((w 
 -- a TAIL is a block of every table of 4t blocks
 pub tail_inside : (t : ℕ) (table table' : List ℕ) (k : ℕ) → entry_at (entries_in t table) k ≡ TAIL → k < length (entries_in t table')
 tail_inside t table table' k e = omega (arith, same_length t table' table, entry_inside (entries_in t table) k (λ f. omega (arith, e, f)))
+
+-- what the code's test of a head says
+pub head_is : (e : ℕ) {b : Bool} → b ≡ is_head e → b ≡ true → e ≡ HEAD
+head_is e q t = eqb-true e HEAD (sym q ∙ t)
+
+pub no_head : (e : ℕ) {b : Bool} → b ≡ is_head e → b ≡ false → e ≡ HEAD → ⊥
+no_head e q t = eqb-false e HEAD (sym q ∙ t)
 
 -- the object of block k starts at block h: `g h` is done if that is HEAD, else `z`
 module _ (es : List ℕ) (k h : ℕ) (at : h ≡ start_of es k)

@@ -9,7 +9,7 @@ use Rattle.laws.proofs.Marking.{rescan_most}
 use Rattle.laws.proofs.Widths.{as_u32}
 use Rattle.visitor.specs.Variables.{idle}
 use Rattle.tracer.proofs.Turning.{shape_same}
-use Rattle.marker.proofs.Turning.{Rescanned, rescanned, mark_end}
+use Rattle.marker.proofs.Turning.{rescanned, mark_end}
 use Rattle.marker.proofs.mark.Goals as goal
 
 pub loop-overflow-init : goal.loop-overflow-init
@@ -22,39 +22,25 @@ rescan-overflow-requires c =
 
 pub overflow_add-rescans : goal.overflow_add-rescans
 overflow_add-rescans c =
-    let turned : let l = c.loop-overflow in
-    let r = c.rescan-overflow in
-    Rescanned c.args.base.0 c.args.t c.args.pool.now c.mark_roots-overflow.new.stack l.table r.new.table l.overflow r.result =
     let l = c.loop-overflow in
     let r = c.rescan-overflow in
-    rescanned c.args.base.0 c.args.t c.args.pool.now c.mark_roots-overflow.new.stack l.stack l.table r.new.table l.overflow r.result
-    c.loop-overflow-test.true l.invariant.3 r.ensures.1 in
+    let turned = rescanned c.args.base.0 c.args.t c.args.pool.now c.mark_roots-overflow.new.stack l.stack l.table r.new.table l.overflow r.result c.loop-overflow-test.true l.invariant.3 r.ensures.1 in
     let a = c.args in
     let m = c.mark_roots-overflow in
     as_u32 (omega (arith, turned.less, c.loop-overflow.invariant.0, rescan_most (idle a.t m.new.table m.result), few_entries a.t m.new.table m.ensures.0))
 
 pub loop-overflow-smaller : goal.loop-overflow-smaller
 loop-overflow-smaller c =
-    let turned : let l = c.loop-overflow in
-    let r = c.rescan-overflow in
-    Rescanned c.args.base.0 c.args.t c.args.pool.now c.mark_roots-overflow.new.stack l.table r.new.table l.overflow r.result =
     let l = c.loop-overflow in
     let r = c.rescan-overflow in
-    rescanned c.args.base.0 c.args.t c.args.pool.now c.mark_roots-overflow.new.stack l.stack l.table r.new.table l.overflow r.result
-    c.loop-overflow-test.true l.invariant.3 r.ensures.1 in
+    let turned = rescanned c.args.base.0 c.args.t c.args.pool.now c.mark_roots-overflow.new.stack l.stack l.table r.new.table l.overflow r.result c.loop-overflow-test.true l.invariant.3 r.ensures.1 in
     turned.less
 
 pub loop-overflow-preserved : goal.loop-overflow-preserved
 loop-overflow-preserved c =
-    let turned : let l = c.loop-overflow in
-    let r = c.rescan-overflow in
-    Rescanned c.args.base.0 c.args.t c.args.pool.now c.mark_roots-overflow.new.stack l.table r.new.table l.overflow r.result =
     let l = c.loop-overflow in
     let r = c.rescan-overflow in
-    rescanned c.args.base.0 c.args.t c.args.pool.now c.mark_roots-overflow.new.stack l.stack l.table r.new.table l.overflow r.result
-    c.loop-overflow-test.true l.invariant.3 r.ensures.1 in
-    let l = c.loop-overflow in
-    let r = c.rescan-overflow in
+    let turned = rescanned c.args.base.0 c.args.t c.args.pool.now c.mark_roots-overflow.new.stack l.stack l.table r.new.table l.overflow r.result c.loop-overflow-test.true l.invariant.3 r.ensures.1 in
     (omega (arith, turned.less, l.invariant.0), r.ensures.0, r.auto.table ∙ l.invariant.2, r.auto.stack ∙ l.invariant.3, turned.same l.rescans ∙ l.invariant.4)
 
 pub returns : goal.returns

@@ -1,9 +1,8 @@
--- The roots that are left, from the present state, end where all the roots end from the first. The measure is how many are left.
+-- The roots that are left, from the present state, end where all the roots end from the first.
 -- Assumes nothing.
 use mathlib.Core.Path.{◌≡◌}
 use mathlib.Core.Bool.{false}
 use mathlib.Core.List.{◌∷◌}
-use Prim.Native.Nat.{◌+◌, ◌-◌, ◌/◌}
 use lib.ListN.{length, drop}
 use Rattle.rules.specs.Words.{words_of}
 use Rattle.rules.specs.Planes.{IsTable}
@@ -14,9 +13,6 @@ use Rattle.marker.proofs.mark_roots.Given as goal
 abbrev pub invariant-loop-i : goal.invariant-loop-i
 invariant-loop-i l =
     IsTable l.t l.table
-    × (length l.table ≡ length l.initial.table)
-    × (length l.stack ≡ length l.initial.stack)
-    × (mark_roots (context_of l.base.0 l.pool l.initial.stack) (drop l.i (l.first ∷ words_of l.roots)) (idle l.t l.table l.overflow) ≡ mark_roots (context_of l.base.0 l.pool l.initial.stack) (l.first ∷ words_of l.roots) (idle l.t l.initial.table false))
-
-abbrev pub decreases-loop-i : goal.decreases-loop-i
-decreases-loop-i l = length l.roots / 4 + 1 - l.i
+    × (length l.table ≡ length l.fn.table)
+    × (length l.stack ≡ length l.fn.stack)
+    × (mark_roots (context_of l.base.0 l.pool l.fn.stack) (drop l.i (words_of l.roots)) (idle l.t l.table l.overflow) ≡ mark_roots (context_of l.base.0 l.pool l.fn.stack) (l.first ∷ words_of l.roots) (idle l.t l.fn.table false))

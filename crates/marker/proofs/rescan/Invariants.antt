@@ -1,4 +1,4 @@
--- The blocks that are left, from the present state, end where all the blocks end from the first. The measure is how many are left.
+-- The blocks that are left, from the present state, end where all the blocks end from the first.
 -- Assumes nothing.
 use mathlib.Core.Path.{◌≡◌}
 use mathlib.Core.Bool.{false}
@@ -9,12 +9,9 @@ use Rattle.rules.specs.Marking.{pass_from}
 use Rattle.visitor.specs.Variables.{context_of, idle}
 use Rattle.marker.proofs.rescan.Given as goal
 
-abbrev pub invariant-loop-base : goal.invariant-loop-base
-invariant-loop-base l =
+abbrev pub invariant-loop-i : goal.invariant-loop-i
+invariant-loop-i l =
     IsTable l.t l.table
     × (length l.table ≡ length l.initial.table)
     × (length l.stack ≡ length l.initial.stack)
-    × (pass_from (context_of l.base.0 l.pool l.initial.stack) l.k.0 (l.n - l.k.0) (idle l.t l.table l.overflow) ≡ pass_from (context_of l.base.0 l.pool l.initial.stack) 0 l.n (idle l.t l.initial.table false))
-
-abbrev pub decreases-loop-base : goal.decreases-loop-base
-decreases-loop-base l = l.n - l.k.0
+    × (pass_from (context_of l.base.0 l.pool l.initial.stack) l.i (l.n - l.i) (idle l.t l.table l.overflow) ≡ pass_from (context_of l.base.0 l.pool l.initial.stack) 0 l.n (idle l.t l.initial.table false))

@@ -1,13 +1,20 @@
 -- Tracing the next object from the present state ends where tracing the first one ends. The measure is the HEADs and the depth.
 -- Assumes nothing.
-use mathlib.Core.Path.{refl, ap, ◌∙◌}
-use mathlib.Core.Bool.{Bool}
-use Prim.Native.Nat.{◌<◌}
+use mathlib.Core.Path.{◌≡◌, refl, ap, ◌∙◌}
+use mathlib.Core.Bool.{Bool, true, false}
+use Prim.Native.Nat.{ℕ, ◌<◌}
 use native.Mathlib.Omega.{arith}
+use lib.Dec.{ltb}
+use Rattle.std.specs.Int.{from_bool}
 use Rattle.rules.specs.Marking.{trace}
 use Rattle.visitor.specs.Variables.{context_of, idle}
 use Rattle.tracer.proofs.Turning.{can_start, popped, trace_end}
 use Rattle.tracer.proofs.trace.Goals as goal
+
+-- 1 stands for the overflow
+some_lost : (overflow : Bool) {n : ℕ} → n ≡ from_bool overflow → ltb 0 n ≡ overflow
+some_lost true e = rw e
+some_lost false e = rw e
 
 pub loop-base-init : goal.loop-base-init
 loop-base-init c =
@@ -26,7 +33,7 @@ returns-then-walked-eq0 c =
       w.ensures.is_table,
       trace_end a.base.0 a.t a.pool.now a.stack.now l.table l.stack l.left l.invariant.0 l.invariant.3 l.next.0 w.new.table w.new.stack w.result
           w.ensures c.if-walked-eq0.true ∙ l.invariant.4
-          ∙ ap (λ (o : Bool). trace (context_of a.base.0 a.pool.now a.stack.now) a.k.0 (idle a.t a.table.now o)) c.lost_by.ensures,
+          ∙ ap (λ (o : Bool). trace (context_of a.base.0 a.pool.now a.stack.now) a.k.0 (idle a.t a.table.now o)) (some_lost _ c.from.ensures),
     )
 
 pub word-requires : goal.word-requires
@@ -39,7 +46,7 @@ loop-base-smaller c =
     let w = c.walk-walked in
     let stacked : 0 < w.result.depth = omega (arith, c.if-walked-eq0.false) in
     (popped a.base.0 a.t a.pool.now a.stack.now l.table l.stack l.left l.invariant.0 l.invariant.3 l.next.0 w.new.table w.new.stack w.result
-    w.ensures c.of_word-next.result.0 stacked (c.of_word-next.ensures ∙ c.word.ensures)).less
+    w.ensures c.from-next.result.0 stacked (c.from-next.ensures ∙ c.word.ensures)).less
 
 pub loop-base-preserved : goal.loop-base-preserved
 loop-base-preserved c =
@@ -49,5 +56,5 @@ loop-base-preserved c =
     let left : 0 < w.result.depth = omega (arith, c.if-walked-eq0.false) in
     let turned =
     popped a.base.0 a.t a.pool.now a.stack.now l.table l.stack l.left l.invariant.0 l.invariant.3 l.next.0 w.new.table w.new.stack w.result
-    w.ensures c.of_word-next.result.0 left (c.of_word-next.ensures ∙ c.word.ensures) in
+    w.ensures c.from-next.result.0 left (c.from-next.ensures ∙ c.word.ensures) in
     (turned.can, turned.inside, w.auto.table ∙ l.invariant.2, w.auto.stack ∙ l.invariant.3, turned.same ∙ l.invariant.4)

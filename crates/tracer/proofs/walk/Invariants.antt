@@ -17,6 +17,3 @@ invariant-loop-i l =
     × (length l.stack ≡ length l.initial.stack)
     × Knows (entries_in l.t l.table) l.walked
     × (walk_words (context_of l.base.0 l.pool l.initial.stack) l.first l.i (state_of l.t l.table l.stack l.walked) ≡ walk_words (context_of l.base.0 l.pool l.initial.stack) l.first l.initial.i (state_of l.t l.initial.table l.initial.stack l.initial.walked))
-
-abbrev pub decreases-loop-i : goal.decreases-loop-i
-decreases-loop-i l = l.i

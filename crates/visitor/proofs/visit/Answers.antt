@@ -1,14 +1,10 @@
 -- The three ends: a HEAD, a TAIL, and another block or none. A target that is no TAIL starts its own object.
 -- Assumes nothing.
-use mathlib.Core.Path.{◌≡◌, sym, ap, ◌∙◌}
+use mathlib.Core.Path.{sym, ap, ◌∙◌}
 use mathlib.Core.List.{List}
-use mathlib.Core.Option.{some, none}
+use mathlib.Core.Option.{some}
 use Prim.Native.Nat.{ℕ}
-use lib.Dec.{ltb}
-use lib.ListN.{length}
-use Rattle.rules.specs.Tests.{pick}
-use Rattle.rules.specs.Planes.{entries_in}
-use Rattle.rules.specs.Pointers.{target_of, head_at}
+use Rattle.rules.specs.Pointers.{head_at}
 use Rattle.rules.specs.Marking.{state, visit_to}
 use Rattle.visitor.specs.Variables.{stacked, overflow_of, context_of, state_of}
 use Rattle.visitor.proofs.Pointing.{tail_inside, visit_at, visit_head, visit_other}
@@ -23,18 +19,15 @@ push-requires c = (c.requires.table.1.0, c.block_of-k.ensures.small)
 
 pub visit_tail-requires : goal.visit_tail-requires
 visit_tail-requires c =
-    let k : ℕ = c.block_of-k.result.0 in
-    let table' : List ℕ = c.mark_head-met.new.table in
     let h = c.in-Tail.ensures in
     let a = c.args in
     let same = came_same a.t a.table.now a.stack.now a.m c.requires.table.1.0 c.requires.table.1.1 h.1 in
-    record { table = (same.is_table, (same.deep, same.knows)); k_in_bounds = tail_inside a.t a.table.now table' k h.0 }
+    record { table = (same.is_table, (same.deep, same.knows)); k_in_bounds = tail_inside a.t a.table.now c.mark_head-met.new.table c.block_of-k.result.0 h.0 }
 
 pub returns-in-Head : goal.returns-in-Head
 returns-in-Head c pool =
-    let es : List ℕ = entries_in c.args.t c.args.table.now in
-    let k : ℕ = c.block_of-k.result.0 in
-    let target : target_of c.args.base.0 (length es) c.args.w ≡ pick (ltb k (length es)) (some k) none = c.block_of-k.ensures.target (length es) c.requires.base_bound.1 in
+    let k = c.block_of-k.result.0 in
+    let target = c.block_of-k.ensures.target _ c.requires.base_bound.1 in
     let h = c.in-Head.ensures in
     let a = c.args in
     came_to (came_pushed a.base.0 a.t pool a.table.now a.stack.now a.m k c.requires.table.1.1 h.0 h.1 c.push.ensures)
@@ -42,9 +35,8 @@ returns-in-Head c pool =
 
 pub returns-in-Tail : goal.returns-in-Tail
 returns-in-Tail c pool =
-    let es : List ℕ = entries_in c.args.t c.args.table.now in
-    let k : ℕ = c.block_of-k.result.0 in
-    let target : target_of c.args.base.0 (length es) c.args.w ≡ pick (ltb k (length es)) (some k) none = c.block_of-k.ensures.target (length es) c.requires.base_bound.1 in
+    let k = c.block_of-k.result.0 in
+    let target = c.block_of-k.ensures.target _ c.requires.base_bound.1 in
     let h = c.in-Tail.ensures in
     let a = c.args in
     let x = context_of a.base.0 pool a.stack.now in
@@ -54,9 +46,8 @@ returns-in-Tail c pool =
 
 pub returns-in-Other : goal.returns-in-Other
 returns-in-Other c pool =
-    let es : List ℕ = entries_in c.args.t c.args.table.now in
-    let k : ℕ = c.block_of-k.result.0 in
-    let target : target_of c.args.base.0 (length es) c.args.w ≡ pick (ltb k (length es)) (some k) none = c.block_of-k.ensures.target (length es) c.requires.base_bound.1 in
+    let k = c.block_of-k.result.0 in
+    let target = c.block_of-k.ensures.target _ c.requires.base_bound.1 in
     let h = c.in-Other.ensures in
     let a = c.args in
     came_to (came_same a.t a.table.now a.stack.now a.m c.requires.table.1.0 c.requires.table.1.1 h.1.1)

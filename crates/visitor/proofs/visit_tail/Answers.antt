@@ -1,17 +1,14 @@
 -- The object's start is found; the object is pushed if that is HEAD.
 -- Assumes nothing.
-use mathlib.Core.Path.{◌≡◌, sym, ap, ◌∙◌}
+use mathlib.Core.Path.{sym, ap, ◌∙◌}
 use native.Mathlib.Omega.{arith}
-use borrow.Author.Tests.{eqb-true, eqb-false}
-use Rattle.rules.specs.Entries.{HEAD}
-use Rattle.rules.specs.Tables.{entry_at}
 use Rattle.rules.specs.Planes.{entries_in}
 use Rattle.rules.specs.Marking.{State, marked, pushed}
 use Rattle.laws.proofs.Planes.{few_entries}
 use Rattle.laws.proofs.Tables.{start_says}
 use Rattle.laws.proofs.Marking.{head_inside}
 use Rattle.visitor.specs.Variables.{context_of, state_of}
-use Rattle.visitor.proofs.Pointing.{visit_takes, visit_stays}
+use Rattle.visitor.proofs.Pointing.{head_is, no_head, visit_takes, visit_stays}
 use Rattle.visitor.proofs.Stacking.{knows_either, state_remembers, came_to, came_pushed}
 use Rattle.visitor.proofs.visit_tail.Goals as goal
 
@@ -34,32 +31,30 @@ returns-then-not-is_head c base pool =
     record {
       is_table = c.requires.table.0;
       same = state_remembers a.t a.table.now a.stack.now a.m r.result h.result.0 a.k.0 r.ensures
-          ∙ sym (visit_stays (context_of base pool a.stack.now) (state_of a.t a.table.now a.stack.now a.m) a.k.0 h.result.0 h.ensures (eqb-false _ _ (sym c.is_head.ensures ∙ c.if-not-is_head.true)));
+          ∙ sym (visit_stays (context_of base pool a.stack.now) (state_of a.t a.table.now a.stack.now a.m) a.k.0 h.result.0 h.ensures (no_head _ c.is_head.ensures c.if-not-is_head.true));
       deep = rw r.ensures.depth c.requires.table.1.0;
       knows = knows_either (entries_in a.t a.table.now) a.m r.result h.result.0 a.k.0 c.requires.table.1.1 h.ensures r.ensures;
     }
 
 pub set_mark-requires : goal.set_mark-requires
 set_mark-requires c =
-    let head : entry_at (entries_in c.args.t c.args.table.now) c.start_of-head.result.0 ≡ HEAD = eqb-true _ _ (sym c.is_head.ensures ∙ c.if-not-is_head.false) in
+    let head = head_is _ c.is_head.ensures c.if-not-is_head.false in
     (c.requires.table.0, head)
 
 pub push-requires : goal.push-requires
 push-requires c =
-    let head : entry_at (entries_in c.args.t c.args.table.now) c.start_of-head.result.0 ≡ HEAD = eqb-true _ _ (sym c.is_head.ensures ∙ c.if-not-is_head.false) in
     let es = entries_in c.args.t c.args.table.now in
-    (rw c.remember-seen.ensures.depth c.requires.table.1.0, omega (arith, head_inside es _ head, few_entries c.args.t c.args.table.now c.requires.table.0))
+    (rw c.remember-seen.ensures.depth c.requires.table.1.0, omega (arith, head_inside es _ (head_is _ c.is_head.ensures c.if-not-is_head.false), few_entries c.args.t c.args.table.now c.requires.table.0))
 
 pub returns : goal.returns
 returns c base pool =
-    let head : entry_at (entries_in c.args.t c.args.table.now) c.start_of-head.result.0 ≡ HEAD = eqb-true _ _ (sym c.is_head.ensures ∙ c.if-not-is_head.false) in
+    let head = head_is _ c.is_head.ensures c.if-not-is_head.false in
     let a = c.args in
     let h = c.start_of-head in
     let r = c.remember-seen in
     let x = context_of base pool a.stack.now in
-    let first = head in
     came_to
-    (came_pushed base a.t pool a.table.now a.stack.now r.result h.result.0 (knows_either (entries_in a.t a.table.now) a.m r.result h.result.0 a.k.0 c.requires.table.1.1 h.ensures r.ensures) first
+    (came_pushed base a.t pool a.table.now a.stack.now r.result h.result.0 (knows_either (entries_in a.t a.table.now) a.m r.result h.result.0 a.k.0 c.requires.table.1.1 h.ensures r.ensures) head
     c.set_mark.ensures c.push.ensures)
     (ap (λ (s : State). pushed x h.result.0 (marked h.result.0 s)) (state_remembers a.t a.table.now a.stack.now a.m r.result h.result.0 a.k.0 r.ensures)
-    ∙ sym (visit_takes x (state_of a.t a.table.now a.stack.now a.m) a.k.0 h.result.0 h.ensures first))
+    ∙ sym (visit_takes x (state_of a.t a.table.now a.stack.now a.m) a.k.0 h.result.0 h.ensures head))
