@@ -5,7 +5,8 @@ use mathlib.Core.List.{List, ◌++◌}
 use Prim.Native.Nat.{ℕ, ◌+◌, ◌-◌, ◌*◌, ◌≤◌}
 use native.Mathlib.Omega.{arith}
 use lib.ListN.{length, take, drop, length-take}
-use Rattle.std.specs.Prelude.{Result, Ok, IfOk}
+use borrow.Author.Rules.{rules}
+use Rattle.std.specs.Prelude.{Result, Ok, Err, IfOk}
 use Rattle.std.specs.Result.{IsErrAnd}
 use Rattle.std.proofs.lemmas.Result.{err_from_is_err_and}
 use Rattle.rules.specs.Words.{word_at}
@@ -14,17 +15,19 @@ use Rattle.rules.specs.Refusals.{Test}
 use Rattle.rules.specs.Files.{Kind, one_base, table_bytes, root_words, Section as SectionOf, section_in, section_tests, File as FileOf, entries_for, used_in, file_of, fault_of}
 use Rattle.laws.proofs.Entries.{length_entries_of}
 use Rattle.laws.proofs.Tables.{used_le}
-use Rattle.laws.proofs.Sections.{LiesAt, Left, left_all, left_lies, left_next, from_table, from_blocks, from_roots, from_end}
+use Rattle.laws.proofs.Sections.{LiesAt, Left, left_all, left_fault, left_lies, left_next, from_table, from_blocks, from_roots, from_end}
 use Rattle.refusals.specs.declared.Refusal.{Refusal}
-use Rattle.refusals.specs.Codes.{code, refused_by}
+use Rattle.refusals.specs.Codes.{refused_by}
+use Rattle.refusals.proofs.Codes.{not_accepted}
 use Rattle.parser.specs.declared.Section.{Section}
 use Rattle.parser.specs.declared.File.{File}
 use Rattle.parser.specs.Reading.{Small, Reads, Says}
 
--- a fault is passed on, in place of a file
-pub faulty : (image : List ℕ) (answer : Result File Refusal) (fault : Refusal) → IsErrAnd answer (λ r. r ≡ fault) → code fault ≡ fault_of image
-    → (refused_by answer ≡ fault_of image) × IfOk answer (λ file. Says image file)
-faulty image answer fault h q = let p = err_from_is_err_and answer h in rw (p.1, p.2) (q, tt)
+-- a section with a fault: it is passed on, in place of a file
+pub faulty : {image bs : List ℕ} {at : ℕ} {fault : Refusal} (k : Kind) (us : List Test) (answer : Result File Refusal) → Left image (section_tests k bs ++ us) bs at
+    → Reads image at k (Err fault) → IsErrAnd answer (λ r. r ≡ fault) → (refused_by answer ≡ fault_of image) × IfOk answer (λ file. Says image file)
+faulty {fault = fault} k us answer l reads passed =
+    let p = err_from_is_err_and answer passed in rw (p.1, p.2) (left_fault k us l reads.fault (not_accepted fault), tt)
 
 -- a section s that was read from `at` on: where it lies, its count, the place behind it, and the tests that are left there
 record Behind (image : List ℕ) (k : Kind) (s : SectionOf) (at : ℕ) (us : List Test) (r : Section) : Type 0 where
@@ -40,17 +43,6 @@ behind {image} {bs} {at} {r} k us l small reads =
     let count : r.count ≡ (section_in k bs).count = rw l.here reads.count in
     let end : r.end ≡ at + 2 + k.size * (section_in k bs).count = rw (← count) reads.end in
     record { lies = left_lies k us l reads.fault small.wrong refl; count = count; end = end; left = rw end (left_next k us l reads.fault small.wrong refl) }
-
--- ---- the kinds are small
-
-small_base : Small one_base
-small_base = record { size = omega arith; most = omega arith; wrong = omega arith }
-
-pub small_table : Small table_bytes
-small_table = record { size = omega arith; most = omega arith; wrong = omega arith }
-
-pub small_roots : Small root_words
-small_roots = record { size = omega arith; most = omega arith; wrong = omega arith }
 
 -- ---- section by section
 
@@ -71,7 +63,7 @@ module _ (image : List ℕ) where
   pub base_known : {b : Section} → Reads image 0 one_base (Ok b) → Base b
   unfolding file_of
   base_known reads =
-      let b = behind one_base (from_table image) (left_all image) small_base reads in
+      let b = behind one_base (from_table image) (left_all image) (search rules) reads in
       let one : f.base.count ≡ 1 = omega (arith, b.lies.fewest, b.lies.most) in
       record {
         end = omega (arith, b.end, one);
@@ -92,7 +84,7 @@ module _ (image : List ℕ) where
   pub table_known : {b t : Section} → Base b → Reads image b.end table_bytes (Ok t) → Table t
   unfolding file_of
   table_known {b} {t} base reads =
-      let s = behind table_bytes (from_blocks image) base.left small_table reads in
+      let s = behind table_bytes (from_blocks image) base.left (search rules) reads in
       let end : t.end ≡ 8 + t.count = omega (arith, s.end, s.count, base.end) in
       let long : 1 * f.table.count ≡ t.end - 8 = omega (arith, end, s.count) in
       let place : b.end + 2 ≡ 8 = omega (arith, base.end) in
@@ -147,7 +139,7 @@ module _ (image : List ℕ) where
   pub roots_known : {t u w : Section} → Blocks t u → Reads image u.end root_words (Ok w) → Roots t w
   unfolding file_of
   roots_known {t} {u} blocks reads =
-      let s = behind root_words (from_end image) blocks.left small_roots reads in
+      let s = behind root_words (from_end image) blocks.left (search rules) reads in
       let place : u.end + 2 ≡ 12 + t.count + 16 * n = omega (arith, blocks.end) in
       record {
         count = s.count;

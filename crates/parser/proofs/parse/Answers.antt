@@ -5,13 +5,13 @@ use mathlib.Core.List.{List}
 use Prim.Native.Nat.{ℕ, ◌-◌}
 use native.Mathlib.Omega.{arith}
 use lib.ListN.{drop, length-take}
+use borrow.Author.Rules.{rules}
 use Rattle.rules.specs.Entries.{entries_of}
 use Rattle.rules.specs.Tables.{used}
 use Rattle.rules.specs.Files.{one_base, table_bytes, blocks_of, root_words, entries_for, used_in, file_of}
-use Rattle.laws.proofs.Sections.{left_all, left_fault, left_over_is, left_none, from_table, from_blocks, from_roots, from_end}
-use Rattle.refusals.proofs.Codes.{not_accepted}
+use Rattle.laws.proofs.Sections.{left_all, left_over_is, left_none, from_table, from_blocks, from_roots, from_end}
 use Rattle.parser.specs.Reading.{kind_by}
-use Rattle.parser.proofs.Parsing.{faulty, small_table, small_blocks, small_roots, Base, base_known, Table, table_known, Blocks, blocks_known, Roots, roots_known, file_says}
+use Rattle.parser.proofs.Parsing.{faulty, small_blocks, Base, base_known, Table, table_known, Blocks, blocks_known, Roots, roots_known, file_says}
 use Rattle.parser.proofs.parse.Goals as goal
 use Rattle.parser.proofs.parse.Goals.{After-table_bytes, In_ok-table, After-blocks-2, After-root_words, In_ok-roots}
 
@@ -40,21 +40,18 @@ roots c = roots_known _ (blocks (goal.at.In_ok-roots c).After-root_words) (rw c.
 -- ---- the base
 
 pub returns-in_err-base : goal.returns-in_err-base
-returns-in_err-base c =
-    let read = rw c.one_base.ensures at c.in_err-base.ensures in
-    faulty _ _ _ c.from_residual.ensures.1 (left_fault one_base (from_table _) (left_all _) read.fault (not_accepted _))
+returns-in_err-base c = faulty one_base (from_table _) _ (left_all _) (rw c.one_base.ensures at c.in_err-base.ensures) c.from_residual.ensures.1
 
 -- ---- the table
 
 pub section_at-requires-2 : goal.section_at-requires-2
 section_at-requires-2 c =
-    let b = base (goal.at.section_at-requires-2 c).After-table_bytes in (omega (arith, b.end, b.room), rw c.table_bytes.ensures small_table)
+    let b = base (goal.at.section_at-requires-2 c).After-table_bytes in (omega (arith, b.end, b.room), search rules)
 
 pub returns-in_err-table : goal.returns-in_err-table
 returns-in_err-table c =
-    let read = rw c.table_bytes.ensures at c.in_err-table.ensures in
     let b = base (goal.at.returns-in_err-table c).After-table_bytes in
-    faulty _ _ _ c.from_residual-in_err-table.ensures.1 (left_fault table_bytes (from_blocks _) b.left read.fault (not_accepted _))
+    faulty table_bytes (from_blocks _) _ b.left (rw c.table_bytes.ensures at c.in_err-table.ensures) c.from_residual-in_err-table.ensures.1
 
 -- ---- its used blocks
 
@@ -81,20 +78,18 @@ section_at-requires-3 c =
 pub returns-in_err-blocks : goal.returns-in_err-blocks
 returns-in_err-blocks c =
     let at = goal.at.returns-in_err-blocks c in
-    let read = rw (kind_is at.After-blocks-2) at c.in_err-blocks.ensures in
-    faulty _ _ _ c.from_residual-in_err-blocks.ensures.1
-    (left_fault (used_in (file_of c.args.image.now).table) (from_roots _) (table at.In_ok-table).left read.fault (not_accepted _))
+    let t = table at.In_ok-table in
+    faulty (used_in (file_of c.args.image.now).table) (from_roots _) _ t.left (rw (kind_is at.After-blocks-2) at c.in_err-blocks.ensures) c.from_residual-in_err-blocks.ensures.1
 
 -- ---- the roots
 
 pub section_at-requires-4 : goal.section_at-requires-4
-section_at-requires-4 c = ((blocks (goal.at.section_at-requires-4 c).After-root_words).room, rw c.root_words.ensures small_roots)
+section_at-requires-4 c = ((blocks (goal.at.section_at-requires-4 c).After-root_words).room, search rules)
 
 pub returns-in_err-roots : goal.returns-in_err-roots
 returns-in_err-roots c =
-    let read = rw c.root_words.ensures at c.in_err-roots.ensures in
     let b = blocks (goal.at.returns-in_err-roots c).After-root_words in
-    faulty _ _ _ c.from_residual-in_err-roots.ensures.1 (left_fault root_words (from_end _) b.left read.fault (not_accepted _))
+    faulty root_words (from_end _) _ b.left (rw c.root_words.ensures at c.in_err-roots.ensures) c.from_residual-in_err-roots.ensures.1
 
 -- ---- the end
 
