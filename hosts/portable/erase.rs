@@ -1016,23 +1016,31 @@ impl<'a> Parser<'a> {
         Ok(())
     }
 
-    /// VALUE as NUMBER. A cast to usize is exact if the number is compared with one just before: if NAME < LIMIT as u64 { NAME as usize,
-    /// where only names of functions may stand before the cast.
+    /// VALUE as NUMBER. A cast to usize of more than 32 bits is exact if the number is held to a limit just before:
+    /// if NAME < LIMIT as u64 { NAME as usize, where only names of functions may stand before the cast, or
+    /// VALUE.min(LIMIT) as usize, where the limit is a constant.
     fn cast(&mut self) -> Result<()> {
         let (end, value) = (self.tokens[self.at - 1].to, self.before());
         let is_function = |token: &Token| is_name(token.text) || ["::", "("].contains(&token.text);
         let begin = self.tokens[..self.at].iter().rposition(|token| !is_function(token)).map_or(0, |i| i + 1);
-        let words: Vec<&str> = self.tokens[begin.saturating_sub(7)..begin].iter().map(|token| token.text).collect();
-        let call = match words[..] {
-            ["if", name, "<", limit, "as", "u64", "{"] if name == value && is_name(limit) => format!(").below({limit})"),
-            _ => ").small()".to_string(),
+        let texts = |tokens: &[Token<'a>]| tokens.iter().map(|token| token.text).collect::<Vec<_>>();
+        let before = texts(&self.tokens[begin.saturating_sub(7)..begin]);
+        let (open, close) = match (&before[..], &texts(&self.tokens[self.at - 5..self.at])[..]) {
+            (["if", name, "<", limit, "as", "u64", "{"], _) if *name == value && is_name(limit) => {
+                ("(".to_string(), format!(").below({limit})"))
+            }
+            (_, [".", "min", "(", limit, ")"]) if is_capital(limit) => {
+                let test = format!("const _: () = assert!({limit} <= u32::MAX as u64);");
+                (format!("({{ {test} ("), format!(").below({limit} as usize) }})"))
+            }
+            _ => ("(".to_string(), ").small()".to_string()),
         };
         let from = self.tokens[self.value()].from;
         self.form("as NUMBER")?;
         if self.before() == "usize" {
             let to = self.tokens[self.at - 1].to;
-            self.calls.push((from, from, "(".to_string()));
-            self.calls.push((end, to, call + &line_ends(&self.source.text[end..to])));
+            self.calls.push((from, from, open));
+            self.calls.push((end, to, close + &line_ends(&self.source.text[end..to])));
         }
         Ok(())
     }

@@ -10,7 +10,7 @@ const _: () = assert!(usize::BITS >= 32);
 use core::slice::{from_raw_parts, from_raw_parts_mut};
 
 // With `--cfg casts`, casts to usize are calls of `small`, which only the numbers have that any usize holds, or of `below`, for a
-// number that was compared with a usize just before. What is shifted or inverted, and what is added or multiplied in a closure,
+// number that is held to a limit just before. What is shifted or inverted, and what is added or multiplied in a closure,
 // goes through `fixed`, which takes only what has the same width on every host; so does what `fixed_sum` adds. And what
 // counts items in a usize is called behind `short`, which only the iterators have that come to an end where every usize can count.
 #[cfg(casts)]
