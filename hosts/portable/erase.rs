@@ -38,9 +38,9 @@ const FUNCTIONS: [&str; 4] =
     ["std::cmp::max(", "std::cmp::min(", "std::num::wrapping_add_u32(", "std::num::wrapping_sub_u32("];
 /// The methods of Rust's own numbers, slices, options, results and iterators. None shows how wide a usize is.
 const METHODS: [&str; 33] = [
-    "all", "and_then", "any", "chunks_exact", "copy_from_slice", "copy_within", "div_ceil", "fill", "filter", "first",
-    "get", "into", "is_empty", "is_err", "is_none", "is_ok", "is_some", "iter", "iter_mut", "len", "map", "map_err", "map_or",
-    "max", "min", "ok_or", "rev", "saturating_sub", "split_at", "split_at_mut", "take_while", "unwrap_or", "zip",
+    "all", "and_then", "any", "chunks_exact", "copy_from_slice", "copy_within", "div_ceil", "fill", "filter", "first", "get",
+    "into", "is_empty", "is_err", "is_none", "is_ok", "is_some", "iter", "iter_mut", "len", "map", "map_err", "map_or", "max",
+    "min", "ok_or", "rev", "saturating_sub", "split_at", "split_at_mut", "take_while", "unwrap_or", "zip",
 ];
 /// Those that count in a usize. A call before them takes only iterators of so few items that any usize counts them.
 const COUNTING: [&str; 3] = ["count", "enumerate", "position"];
@@ -48,12 +48,12 @@ const COUNTING: [&str; 3] = ["count", "enumerate", "position"];
 const SUM: &str = "sum";
 /// The names of Rust's own library that begin with a capital. Of its traits a type may be given one.
 const CAPITALS: [&str; 14] = [
-    "Clone", "Copy", "Eq", "Err", GIVEN, MODEL, "None", "Ok", "Option", "Ord", "PartialEq", "PartialOrd", "Result",
-    "Some",
+    "Clone", "Copy", "Eq", "Err", GIVEN, MODEL, "None", "Ok", "Option", "Ord", "PartialEq", "PartialOrd", "Result", "Some",
 ];
 const GIVEN: &str = "From";
 /// The trait of Rattle that has only ghost members.
 const MODEL: &str = "Model";
+const MODEL_USE: &str = "use std::marker::Model;";
 /// The words of the language that may stand anywhere in a body, and the one that stands for no name.
 const WORDS_IN_BODIES: [&str; 17] = [
     "Self", "_", "break", "continue", "else", "false", "for", "if", "in", "let", "loop", "match", "mut", "return", "self", "true",
@@ -86,7 +86,7 @@ const CLOSING: [&str; 5] = [")", "]", "}", ",", ";"];
 /// How ghost texts begin, and the signs that end them outside of brackets of that kind, or of braces. A clause begins with one
 /// of two words.
 const GHOST: [(&str, &str); 6] = [
-    ("ghost ", ";,"), ("pub ghost ", ";,"), ("use std::marker::Model;", ";"), ("#![tactic(", "]"), ("#[tactic(", "]"), (EXPORT, "]"),
+    ("ghost ", ";,"), ("pub ghost ", ";,"), (MODEL_USE, ";"), ("#![tactic(", "]"), ("#[tactic(", "]"), (EXPORT, "]"),
 ];
 const CLAUSES: [&str; 2] = ["requires ", "ensures "];
 const EXPORT: &str = "#[unsafe(no_mangle)]";
@@ -130,10 +130,9 @@ fn erase_project(project: &Path, out: &Path) -> Result<()> {
     Ok(())
 }
 
-/// A method is a function of the source, or one that is listed.
+/// A method is a function of the source that takes `self`, or one that is listed.
 fn check_methods(crates: &[Parser]) -> Result<()> {
-    let pairs = crates.iter().flat_map(|parser| parser.tokens.windows(2));
-    let own: Vec<&str> = pairs.filter(|pair| pair[0].text == "fn").map(|pair| pair[1].text).collect();
+    let own: Vec<&str> = crates.iter().flat_map(|parser| parser.methods.iter().copied()).collect();
     let is_unknown = |call: &&[Token]| {
         let name = call[1].text;
         call[0].text == "." && ["(", "::"].contains(&call[2].text) && !own.contains(&name) && !is_listed_method(name)
@@ -378,7 +377,7 @@ fn is_clause(text: &str) -> bool {
 }
 
 fn is_ghost_use(text: &str) -> bool {
-    text.starts_with("ghost use ") || text.starts_with("use ")
+    text.starts_with("ghost use ") || text == MODEL_USE
 }
 
 /// Whether it is `ghost NAME`, with a type or a value in braces or both, up to the sign that ends a member or a field.
@@ -413,6 +412,8 @@ struct Parser<'a> {
     entries: Vec<String>,
     /// The names that begin with a capital and are declared here.
     capitals: Vec<&'a str>,
+    /// The names of the functions that take `self`.
+    methods: Vec<&'a str>,
     traits: Vec<Trait<'a>>,
     /// The traits that Rust's own types are given, each with the type.
     given: Vec<(&'a str, &'a str)>,
@@ -430,8 +431,9 @@ impl<'a> Parser<'a> {
     /// The whole source, parsed.
     fn of(source: &'a Crate) -> Result<Parser<'a>> {
         let (tokens, erased, calls, entries) = (source.tokens()?, vec![], vec![], vec![]);
-        let (capitals, traits, given, closures) = (vec![], vec![], vec![], vec![]);
-        let mut parser = Parser { source, tokens, at: 0, erased, calls, entries, capitals, traits, given, closures };
+        let (capitals, methods, traits, given, closures) = (vec![], vec![], vec![], vec![], vec![]);
+        let mut parser =
+            Parser { source, tokens, at: 0, erased, calls, entries, capitals, methods, traits, given, closures };
         while !parser.text().is_empty() {
             parser.item()?;
         }
@@ -583,12 +585,16 @@ impl<'a> Parser<'a> {
     }
 
     fn constant(&mut self) -> Result<()> {
+        self.constant_and_type()?;
+        self.form("=")?;
+        self.up_to(";")
+    }
+
+    fn constant_and_type(&mut self) -> Result<()> {
         self.form("const")?;
         self.declare()?;
         self.form(":")?;
-        self.kind()?;
-        self.form("=")?;
-        self.up_to(";")
+        self.kind()
     }
 
     // ---- Types
@@ -669,7 +675,8 @@ impl<'a> Parser<'a> {
     /// The fields of a struct or a variant, to the brace behind them.
     fn fields(&mut self) -> Result<()> {
         while !self.accept("}") {
-            if is_ghost_member(self.text().trim_start_matches("pub "), ',') {
+            let text = self.text();
+            if is_ghost_member(text.strip_prefix("pub ").unwrap_or(text), ',') {
                 self.erase();
                 continue;
             }
@@ -687,7 +694,7 @@ impl<'a> Parser<'a> {
         self.declare()?;
         self.generics()?;
         self.form("{")?;
-        let mut least = 0;
+        let mut least: u64 = 0;
         while !self.accept("}") {
             self.form("CAPITAL")?;
             self.capitals.push(self.before());
@@ -697,7 +704,7 @@ impl<'a> Parser<'a> {
                 self.fields()?;
             } else if self.accept("=") {
                 match self.text().parse::<u32>() {
-                    Ok(number) if number >= least => least = number,
+                    Ok(number) if u64::from(number) >= least => least = number.into(),
                     _ => return self.refuse("where only a number that is above the last is known"),
                 }
                 self.at += 1;
@@ -721,10 +728,7 @@ impl<'a> Parser<'a> {
             }
             let is_function = self.function_attributes();
             if self.text() == "const" && !is_function {
-                self.form("const")?;
-                self.declare()?;
-                self.form(":")?;
-                self.kind()?;
+                self.constant_and_type()?;
                 self.form(";")?;
                 continue;
             }
@@ -742,10 +746,13 @@ impl<'a> Parser<'a> {
         let first = self.at;
         self.form("impl")?;
         self.generics()?;
-        let name = self.text();
+        let (name, parameters) = (self.text(), first..self.at);
         self.kind()?;
         let is_given = self.accept("for");
         if is_given {
+            if self.tokens[parameters].iter().any(|token| token.text == self.text()) {
+                return self.refuse("a parameter, which is any type");
+            }
             self.given(name)?;
         }
         self.form("{")?;
@@ -820,7 +827,9 @@ impl<'a> Parser<'a> {
         let name = self.before();
         self.generics()?;
         self.form("(")?;
-        self.receiver();
+        if self.receiver() {
+            self.methods.push(name);
+        }
         while !self.accept(")") {
             self.parameter()?;
         }
@@ -831,18 +840,20 @@ impl<'a> Parser<'a> {
         Ok(name)
     }
 
-    /// `self` in one of its forms, if it is there.
-    fn receiver(&mut self) {
+    /// Accepts `self` in one of its forms.
+    fn receiver(&mut self) -> bool {
         let first = self.at;
         if self.accept("&") {
             self.accept_lifetime();
         }
         self.accept("mut");
-        if self.accept("self") {
+        let found = self.accept("self");
+        if found {
             self.accept(",");
         } else {
             self.at = first;
         }
+        found
     }
 
     /// Its name and its type.
@@ -922,6 +933,7 @@ impl<'a> Parser<'a> {
         if CLOSING.contains(&text) {
             self.closures.retain(|closure| *closure < depth);
         }
+        let in_closure = !self.closures.is_empty();
         match text {
             "as" => return self.cast(),
             ":" if ["let", "mut"].contains(&self.tokens[self.at - 2].text) => {
@@ -936,8 +948,9 @@ impl<'a> Parser<'a> {
             }
             "|" if !follows_value => return self.closure(),
             "<<" | ">>" => self.hold(self.operand(), self.at),
-            "+" | "*" if follows_value && !self.closures.is_empty() => self.hold(self.operand(), self.at),
-            "+=" if !self.closures.is_empty() => self.refuse("in a closure"),
+            "+=" if in_closure => self.refuse("in a closure"),
+            "*" if in_closure && before == "}" => self.refuse("behind a brace in a closure"),
+            "+" | "*" if in_closure && (text == "+" || follows_value) => self.hold(self.operand(), self.at),
             "." => self.method(next),
             "!" if before == "matches" && next == "(" => Ok(()),
             "!" if is_name(before) => self.refuse("a macro"),
