@@ -1,11 +1,9 @@
 // Objects in the allocation table, and the search for room.
 #![tactic(auto)]
 
-ghost use Rattle.std.specs.Prelude.{◌≡◌, ◌+◌, ◌≤◌, ◌<◌, leb, length, MatchOption};
+ghost use Rattle.std.specs.Prelude.{◌≡◌, ◌+◌, ◌≤◌, ◌<◌, leb, length};
 ghost use Rattle.rules.specs.Tables.{block_count, free_from, first_fit, grows_in_place, placed, released, extended};
 ghost use Rattle.rules.specs.Planes.{entries_in, IsTable, Holds};
-ghost use Rattle.laws.specs.Meaning.{Run};
-ghost use Rattle.table.specs.Runs.{UsedAt};
 ghost use Rattle.numbers.specs.Places.{found};
 
 use entries::Entry;
@@ -52,36 +50,26 @@ pub fn grows_in_place(t: usize, table: &[u8], k: Block, old: usize, new: usize) 
     is_free(t, table, k.plus(old), new - old)
 }
 
-// The first of the count blocks from `start` on that is not FREE, by how many are before it. It goes on by as many blocks as are found FREE at once.
-fn first_used(t: usize, table: &[u8], start: Block, count: usize) -> Option<usize>
-    requires { IsTable t table.now × (start.0 + count ≤ length (entries_in t table.now)) }
-    ensures { MatchOption result (Run (entries_in t table.now) count start.0) (UsedAt (entries_in t table.now) count start.0) }
-{
-    let mut i = 0;
-    while i < count {
-        let ahead = search::free_from(t, table, start.plus(i));
-        i += ahead.free;
-        if ahead.ended {
-            if i < count {
-                return Some(i);
-            }
-        }
-    }
-    None
-}
-
-// The lowest block at which count blocks may start.
+// The lowest block at which count blocks may start. No range counts the blocks of a run: it goes on by as many as are found FREE at once.
 pub fn first_fit(t: usize, table: &[u8], count: usize) -> Option<Block>
     requires { IsTable t table.now × (0 < count) }
     ensures { found result ≡ first_fit (entries_in t table.now) count }
 {
     let n = entries::blocks(t);
     let mut start = search::next(t, table, Block::first(), count);
-    while count <= start.until(n) {
-        let Some(i) = first_used(t, table, start, count) else {
-            return Some(start);
-        };
-        start = search::next(t, table, start.plus(i + 1), count);
+    'starts: while count <= start.until(n) {
+        let mut i = 0;
+        while i < count {
+            let ahead = search::free_from(t, table, start.plus(i));
+            i += ahead.free;
+            if ahead.ended {
+                if i < count {
+                    start = search::next(t, table, start.plus(i + 1), count);
+                    continue 'starts;
+                }
+            }
+        }
+        return Some(start);
     }
     None
 }
