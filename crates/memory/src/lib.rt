@@ -36,13 +36,21 @@ pub fn two_bytes(bytes: &[u8], at: usize) -> usize
     usize::from(u16::from_le_bytes([bytes[at], bytes[at + 1]]))
 }
 
+// The N bytes from `at` on become these.
+fn set_bytes<const N: usize>(bytes: &mut [u8], at: usize, these: [u8; N])
+    requires { at + N ≤ length bytes.old }
+    ensures { bytes.new ≡ sets bytes.old at these.entry }
+{
+    bytes[at..at + N].copy_from_slice(&these);
+}
+
 // The two bytes from `at` on become the two lowest of n, the lowest first.
 pub fn set_two_bytes(bytes: &mut [u8], at: usize, n: usize)
     requires { at + 2 ≤ length bytes.old }
     ensures { bytes.new ≡ sets bytes.old at (two_bytes_of n) }
 {
     let low = (n % 65536) as u16;
-    bytes[at..at + 2].copy_from_slice(&low.to_le_bytes());
+    set_bytes(bytes, at, low.to_le_bytes());
 }
 
 // The four bytes from `at` on become those of w, the lowest first.
@@ -50,7 +58,7 @@ pub fn set_four_bytes(bytes: &mut [u8], at: usize, w: u32)
     requires { at + 4 ≤ length bytes.old }
     ensures { bytes.new ≡ sets bytes.old at (bytes_of w) }
 {
-    bytes[at..at + 4].copy_from_slice(&w.to_le_bytes());
+    set_bytes(bytes, at, w.to_le_bytes());
 }
 
 // w becomes word i.
@@ -172,7 +180,7 @@ pub fn clear_part(pool: &mut [u8], start: Bytes, end: Bytes)
 }
 
 // The count bytes from `from` on are copied to `to`. The two parts do not overlap.
-// Byte by byte: `copy_within` would be a call of `memmove`, and the library calls nothing but `memset`.
+// Byte by byte: `copy_within` would be a call of `memmove`, and the library calls nothing but `memset` (README).
 pub fn copy(pool: &mut [u8], from: Bytes, to: Bytes, count: Bytes)
     requires count_in_bounds { (from.0 + count.0 ≤ length pool.old) × (to.0 + count.0 ≤ length pool.old) }
     requires apart { (from.0 + count.0 ≤ to.0) ⊎ (to.0 + count.0 ≤ from.0) }
@@ -186,7 +194,7 @@ pub fn copy(pool: &mut [u8], from: Bytes, to: Bytes, count: Bytes)
 }
 
 // The bytes from `at` on become those of the part.
-// Byte by byte: `copy_from_slice` would be a call of `memcpy`, and the library calls nothing but `memset`.
+// Byte by byte: `copy_from_slice` would be a call of `memcpy`, and the library calls nothing but `memset` (README).
 pub fn set_part(bytes: &mut [u8], at: usize, part: &[u8])
     requires { at + length part.now ≤ length bytes.old }
     ensures { bytes.new ≡ sets bytes.old at part.now }

@@ -13,7 +13,7 @@ ghost use Rattle.transfer.specs.Copying.{lanes, Inside, blocks_in, group_in, wit
 use numbers::{Block, Bytes};
 
 // 64 blocks that are all used.
-const ALL: u64 = 18446744073709551615;
+const ALL: u64 = u64::MAX;
 
 // Where the bytes of block 64 * i + j start.
 fn block_offset(i: usize, j: usize) -> Bytes
@@ -25,7 +25,7 @@ fn block_offset(i: usize, j: usize) -> Bytes
 
 // A block's 16 bytes are copied. All are read before the first is written: so the compiler moves them at once. They are one part of the source and of the target,
 // which the caller cuts out: where indices are checked at run time, the compiler then knows both lengths, and the copy has no other check.
-// Word by word: `copy_from_slice` would be a call of `memcpy`, and the library calls nothing but `memset`.
+// Word by word: `copy_from_slice` would be a call of `memcpy`, and the library calls nothing but `memset` (README).
 fn copy_block(block: &[u8], to: &mut [u8])
     requires { (length block.now ≡ 16) × (length to.old ≡ 16) }
     ensures { to.new ≡ block.now }
@@ -53,7 +53,8 @@ fn copy_run(source: &[u8], target: &mut [u8])
 }
 
 // Of the 64 blocks from block 64 * i on, those that have a bit in `used` are copied, from `at` on. Returns the place behind them. The lowest bit that is left goes with each
-// turn, by a difference: a shift by j would have the next turn wait for j. (Nothing in core goes over the bits of a number.)
+// turn, by a difference: a shift by j would have the next turn wait for j.
+// A `while`, since no iterator of core goes over the bits of a number.
 fn copy_group(pool: &[u8], i: usize, used: u64, image: &mut [u8], at: usize) -> usize
     requires { (i < 64) × ((at + length (blocks_in pool.now i used) ≤ length image.old) × Inside pool.now i used) }
     ensures { (image.new ≡ sets image.old at (blocks_in pool.now i used)) × (result ≡ at + length (blocks_in pool.now i used)) }
@@ -85,6 +86,7 @@ pub fn gather(t: usize, pool: &[u8], table: &[u8], image: &mut [u8], at: usize)
 }
 
 // Of the 64 blocks from block 64 * i on, those that have a bit in `used` get the next blocks of the bytes, of which `passed` come before. Returns how many are passed then.
+// A `while`, as in `copy_group`.
 fn place_group(bytes: &[u8], passed: usize, i: usize, used: u64, pool: &mut [u8]) -> usize
     requires i_bound { (i < 64) × ((passed + used_of (lanes used) ≤ 4096) × (16 * (passed + used_of (lanes used)) ≤ length bytes.now)) }
     requires inside { Inside pool.old i used }
