@@ -49,17 +49,18 @@ one_more bytes at next n r e small has j = go (ltb j 8) refl (ltb j (8 * suc n))
         let up : bit_of (r * 256 + b) j ≡ bit_of r (j - 8) = rw i at (joined_high b r 8 (j - 8) small) in
         up ∙ above past y q
 
--- past the end each bit is 0
-pub past_bytes : (bytes : List ℕ) (at n : ℕ) → length bytes ≤ at → BitsFrom bytes at n 0
+-- the bytes that are left, and past them each bit is 0
+pub to_the_end : (bytes : List ℕ) (at n r : ℕ) → at ≤ length bytes → length bytes ≤ at + n → BitsFrom bytes at (length bytes - at) r → BitsFrom bytes at n r
 unfolding bit_at
-past_bytes bytes at n past j = rw (bit_of_zero j, get_or-eq_default bytes 0 (at_least j)) (go (ltb j (8 * n)))
+to_the_end bytes at n r inside few has j = has j ∙ go (ltb j (8 * (length bytes - at))) refl (ltb j (8 * n)) refl
   where
-    at_least : (j : ℕ) → length bytes ≤ (8 * at + j) / 8
-    at_least j = omega arith
-
-    go : (x : Bool) → 0 ≡ pick x (bit_of 0 ((8 * at + j) % 8)) 0
-    go true = sym (bit_of_zero ((8 * at + j) % 8))
-    go false = refl
+    go : (x : Bool) → ltb j (8 * (length bytes - at)) ≡ x → (y : Bool) → ltb j (8 * n) ≡ y → pick x (bit_at bytes (8 * at + j)) 0 ≡ pick y (bit_at bytes (8 * at + j)) 0
+    go true l true q = refl
+    go true l false q = absurd (omega (arith, ltb-true j (8 * (length bytes - at)) l, ltb-false j (8 * n) q))
+    go false l true q =
+        let past : length bytes ≤ (8 * at + j) / 8 = omega (arith, ltb-false j (8 * (length bytes - at)) l) in
+        rw (get_or-eq_default bytes 0 past) (sym (bit_of_zero ((8 * at + j) % 8)))
+    go false l false q = refl
 
 -- all bytes
 module _ (bytes : List ℕ) (small : (i : ℕ) → get_or bytes i 0 < 256) where

@@ -149,13 +149,13 @@ pub fn bits<W: FromBytes>(bytes: &[u8], at: usize) -> W
     W::from_part(&bytes[at..end])
 }
 
-// The same where the bytes end before. Past their end each bit is 0.
-pub fn last_bits<W: FromBytes>(bytes: &[u8], at: usize) -> W
-    requires { (at ≤ length bytes.now) × (length bytes.now ≤ at + W.BYTES) }
-    ensures { BitsFrom bytes.now at W.BYTES (W.value result) }
+// The same of the bytes from `from` to before `to`, which are at most as many. The other bits are 0.
+pub fn last_bits<W: FromBytes>(bytes: &[u8], from: usize, to: usize) -> W
+    requires { (from ≤ to) × ((to ≤ from + W.BYTES) × (to ≤ length bytes.now)) }
+    ensures { BitsFrom bytes.now from (to - from) (W.value result) }
 {
     let mut bits = W::zero();
-    for i in (at..bytes.len()).rev() {
+    for i in (from..to).rev() {
         bits = bits.above(bytes[i]);
     }
     bits

@@ -1,10 +1,12 @@
 -- `last_words`: the last bytes of each plane, and no bits behind them.
 -- Assumes nothing.
 use mathlib.Core.Path.{◌≡◌, ap}
-use Prim.Native.Nat.{ℕ, ◌*◌}
+use Prim.Native.Nat.{ℕ, ◌+◌, ◌*◌, ◌≤◌}
 use native.Mathlib.Omega.{arith}
+use lib.ListN.{length}
 use borrow.Author.Rules.{rules}
 use Rattle.laws.proofs.Widths.{in_slice}
+use Rattle.memory.proofs.Reading.{to_the_end}
 use Rattle.entries.proofs.Cut.{in_parts}
 use Rattle.entries.proofs.last_words.Goals as goal
 
@@ -17,4 +19,9 @@ pub returns : goal.returns
 returns g c =
     let a = c.args in
     let n = c.BYTES.ensures in
-    in_parts g.W.FromBytes.BYTES a.lows.now a.highs.now a.i _ _ (rw n at c.last_bits.ensures) (rw n at c.last_bits-2.ensures)
+    let w = g.W.FromBytes.BYTES in
+    let left : w * a.i ≤ length a.highs.now = omega (arith, c.requires.0, c.requires.1.1) in
+    let few : length a.highs.now ≤ w * a.i + w = omega (arith, c.requires.1.0, c.requires.1.1) in
+    in_parts w a.lows.now a.highs.now a.i _ _
+    (to_the_end a.lows.now (w * a.i) w _ c.requires.0 c.requires.1.0 (rw n at c.last_bits.ensures))
+    (to_the_end a.highs.now (w * a.i) w _ left few (rw n at c.last_bits-2.ensures))

@@ -134,54 +134,71 @@ overflow_add-end c =
     in_32_bits (record { fits = omega arith })
 
 pub loop-i-init : goal.loop-i-init
-loop-i-init c = none_filled _ _ _ _ _
+loop-i-init c = record { begun = omega arith; not_past = omega arith; filled = none_filled _ _ _ _ _ }
 
 pub bounds-table-i : goal.bounds-table-i
 bounds-table-i c =
-    let r = room _ _ _ _ _ _ _ c.requires.0 c.requires.1 c.index-first.ensures c.plane_bytes-half.ensures c.loop-i.invariant.long in
+    let r = room _ _ _ _ _ _ _ c.requires.0 c.requires.1 c.index-first.ensures c.plane_bytes-half.ensures c.loop-i.invariant.filled.long in
     omega arith
 
 pub overflow_add-half : goal.overflow_add-half
 overflow_add-half c =
-    let r = room _ _ _ _ _ _ _ c.requires.0 c.requires.1 c.index-first.ensures c.plane_bytes-half.ensures c.loop-i.invariant.long in
+    let r = room _ _ _ _ _ _ _ c.requires.0 c.requires.1 c.index-first.ensures c.plane_bytes-half.ensures c.loop-i.invariant.filled.long in
     in_32_bits (record { fits = omega arith })
 
 pub overflow_add-table : goal.overflow_add-table
 overflow_add-table c =
-    let r = room _ _ _ _ _ _ _ c.requires.0 c.requires.1 c.index-first.ensures c.plane_bytes-half.ensures c.loop-i.invariant.long in
+    let r = room _ _ _ _ _ _ _ c.requires.0 c.requires.1 c.index-first.ensures c.plane_bytes-half.ensures c.loop-i.invariant.filled.long in
     in_32_bits (record { fits = omega arith })
 
 pub span-bits-requires : goal.span-bits-requires
 span-bits-requires c =
-    let r = room _ _ _ _ _ _ _ c.requires.0 c.requires.1 c.index-first.ensures c.plane_bytes-half.ensures c.loop-i.invariant.long in
-    (omega arith, (omega arith, omega (arith, c.div_ceil-i-end.ensures)))
+    let r = room _ _ _ _ _ _ _ c.requires.0 c.requires.1 c.index-first.ensures c.plane_bytes-half.ensures c.loop-i.invariant.filled.long in
+    (omega arith, (c.loop-i.invariant.begun, omega arith))
 
 pub bounds-table-i-in-loop-i : goal.bounds-table-i-in-loop-i
 bounds-table-i-in-loop-i c =
-    let r = room _ _ _ _ _ _ _ c.requires.0 c.requires.1 c.index-first.ensures c.plane_bytes-half.ensures c.loop-i.invariant.long in
+    let r = room _ _ _ _ _ _ _ c.requires.0 c.requires.1 c.index-first.ensures c.plane_bytes-half.ensures c.loop-i.invariant.filled.long in
     omega arith
 
 pub bounds-table-half : goal.bounds-table-half
 bounds-table-half c =
-    let r = room _ _ _ _ _ _ _ c.requires.0 c.requires.1 c.index-first.ensures c.plane_bytes-half.ensures c.loop-i.invariant.long in
+    let r = room _ _ _ _ _ _ _ c.requires.0 c.requires.1 c.index-first.ensures c.plane_bytes-half.ensures c.loop-i.invariant.filled.long in
     simp length-set (omega arith)
 
 pub bounds-table-half-in-loop-i : goal.bounds-table-half-in-loop-i
 bounds-table-half-in-loop-i c =
-    let r = room _ _ _ _ _ _ _ c.requires.0 c.requires.1 c.index-first.ensures c.plane_bytes-half.ensures c.loop-i.invariant.long in
+    let r = room _ _ _ _ _ _ _ c.requires.0 c.requires.1 c.index-first.ensures c.plane_bytes-half.ensures c.loop-i.invariant.filled.long in
     simp length-set (omega arith)
+
+pub overflow_mul-i : goal.overflow_mul-i
+overflow_mul-i c =
+    let r = room _ _ _ _ _ _ _ c.requires.0 c.requires.1 c.index-first.ensures c.plane_bytes-half.ensures c.loop-i.invariant.filled.long in
+    in_32_bits (record { fits = omega arith })
+
+pub overflow_add-i : goal.overflow_add-i
+overflow_add-i c =
+    let r = room _ _ _ _ _ _ _ c.requires.0 c.requires.1 c.index-first.ensures c.plane_bytes-half.ensures c.loop-i.invariant.filled.long in
+    in_32_bits (record { fits = omega arith })
+
+pub loop-i-smaller : goal.loop-i-smaller
+loop-i-smaller c = omega arith
 
 pub loop-i-preserved : goal.loop-i-preserved
 loop-i-preserved c =
-    let r = room _ _ _ _ _ _ _ c.requires.0 c.requires.1 c.index-first.ensures c.plane_bytes-half.ensures c.loop-i.invariant.long in
+    let r = room _ _ _ _ _ _ _ c.requires.0 c.requires.1 c.index-first.ensures c.plane_bytes-half.ensures c.loop-i.invariant.filled.long in
     let half = c.plane_bytes-half.ensures in
-    rw half
-    (turn c.args.t c.args.table.now c.loop-i.table (number_of c.args.e) c.index-first.result _ c.loop-i.i _ _ c.span-bits.result
-    c.requires.0.sized.long (omega (arith, half, r.ends)) (omega arith) c.span-bits.ensures (rw (tag_is c.args.e) at c.with_bits.ensures)
-    (rw (half, tag_is c.args.e) at c.with_bits-in-loop-i.ensures) c.loop-i.invariant)
+    record {
+      begun = omega arith;
+      not_past = omega arith;
+      filled = rw half
+          (turn c.args.t c.args.table.now c.loop-i.table (number_of c.args.e) c.index-first.result _ c.loop-i.i _ _ c.span-bits.result
+          c.requires.0.sized.long (omega (arith, half, r.ends)) (omega arith) c.span-bits.ensures (rw (tag_is c.args.e) at c.with_bits.ensures)
+          (rw (half, tag_is c.args.e) at c.with_bits-in-loop-i.ensures) c.loop-i.invariant.filled);
+    }
 
 pub returns : goal.returns
 returns c =
     let f = c.index-first in
-    let to : min (f.result + c.args.count) (8 * c.loop-i.i) ≡ f.result + c.args.count = omega (arith, c.div_ceil-i-end.ensures) in
-    all_filled c.args.t c.args.table.now c.args.from.0 c.args.count (number_of c.args.e) _ c.requires.0 c.requires.1 (rw (to, f.ensures) at c.loop-i.invariant)
+    let to : min (f.result + c.args.count) (8 * c.loop-i.i) ≡ f.result + c.args.count = omega arith in
+    all_filled c.args.t c.args.table.now c.args.from.0 c.args.count (number_of c.args.e) _ c.requires.0 c.requires.1 (rw (to, f.ensures) at c.loop-i.invariant.filled)

@@ -2,7 +2,7 @@
 -- Assumes nothing.
 use mathlib.Core.Path.{◌≡◌}
 use mathlib.Core.List.{List}
-use Prim.Native.Nat.{ℕ, ◌*◌, ◌≤◌, ◌<◌, min}
+use Prim.Native.Nat.{ℕ, ◌+◌, ◌-◌, ◌*◌, ◌≤◌, ◌<◌, min}
 use lib.ListN.{length}
 use Rattle.rules.specs.Planes.{plane_bytes, entry_in}
 use Rattle.entries.specs.Numbers.{number_of}
@@ -15,4 +15,11 @@ pub record Filled (t : ℕ) (start : List ℕ) (e first to : ℕ) (table : List 
   pub old : (k : ℕ) → (first ≤ k → k < to → ⊥) → k < 8 * plane_bytes t → entry_in t table k ≡ entry_in t start k
 
 abbrev pub invariant-loop-i : goal.invariant-loop-i
-invariant-loop-i l = Filled l.t l.initial.table (number_of l.e) l.first (min l.end (8 * l.i)) l.table
+invariant-loop-i l = record {
+  begun : l.first < 8 * l.i + 8;
+  not_past : 8 * l.i < l.end + 8;
+  filled : Filled l.t l.initial.table (number_of l.e) l.first (min l.end (8 * l.i)) l.table;
+}
+
+abbrev pub decreases-loop-i : goal.decreases-loop-i
+decreases-loop-i l = l.end - 8 * l.i
