@@ -26,8 +26,11 @@ use Rattle.laws.proofs.Memory.{Ended, accepted, refused as refused_by, step_ende
 use Rattle.checks.specs.Refusal.{refusal_by}
 use Rattle.heap.proofs.Ends.{Checked, checked, refused, refused_own, acts}
 use Rattle.objects.specs.declared.Placed.{Placed}
-use Rattle.objects.specs.Answers.{place_of, placed_in, unplaced_by}
-use Rattle.allocator.specs.Answers.{placed, freed}
+use Rattle.objects.specs.Answers.{place_of, placed_in}
+use Rattle.allocator.specs.Answers.{placed}
+use Rattle.heap.specs.Answers.{given}
+use Rattle.std.specs.Prelude.{Result as Returned}
+use Rattle.refusals.specs.declared.Refusal.{Refusal}
 
 -- a difference from nothing
 pub gained : (b : ℕ) → sub_ℕ b 0 ≡ pos b
@@ -57,7 +60,7 @@ module _ (t base : ℕ) (pool table : List ℕ) where
 
   -- ---- allocate
 
-  module _ (bytes : ℕ) {r : ℕ} (test : r ≡ refusal_by t pool table (λ (g : Heap). request_tests base g bytes)) where
+  module _ (bytes : ℕ) where
     abbrev room : Test
     room = no_room (is_none (first_fit (entries_in t table) (blocks_for bytes)))
 
@@ -65,61 +68,64 @@ module _ (t base : ℕ) (pool table : List ℕ) where
     unfolding allocate placing
     allocate_number = refusal_is (first_of (allocate_tests base h bytes)) h [] _ (λ _. refl)
 
-    pub allocate_refused : (r ≡ 0 → ⊥) → placed (unplaced_by r) pool table ≡ perform (planes t) (Allocate base bytes) [] m
+    pub allocate_refused : {r : ℕ} → r ≡ refusal_by t pool table (λ (g : Heap). request_tests base g bytes) → (r ≡ 0 → ⊥) → given (only_refusal r) pool table ≡ perform (planes t) (Allocate base bytes) [] m
     unfolding step
-    allocate_refused ne = refused t base pool table (Allocate base bytes) allocate_number (refused_first_in (planes t) m (request_tests base h bytes) (room ∷ []) refl refl test ne) ne
+    allocate_refused test ne = refused t base pool table (Allocate base bytes) allocate_number (refused_first_in (planes t) m (request_tests base h bytes) (room ∷ []) refl refl test ne) ne
 
-    pub allocate_checked : r ≡ 0 → Checked t base pool table (no_bytes bytes ∷ [])
-    allocate_checked ok = checked t base pool table (no_bytes bytes ∷ []) test ok
+    module _ (test : 0 ≡ refusal_by t pool table (λ (g : Heap). request_tests base g bytes)) where
+      pub allocate_checked : Checked t base pool table (no_bytes bytes ∷ [])
+      allocate_checked = checked t base pool table (no_bytes bytes ∷ []) test
 
-    pub allocate_asks : r ≡ 0 → 0 < bytes
-    allocate_asks ok = asked base h bytes [] (allocate_checked ok).passes
+      pub allocate_asks : 0 < bytes
+      allocate_asks = asked base h bytes [] allocate_checked.passes
 
-    pub allocate_full : r ≡ 0 → first_fit (entries_in t table) (blocks_for bytes) ≡ none → placed (unplaced_by 9) pool table ≡ perform (planes t) (Allocate base bytes) [] m
-    unfolding step
-    allocate_full ok e =
-        let k = allocate_checked ok in
-        refused_own t base pool table (Allocate base bytes) 9 k.sound
-        (allocate_number ∙ first_more (request_tests base h bytes) _ refl k.passes ∙ first_yes (no_room _) [] (ap is_none e)) (omega arith)
+      pub allocate_full : {r : ℕ} → first_fit (entries_in t table) (blocks_for bytes) ≡ none → r ≡ 9 → given (only_refusal r) pool table ≡ perform (planes t) (Allocate base bytes) [] m
+      unfolding step
+      allocate_full e nine =
+          let k = allocate_checked in
+          rw nine
+          (refused_own t base pool table (Allocate base bytes) 9 k.sound
+          (allocate_number ∙ first_more (request_tests base h bytes) _ refl k.passes ∙ first_yes (no_room _) [] (ap is_none e)) (omega arith))
 
-    pub allocate_done : (k : ℕ) (z : ℤ) (pool' table' : List ℕ) → r ≡ 0 → AllBytes table' → first_fit (entries_in t table) (blocks_for bytes) ≡ some k
-        → IsTable t table' × (heap_at t pool' table' ≡ taken h k (blocks_for bytes)) → z ≡ pos (blocks_for bytes)
-        → placed (record { refusal = 0; block = record { 0 = k }; change = z }) pool' table' ≡ perform (planes t) (Allocate base bytes) [] m
-    unfolding step allocate placing taken
-    allocate_done k z pool' table' ok all found done change =
-        let b = blocks_for bytes in
-        let p = allocate_checked ok in
-        let more = blocks_some bytes (allocate_asks ok) in
-        let run = (first_fits (entries_in t table) b k more found).run in
-        let change' = change ∙ sym (allocate_change (entries_in t table) k b more run) in
-        acts t base pool table (Allocate base bytes) pool' table' (placed_at k z) p.sound all done.0 refl
-        (rw (done.1, change', found) (sym (accepts _ _ _ (first_more (request_tests base h bytes) (no_room false ∷ []) refl p.passes ∙ first_last (no_room false) refl))))
+      pub allocate_done : (k : ℕ) (z : ℤ) (pool' table' : List ℕ) → AllBytes table' → first_fit (entries_in t table) (blocks_for bytes) ≡ some k
+          → IsTable t table' × (heap_at t pool' table' ≡ taken h k (blocks_for bytes)) → z ≡ pos (blocks_for bytes)
+          → given (placed_at k z) pool' table' ≡ perform (planes t) (Allocate base bytes) [] m
+      unfolding step allocate placing taken
+      allocate_done k z pool' table' all found done change =
+          let b = blocks_for bytes in
+          let p = allocate_checked in
+          let more = blocks_some bytes allocate_asks in
+          let run = (first_fits (entries_in t table) b k more found).run in
+          let change' = change ∙ sym (allocate_change (entries_in t table) k b more run) in
+          acts t base pool table (Allocate base bytes) pool' table' (placed_at k z) p.sound all done.0 refl
+          (rw (done.1, change', found) (sym (accepts _ _ _ (first_more (request_tests base h bytes) (no_room false ∷ []) refl p.passes ∙ first_last (no_room false) refl))))
 
   -- ---- free
 
-  module _ (k : ℕ) {r : ℕ} (test : r ≡ refusal_by t pool table (λ (g : Heap). object_tests base g k)) where
-    pub free_refused : (r ≡ 0 → ⊥) → freed (record { refusal = r; change = pos 0 }) pool table ≡ perform (planes t) (Free base k) [] m
+  module _ (k : ℕ) where
+    pub free_refused : {r : ℕ} → r ≡ refusal_by t pool table (λ (g : Heap). object_tests base g k) → (r ≡ 0 → ⊥) → given (only_refusal r) pool table ≡ perform (planes t) (Free base k) [] m
     unfolding step free placing
-    free_refused ne = refused t base pool table (Free base k) (refusal_is (first_of (object_tests base h k)) h [] _ (λ _. refl)) test ne
+    free_refused test ne = refused t base pool table (Free base k) (refusal_is (first_of (object_tests base h k)) h [] _ (λ _. refl)) test ne
 
-    pub free_checked : r ≡ 0 → Checked t base pool table (name_tests h k)
-    free_checked ok = checked t base pool table (name_tests h k) test ok
+    module _ (test : 0 ≡ refusal_by t pool table (λ (g : Heap). object_tests base g k)) where
+      pub free_checked : Checked t base pool table (name_tests h k)
+      free_checked = checked t base pool table (name_tests h k) test
 
-    pub free_named : r ≡ 0 → Named h k
-    free_named ok = named_object base h k [] (free_checked ok).passes
+      pub free_named : Named h k
+      free_named = named_object base h k [] free_checked.passes
 
-    pub free_done : (z : ℤ) (table' : List ℕ) → r ≡ 0 → AllBytes table' → Holds t (released (entries_in t table) k (block_count (entries_in t table) k)) table'
-        → z ≡ neg_ℤ (pos (block_count (entries_in t table) k)) → freed (record { refusal = 0; change = z }) pool table' ≡ perform (planes t) (Free base k) [] m
-    unfolding step free placing freed_heap
-    free_done z table' ok all done change =
-        let p = free_checked ok in
-        let change' : z ≡ change_from (entries_in t table) (released (entries_in t table) k (block_count (entries_in t table) k)) =
-        change ∙ sym (free_change (entries_in t table) k (free_named ok).head) in
-        acts t base pool table (Free base k) pool table' (placed_at 0 z) p.sound all done.is_table refl (rw (done.entries, change') (sym (accepts _ _ _ p.passes)))
+      pub free_done : (z : ℤ) (table' : List ℕ) → AllBytes table' → Holds t (released (entries_in t table) k (block_count (entries_in t table) k)) table'
+          → z ≡ neg_ℤ (pos (block_count (entries_in t table) k)) → given (placed_at 0 z) pool table' ≡ perform (planes t) (Free base k) [] m
+      unfolding step free placing freed_heap
+      free_done z table' all done change =
+          let p = free_checked in
+          let change' : z ≡ change_from (entries_in t table) (released (entries_in t table) k (block_count (entries_in t table) k)) =
+          change ∙ sym (free_change (entries_in t table) k free_named.head) in
+          acts t base pool table (Free base k) pool table' (placed_at 0 z) p.sound all done.is_table refl (rw (done.entries, change') (sym (accepts _ _ _ p.passes)))
 
   -- ---- reallocate
 
-  module _ (k bytes : ℕ) {r : ℕ} (test : r ≡ refusal_by t pool table (λ (g : Heap). resize_tests base g k bytes)) where
+  module _ (k bytes : ℕ) where
     abbrev way : Test
     way = no_room (is_no_way (way_of h k bytes))
 
@@ -129,32 +135,33 @@ module _ (t base : ℕ) (pool table : List ℕ) where
         refusal_is (first_of (reallocate_tests base h k bytes)) h [] _
         (λ z. along_accepts (way_of h k bytes) h k _ _ (last_none (resize_tests base h k bytes) way refl (omega arith) z))
 
-    pub reallocate_refused : (r ≡ 0 → ⊥) → placed (unplaced_by r) pool table ≡ perform (planes t) (Reallocate base k bytes) [] m
+    pub reallocate_refused : {r : ℕ} → r ≡ refusal_by t pool table (λ (g : Heap). resize_tests base g k bytes) → (r ≡ 0 → ⊥) → given (only_refusal r) pool table ≡ perform (planes t) (Reallocate base k bytes) [] m
     unfolding step
-    reallocate_refused ne = refused t base pool table (Reallocate base k bytes) reallocate_number (refused_first_in (planes t) m (resize_tests base h k bytes) (way ∷ []) refl refl test ne) ne
+    reallocate_refused test ne = refused t base pool table (Reallocate base k bytes) reallocate_number (refused_first_in (planes t) m (resize_tests base h k bytes) (way ∷ []) refl refl test ne) ne
 
-    pub reallocate_checked : r ≡ 0 → Checked t base pool table (no_bytes bytes ∷ name_tests h k)
-    reallocate_checked ok = checked t base pool table (no_bytes bytes ∷ name_tests h k) test ok
+    module _ (test : 0 ≡ refusal_by t pool table (λ (g : Heap). resize_tests base g k bytes)) where
+      pub reallocate_checked : Checked t base pool table (no_bytes bytes ∷ name_tests h k)
+      reallocate_checked = checked t base pool table (no_bytes bytes ∷ name_tests h k) test
 
-    -- no way, or done: the outcome is that of the rules. A heap that is left as it was is left in the same bytes
-    pub reallocate_done : (a : Placed) (pool' table' : List ℕ) → r ≡ 0 → AllBytes table → AllBytes table' → IsTable t table'
-        → placed_in a (heap_at t pool' table') ≡ reallocate base h k bytes → placed a pool' table' ≡ perform (planes t) (Reallocate base k bytes) [] m
-    unfolding step
-    reallocate_done a pool' table' ok all all' i e = go (step_ended (Reallocate base k bytes) [] h)
-      where
-        s : Sound (planes t) m
-        s = (reallocate_checked ok).sound
+      -- no way, or done: the outcome is that of the rules. A heap that is left as it was is left in the same bytes
+      pub reallocate_done : (a : Returned Placed Refusal) (pool' table' : List ℕ) → AllBytes table → AllBytes table' → IsTable t table'
+          → placed_in a (heap_at t pool' table') ≡ reallocate base h k bytes → placed a pool' table' ≡ perform (planes t) (Reallocate base k bytes) [] m
+      unfolding step
+      reallocate_done a pool' table' all all' i e = go (step_ended (Reallocate base k bytes) [] h)
+        where
+          s : Sound (planes t) m
+          s = reallocate_checked.sound
 
-        kept : entries_in t table' ≡ entries_in t table → table' ≡ table
-        kept q =
-            let s' = table_sound t pool' table' i in
-            sym ((planes_faithful t).write_read table' all' s'.fits s'.clean) ∙ ap (planes_of t) q ∙ (planes_faithful t).write_read table all s.fits s.clean
+          kept : entries_in t table' ≡ entries_in t table → table' ≡ table
+          kept q =
+              let s' = table_sound t pool' table' i in
+              sym ((planes_faithful t).write_read table' all' s'.fits s'.clean) ∙ ap (planes_of t) q ∙ (planes_faithful t).write_read table all s.fits s.clean
 
-        go : Ended h [] (reallocate base h k bytes) → placed a pool' table' ≡ perform (planes t) (Reallocate base k bytes) [] m
-        go (accepted z) = acts t base pool table (Reallocate base k bytes) pool' table' (place_of a) s all' i (ap (λ (o : Outcome). o.answer.refusal) e ∙ z) e
-        go (refused_by n q) =
-            let left = e ∙ q in
-            let answer : place_of a ≡ only_refusal (suc n) = ap (λ (o : Outcome). o.answer) left in
-            let bytes_same : pool' ≡ pool = ap (λ (o : Outcome). o.heap.pool) left in
-            rw (answer, bytes_same, kept (ap (λ (o : Outcome). o.heap.entries) left))
-            (refused_own t base pool table (Reallocate base k bytes) (suc n) s (ap (λ (o : Outcome). o.answer.refusal) q) (omega arith))
+          go : Ended h [] (reallocate base h k bytes) → placed a pool' table' ≡ perform (planes t) (Reallocate base k bytes) [] m
+          go (accepted z) = acts t base pool table (Reallocate base k bytes) pool' table' (place_of a) s all' i (ap (λ (o : Outcome). o.answer.refusal) e ∙ z) e
+          go (refused_by n q) =
+              let left = e ∙ q in
+              let answer : place_of a ≡ only_refusal (suc n) = ap (λ (o : Outcome). o.answer) left in
+              let bytes_same : pool' ≡ pool = ap (λ (o : Outcome). o.heap.pool) left in
+              rw (answer, bytes_same, kept (ap (λ (o : Outcome). o.heap.entries) left))
+              (refused_own t base pool table (Reallocate base k bytes) (suc n) s (ap (λ (o : Outcome). o.answer.refusal) q) (omega arith))

@@ -8,4 +8,4 @@ returns-then-not-good_shape c = init_refused _ _ _ _ c.good_shape.ensures c.if-n
 pub returns : goal.returns
 returns c =
     init_done _ _ _ _ c.good_shape.ensures _ c.if-not-good_shape.false
-    (λ i. (c.slice_known-2-1.given i).fits) c.clear.ensures
+    (λ i. (c.type_inv.table i).fits) c.clear.ensures

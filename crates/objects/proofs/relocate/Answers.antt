@@ -21,27 +21,14 @@ use Rattle.laws.proofs.Tables.{first_fits}
 use Rattle.laws.proofs.Changes.{placed_length}
 use Rattle.laws.proofs.Pools.{moved_steps}
 use Rattle.laws.proofs.Calls.{move_change, run_beside}
-use Rattle.std.specs.Prelude.{Option as Maybe, Some, None, Err}
-use Rattle.std.specs.Option.{ok_or}
 use Rattle.std.proofs.lemmas.Result.{err_from_is_err_and}
-use Rattle.numbers.specs.declared.Block.{Block}
-use Rattle.numbers.specs.Places.{found}
-use Rattle.refusals.specs.Codes.{code, refused_by}
-use Rattle.refusals.specs.declared.Refusal.{Refusal}
-use Rattle.refusals.specs.declared.Refusal.TheVariants.{NoRoom}
 use Rattle.objects.specs.Held.{Held}
+use Rattle.objects.proofs.Starts.{start, nowhere, no_room}
 use Rattle.objects.proofs.Held.{held_few, held_room, change_is}
 use Rattle.objects.proofs.relocate.Goals as goal
 
--- the start at was found
-module _ {t : ℕ} {pool table : List ℕ} {k old new : ℕ} {o : Maybe Block} {at : Block} (held : Held t pool table k old) (more : (old < new) × (new ≤ 4096))
-    (fit : found o ≡ first_fit (entries_in t table) new) (got : o ≡ Some at) where
-  abbrev s : ℕ
-  s = at.0
-
-  start : first_fit (entries_in t table) new ≡ some s
-  start = sym fit ∙ ap found got
-
+-- the start s was found
+module _ {t : ℕ} {pool table : List ℕ} {k old new s : ℕ} (held : Held t pool table k old) (more : (old < new) × (new ≤ 4096)) (start : first_fit (entries_in t table) new ≡ some s) where
   run : Run (entries_in t table) new s
   run = (first_fits (entries_in t table) new s (omega arith) start).run
 
@@ -64,23 +51,19 @@ module _ {t : ℕ} {pool table : List ℕ} {k old new : ℕ} {o : Maybe Block} {
       (r.is_table, rw (start, change_is new old d (omega arith) (omega arith) q, r.entries, p.entries, cleared, e, copied, f, g, n, steps, rw (sym held.count) at change))
 
 -- no start was found
-nowhere : (t : ℕ) (pool table : List ℕ) (k old new : ℕ) {r : ℕ} → first_fit (entries_in t table) new ≡ none → r ≡ 9
+stays : (t : ℕ) (pool table : List ℕ) (k old new : ℕ) {r : ℕ} → first_fit (entries_in t table) new ≡ none → r ≡ 9
     → leaves (only_refusal r) (heap_at t pool table) ≡ along (moves_to (first_fit (entries_in t table) new)) (heap_at t pool table) k old new
 unfolding along moves_to
-nowhere t pool table k old new e q = rw (e, q)
-
--- what `ok_or` makes of it
-no_room : (o : Maybe Block) (e : Refusal) → o ≡ None → Err e ≡ ok_or o NoRoom → code e ≡ 9
-no_room o e n q = ap refused_by (q ∙ ap (λ (o : Maybe Block). ok_or o NoRoom) n)
+stays t pool table k old new e q = rw (e, q)
 
 pub returns-in_err-s : goal.returns-in_err-s
 returns-in_err-s c =
     let p = err_from_is_err_and c.from_residual.result c.from_residual.ensures.1 in
     let none = c.in_err-s.ensures.ok_part in
-    (c.requires.held.is_table, rw (p.1, p.2) (nowhere _ _ _ _ _ _ (sym c.first_fit.ensures ∙ ap found none) (no_room _ _ none c.in_err-s.ensures.value)))
+    (c.requires.held.is_table, rw (p.1, p.2) (stays _ _ _ _ _ _ (nowhere c.first_fit.ensures none) (no_room _ _ none c.in_err-s.ensures.value)))
 
 pub place-requires : goal.place-requires
-place-requires c = (c.requires.held.is_table, (omega arith, (run c.requires.held c.requires.lt c.first_fit.ensures c.in_ok-s.ensures.ok_part).room))
+place-requires c = (c.requires.held.is_table, (omega arith, (run c.requires.held c.requires.lt (start c.first_fit.ensures c.in_ok-s.ensures.ok_part)).room))
 
 pub offset-requires : goal.offset-requires
 offset-requires c =
@@ -88,26 +71,26 @@ offset-requires c =
     omega (arith, held_room held, held_few held)
 
 pub offset-requires-2 : goal.offset-requires-2
-offset-requires-2 c = omega (arith, (run c.requires.held c.requires.lt c.first_fit.ensures c.in_ok-s.ensures.ok_part).room, held_few c.requires.held)
+offset-requires-2 c = omega (arith, (run c.requires.held c.requires.lt (start c.first_fit.ensures c.in_ok-s.ensures.ok_part)).room, held_few c.requires.held)
 
 pub copy-requires : goal.copy-requires
 copy-requires c =
-    let room = (run c.requires.held c.requires.lt c.first_fit.ensures c.in_ok-s.ensures.ok_part).room in
+    let room = (run c.requires.held c.requires.lt (start c.first_fit.ensures c.in_ok-s.ensures.ok_part)).room in
     let long = c.requires.held.long in
     let from = c.offset.ensures in
     let to = c.offset-2.ensures in
     let count = c.of_blocks.ensures in
     record {
       count_in_bounds = (omega (arith, held_room c.requires.held), omega arith);
-      apart = apart c.requires.held c.requires.lt c.first_fit.ensures c.in_ok-s.ensures.ok_part _ _ _ from to count;
+      apart = apart c.requires.held c.requires.lt (start c.first_fit.ensures c.in_ok-s.ensures.ok_part) _ _ _ from to count;
     }
 
 pub plus-requires : goal.plus-requires
-plus-requires c = omega (arith, (run c.requires.held c.requires.lt c.first_fit.ensures c.in_ok-s.ensures.ok_part).room, c.requires.lt, held_few c.requires.held)
+plus-requires c = omega (arith, (run c.requires.held c.requires.lt (start c.first_fit.ensures c.in_ok-s.ensures.ok_part)).room, c.requires.lt, held_few c.requires.held)
 
 pub clear_blocks-requires : goal.clear_blocks-requires
 clear_blocks-requires c =
-    let room = (run c.requires.held c.requires.lt c.first_fit.ensures c.in_ok-s.ensures.ok_part).room in
+    let room = (run c.requires.held c.requires.lt (start c.first_fit.ensures c.in_ok-s.ensures.ok_part)).room in
     let few = held_few c.requires.held in
     let end = c.plus.ensures in
     let more = c.requires.lt in
@@ -118,7 +101,7 @@ release-requires c = (c.place.ensures.is_table, omega (arith, held_room c.requir
 
 pub returns : goal.returns
 returns c =
-    moves c.requires.held c.requires.lt c.first_fit.ensures c.in_ok-s.ensures.ok_part _ _ _ _ _ _ _ _ _
+    moves c.requires.held c.requires.lt (start c.first_fit.ensures c.in_ok-s.ensures.ok_part) _ _ _ _ _ _ _ _ _
     c.place.ensures
     c.offset.ensures c.offset-2.ensures c.of_blocks.ensures c.copy.ensures
     c.plus.ensures c.clear_blocks.ensures
