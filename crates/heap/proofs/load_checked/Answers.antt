@@ -20,4 +20,4 @@ word-requires c =
 pub returns : goal.returns
 returns c =
     let said = c.in_ok-word_index.ensures in
-    load_done _ _ _ _ _ _ (word_next _ _ _ _ _ _ c.requires said.refusal) said.index _ (λ i. (c.shared_slice_known-2-1.given i).fits) c.word.ensures
+    load_done _ _ _ _ _ _ (word_next _ _ _ _ _ _ c.requires said.refusal) said.index _ (λ i. (c.type_inv.table i).fits) c.word.ensures

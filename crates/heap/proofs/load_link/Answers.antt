@@ -40,7 +40,7 @@ pub returns-then-is_pair : goal.returns-then-is_pair
 returns-then-is_pair c =
     let a = c.args in
     ap some (c.word.ensures ∙ ap (word_at a.pool.now) (omega (arith, c.first_word.ensures)))
-    ∙ next_of a.t a.base.0 a.pool.now a.table.now (λ i. (c.shared_slice_known-2-1.given i).fits) c.requires a.k.0
+    ∙ next_of a.t a.base.0 a.pool.now a.table.now (λ i. (c.type_inv.table i).fits) c.requires a.k.0
     (below (c.blocks-2.ensures a.table.now) c.is_below.ensures c.if-is_below.true) (sym c.is_pair.ensures ∙ c.if-is_pair.true)
 
 pub returns-else-is_below : goal.returns-else-is_below
@@ -48,9 +48,9 @@ returns-else-is_below c =
     let a = c.args in
     elim c.else-is_below.branch [
       | else-is_below-via-then-is_below+else-is_pair w ↦
-          next_other a.t a.base.0 a.pool.now a.table.now (λ i. (c.shared_slice_known-2-1.given i).fits) c.requires a.k.0
+          next_other a.t a.base.0 a.pool.now a.table.now (λ i. (c.type_inv.table i).fits) c.requires a.k.0
           (below (c.blocks-2.ensures a.table.now) c.is_below.ensures w.if-is_below.true) (sym w.is_pair.ensures ∙ w.if-is_pair.false)
       | else-is_below-via-else-is_below w ↦
-          next_outside a.t a.base.0 a.pool.now a.table.now (λ i. (c.shared_slice_known-2-1.given i).fits) c.requires a.k.0
+          next_outside a.t a.base.0 a.pool.now a.table.now (λ i. (c.type_inv.table i).fits) c.requires a.k.0
           (omega (arith, c.blocks-2.ensures a.table.now, ltb-false a.k.0 c.blocks-2.result (sym c.is_below.ensures ∙ w.if-is_below.false)))
     ]

@@ -20,4 +20,4 @@ set_word-requires c =
 pub returns : goal.returns
 returns c =
     let said = c.in_ok-at.ensures in
-    store_done _ _ _ _ _ _ (word_next _ _ _ _ _ _ c.requires said.refusal) said.index _ _ (λ i. (c.shared_slice_known-1.given i).fits) c.set_word.ensures
+    store_done _ _ _ _ _ _ (word_next _ _ _ _ _ _ c.requires said.refusal) said.index _ _ (λ i. (c.type_inv.table i).fits) c.set_word.ensures

@@ -35,5 +35,5 @@ overflow_cast-result-3 c =
 
 pub returns : goal.returns
 returns c =
-    survey_done _ _ _ _ c.in_ok-heap.ensures _ _ _ (λ i. (c.shared_slice_known-2-1.given i).fits)
+    survey_done _ _ _ _ c.in_ok-heap.ensures _ _ _ (λ i. (c.type_inv.table i).fits)
     c.count-counts.ensures.0 c.count-counts.ensures.1 c.longest.ensures
