@@ -9,12 +9,14 @@ use native.Mathlib.Omega.{arith}
 use lib.IntN.{ℤ, pos, neg_ℤ}
 use lib.ListN.{length, replicate, length-append}
 use borrow.Author.Tests.{ltb-false}
+use Rattle.std.specs.Prelude.{Result as Returned, Ok, IsErrAnd}
+use Rattle.std.proofs.lemmas.Result.{err_from_is_err_and}
 use Rattle.rules.specs.Words.{bytes_of, words_of}
 use Rattle.rules.specs.Pointers.{address_of, leads_to}
 use Rattle.rules.specs.Tables.{used}
 use Rattle.rules.specs.Planes.{planes, entries_in, IsTable, heap_at}
 use Rattle.laws.specs.Meaning.{AllBytes, Leads, Shape as GoodShape}
-use Rattle.rules.specs.Outcomes.{Heap, Outcome, change_from}
+use Rattle.rules.specs.Outcomes.{Heap, Outcome, change_from, collection}
 use Rattle.rules.specs.Refusals.{first_of, good_lists, many_roots, collection_tests}
 use Rattle.rules.specs.Marking.{Context, Marked, marked_in, root_to, mark_root, mark_roots, mark_all}
 use Rattle.rules.specs.Calls.{collecting, collect}
@@ -28,6 +30,9 @@ use Rattle.laws.proofs.Refusals.{refusal_is, accepts, lists_say, first_passed, f
 use Rattle.laws.proofs.Calls.{sub_less}
 use Rattle.laws.proofs.Used.{marking_used}
 use Rattle.laws.proofs.Memory.{sound_of, left_in, acted_in}
+use Rattle.refusals.specs.Codes.{code}
+use Rattle.refusals.specs.declared.Refusal.{Refusal}
+use Rattle.refusals.proofs.Codes.{not_accepted}
 use Rattle.checks.specs.Refusal.{refusal_by}
 use Rattle.sweeper.specs.declared.Swept.{Swept}
 use Rattle.collector.specs.declared.Collected.{Collected}
@@ -50,7 +55,7 @@ module _ (t : ℕ) (c : Context) (pool table table₁ table₂ stack stack₂ ws
       rw u (sym (sub_less (used (entries_in t table₂)) s.freed))
 
   pub ran : stack₂ ≡ replicate (length stack) 0 → change ≡ neg_ℤ (pos s.freed)
-      → outcome_of (record { refusal = 0; kept = s.kept; rescans = r; change = change }) (heap_at t pool table₂) stack₂ ≡ collecting (heap_at t pool table) stack (mark_all c ws (entries_in t table))
+      → outcome_of (Ok (record { kept = s.kept; rescans = r; change = change })) (heap_at t pool table₂) stack₂ ≡ collecting (heap_at t pool table) stack (mark_all c ws (entries_in t table))
   unfolding collecting
   ran e d = rw (← mark, ← swept.entries, e, d, change_is, swept.kept)
 
@@ -79,24 +84,28 @@ module _ (t base : ℕ) (pool table roots stack : List ℕ) (r : ℕ)
   unfolding collect collecting
   own = refusal_is (first_of (collection_tests base h roots stack)) h stack _ (λ _. refl)
 
-  pub collect_refused : (r ≡ 0 → ⊥) → result_of (record { refusal = r; kept = 0; rescans = 0; change = pos 0 }) pool table stack ≡ perform (planes t) (Collect base roots) stack m
+  pub collect_refused : (x : Returned Collected Refusal) (e : Refusal) → IsErrAnd x (λ y. y ≡ e) → r ≡ code e → result_of x pool table stack ≡ perform (planes t) (Collect base roots) stack m
   unfolding step
-  collect_refused ne =
-      left_in (planes t) (Collect base roots) stack m r (ap (λ (n : ℕ). first_of (tests_in (planes t) (Collect base roots) m n)) own ∙ sym first) (omega arith)
+  collect_refused x e passed same =
+      let p = err_from_is_err_and x passed in
+      let ne : r ≡ 0 → ⊥ = λ z. not_accepted e (sym same ∙ z) in
+      let refused : collection r 0 0 (pos 0) ≡ answer_of x = rw (p.1, p.2, same) refl in
+      rw (← refused)
+      (left_in (planes t) (Collect base roots) stack m r (ap (λ (n : ℕ). first_of (tests_in (planes t) (Collect base roots) m n)) own ∙ sym first) (omega arith))
 
   module _ (ok : r ≡ 0) where
     passes : Sound (planes t) m × (first_of (collection_tests base h roots stack) ≡ 0)
     passes = sound_of (planes t) m (collection_tests base h roots stack) first ok
 
     -- marked from words that mark the same as the roots
-    pub collect_accepted : (a : Collected) (ws table' stack' : List ℕ)
+    pub collect_accepted : (c : Collected) (ws table' stack' : List ℕ)
         → mark_all (context_of base pool stack) ws (entries_in t table) ≡ mark_all (context_of base pool stack) (words_of roots) (entries_in t table) → AllBytes table'
-        → IsTable t table' × (outcome_of a (heap_at t pool table') stack' ≡ collecting h stack (mark_all (context_of base pool stack) ws (entries_in t table)))
-        → result_of a pool table' stack' ≡ perform (planes t) (Collect base roots) stack m
+        → IsTable t table' × (outcome_of (Ok c) (heap_at t pool table') stack' ≡ collecting h stack (mark_all (context_of base pool stack) ws (entries_in t table)))
+        → result_of (Ok c) pool table' stack' ≡ perform (planes t) (Collect base roots) stack m
     unfolding step collect collecting
-    collect_accepted a ws table' stack' same bytes done =
+    collect_accepted c ws table' stack' same bytes done =
         let s = passes.0 in
-        acted_in (planes t) (planes_faithful t) (Collect base roots) stack m (memory pool table') stack' (answer_of a) s.fits (ap not s.clean) bytes
+        acted_in (planes t) (planes_faithful t) (Collect base roots) stack m (memory pool table') stack' (answer_of (Ok c)) s.fits (ap not s.clean) bytes
         (table_sound t pool table' done.0) (ap (λ (o : Outcome). o.answer.refusal) done.1)
         (done.1 ∙ ap (collecting h stack) same ∙ sym (accepts h stack _ passes.1))
 

@@ -12,11 +12,11 @@ ghost use Rattle.visitor.specs.Variables.{context_of, Shape};
 ghost use Rattle.collector.specs.Answers.{outcome_of, result_of};
 
 use numbers::Address;
+use refusals::Refusal;
 
 // What a collection answers.
 #[derive(Clone, Copy)]
 pub struct Collected {
-    pub refusal: u32,
     pub kept: u32,
     pub rescans: u32,
     pub change: i32,
@@ -34,7 +34,7 @@ fn run(
 ) -> Collected
     requires shape { Shape base.0 t pool.now table.old }
     requires roots_len_bound { length roots.now / 4 ≤ 4096 }
-    ensures { IsTable t table.new × (outcome_of result (heap_at t pool.now table.new) stack.new
+    ensures { IsTable t table.new × (outcome_of (Ok result) (heap_at t pool.now table.new) stack.new
         ≡ collecting (heap_at t pool.now table.old) stack.old
         (mark_all (context_of base.0 pool.now stack.old) (first ∷ words_of roots.now) (entries_in t table.old))) }
 {
@@ -43,7 +43,6 @@ fn run(
     memory::clear(stack);
     let kept = swept.kept as u32;
     Collected {
-        refusal: 0,
         kept,
         rescans,
         change: numbers::negated(swept.freed),
@@ -60,20 +59,12 @@ pub fn collect(
     table: &mut [u8],
     roots: &[u8],
     stack: &mut [u8],
-) -> Collected
+) -> Result<Collected, Refusal>
     ensures { result_of result pool.now table.new stack.new
         ≡ perform (planes t) (Collect base.0 roots.now) stack.old (memory pool.now table.old) }
 {
-    let r = checks::collection(base, t, pool, &*table, roots.len(), &*stack);
-    if r != 0 {
-        return Collected {
-            refusal: r,
-            kept: 0,
-            rescans: 0,
-            change: 0,
-        };
-    }
-    run(base, t, pool, table, 0, roots, stack)
+    checks::collection(base, t, pool, &*table, roots.len(), &*stack)?;
+    Ok(run(base, t, pool, table, 0, roots, stack))
 }
 
 // A collection from a root word and then the caller's roots, one fewer than `collect` takes.
@@ -85,19 +76,11 @@ pub fn collect_with(
     first: u32,
     roots: &[u8],
     stack: &mut [u8],
-) -> Collected
+) -> Result<Collected, Refusal>
     requires { length roots.now / 4 < 4096 }
     ensures { result_of result pool.now table.new stack.new
         ≡ perform (planes t) (Collect base.0 (bytes_of first ++ roots.now)) stack.old (memory pool.now table.old) }
 {
-    let r = checks::collection(base, t, pool, &*table, roots.len() + 4, &*stack);
-    if r != 0 {
-        return Collected {
-            refusal: r,
-            kept: 0,
-            rescans: 0,
-            change: 0,
-        };
-    }
-    run(base, t, pool, table, first, roots, stack)
+    checks::collection(base, t, pool, &*table, roots.len() + 4, &*stack)?;
+    Ok(run(base, t, pool, table, first, roots, stack))
 }

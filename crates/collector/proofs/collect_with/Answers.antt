@@ -1,16 +1,12 @@
 -- As `collect`, of a list that begins with the bytes of the first root: its words are that root and the others.
 -- Assumes nothing.
-use mathlib.Core.Path.{◌≡◌, ap, sym}
+use mathlib.Core.Path.{refl, ap, sym}
 use mathlib.Core.List.{List, ◌++◌}
 use Prim.Native.Nat.{ℕ}
-use native.Mathlib.Omega.{arith}
 use borrow.Author.Rules.{rules}
 use Rattle.rules.specs.Words.{bytes_of}
-use Rattle.rules.specs.Outcomes.{Heap}
 use Rattle.rules.specs.Planes.{entries_in}
-use Rattle.rules.specs.Refusals.{collection_tests}
 use Rattle.rules.specs.Marking.{mark_all}
-use Rattle.checks.specs.Refusal.{refusal_by}
 use Rattle.visitor.specs.Variables.{context_of}
 use Rattle.laws.proofs.Words.{words_first}
 use Rattle.laws.proofs.Widths.{in_32_bits}
@@ -20,25 +16,15 @@ use Rattle.collector.proofs.collect_with.Goals as goal
 pub overflow_add-roots : goal.overflow_add-roots
 overflow_add-roots c = in_32_bits (search rules)
 
-pub returns-then-r-ne0 : goal.returns-then-r-ne0
-returns-then-r-ne0 c =
-    let all_roots : List ℕ = bytes_of c.args.first ++ c.args.roots.now in
-    let tested : c.collection-r.result
-    ≡ refusal_by c.args.t c.args.pool.now c.args.table.now (λ (h : Heap). collection_tests c.args.base.0 h all_roots c.args.stack.now) = c.collection-r.ensures all_roots (bytes_first c.args.first c.args.roots.now) in
-    collect_refused _ _ _ _ all_roots _ _ tested c.if-r-ne0.true
+pub returns-in_err-collection : goal.returns-in_err-collection
+returns-in_err-collection c = collect_refused _ _ _ _ _ _ _ (c.in_err-collection.ensures _ (bytes_first c.args.first c.args.roots.now)) _ _ c.from_residual.ensures.1 refl
 
-pub run-requires : goal.run-requires
-run-requires c =
-    let all_roots : List ℕ = bytes_of c.args.first ++ c.args.roots.now in
-    let tested : c.collection-r.result
-    ≡ refusal_by c.args.t c.args.pool.now c.args.table.now (λ (h : Heap). collection_tests c.args.base.0 h all_roots c.args.stack.now) = c.collection-r.ensures all_roots (bytes_first c.args.first c.args.roots.now) in record { shape = collect_shape _ _ _ _ all_roots _ _ tested c.if-r-ne0.false; roots_len_bound = omega (arith, c.requires) }
+pub run-requires-clause-shape : goal.run-requires-clause-shape
+run-requires-clause-shape c = collect_shape _ _ _ _ _ _ _ (c.in_ok-collection.ensures _ (bytes_first c.args.first c.args.roots.now)) refl
 
 pub returns : goal.returns
 returns c =
-    let all_roots : List ℕ = bytes_of c.args.first ++ c.args.roots.now in
-    let tested : c.collection-r.result
-    ≡ refusal_by c.args.t c.args.pool.now c.args.table.now (λ (h : Heap). collection_tests c.args.base.0 h all_roots c.args.stack.now) = c.collection-r.ensures all_roots (bytes_first c.args.first c.args.roots.now) in
     let a = c.args in
-    collect_accepted a.t a.base.0 a.pool.now a.table.now all_roots a.stack.now _ tested c.if-r-ne0.false _ _ _ _
+    collect_accepted _ _ _ _ (bytes_of a.first ++ a.roots.now) _ _ (c.in_ok-collection.ensures _ (bytes_first a.first a.roots.now)) refl _ _ _ _
     (ap (λ (ws : List ℕ). mark_all (context_of a.base.0 a.pool.now a.stack.now) ws (entries_in a.t a.table.now)) (sym (words_first a.first c.ranges.first.fits a.roots.now)))
-    (λ i. (c.slice_known-3-1.given i).fits) c.run.ensures
+    (search rules) c.run.ensures
