@@ -1,11 +1,12 @@
 -- A walk along the heads of a log's entries: what it has to find.
 -- Assumes nothing.
-use Rattle.std.specs.Prelude.{◌≡◌, true, false, List, [], ℕ, suc, eqb, ltb}
+use Rattle.std.specs.Prelude.{◌≡◌, List, [], ℕ, suc, eqb, Option as Maybe, IsNone, IsSomeAnd}
 use Rattle.std.proofs.Math.Option.{Option, some, none}
 use Rattle.rules.specs.Tests.{pick}
 use Rattle.rules.specs.Runs.{Load}
 use Rattle.rules.specs.Planes.{planes}
 use Rattle.rules.specs.Memory.{memory, perform}
+use Rattle.numbers.specs.Places.{found}
 use Rattle.logs.specs.Log.{Link, last_of, at_index}
 use Rattle.logs.specs.Heads.{Loads}
 use Rattle.chain.specs.declared.Walk.{Walk}
@@ -17,31 +18,31 @@ loads_in base t pool table k i = (perform (planes t) (Load base k i) [] (memory 
 -- what it knows of the entries that it has passed: how many, the last one's block, and the block of the one with the wanted index
 pub record Passed : Type 0 where
   pub count : ℕ
-  pub last : ℕ
-  pub wanted : ℕ
+  pub last : Option ℕ
+  pub wanted : Option ℕ
 
 abbrev pub passed_by : Walk → Passed
-passed_by w = record { count = w.count; last = w.last.0; wanted = w.wanted.0 }
+passed_by w = record { count = w.count; last = found w.last; wanted = found w.wanted }
 
 -- it passes the entry at block k
 abbrev pub pass : ℕ → Passed → ℕ → Passed
-pass index p k = record { count = suc p.count; last = k; wanted = pick (eqb p.count index) k p.wanted }
+pass index p k = record { count = suc p.count; last = some k; wanted = pick (eqb p.count index) (some k) p.wanted }
 
 -- one step: the entry at the link that was found is passed, and the walk stands at its next word; or there is no such entry
-pub data Steps (index : ℕ) (w : Walk) : Option Link → Walk → Type 0 where
-  ends : {r : Walk} → r.whole ≡ false → Steps index w none r
-  goes : {l : Link} {r : Walk} → r.whole ≡ true → r.at.0 ≡ l.next → passed_by r ≡ pass index (passed_by w) l.head → Steps index w (some l) r
+abbrev pub Steps : ℕ → Walk → Option Link → Maybe Walk → Type 0
+Steps index w none r = IsNone r
+Steps index w (some l) r = IsSomeAnd r (λ x. (x.at.0 ≡ l.next) × (passed_by x ≡ pass index (passed_by w) l.head))
 
 -- the last entry that it has passed
 abbrev pub last_by : Walk → Option ℕ
-last_by w = pick (eqb w.count 0) none (some w.last.0)
+last_by w = found w.last
 
 -- what a walk that came to the end has found of the heads
 pub record Found (index : ℕ) (w : Walk) (ks : List ℕ) : Type 0 where
   pub last : last_of ks ≡ last_by w
-  pub wanted : at_index ks index ≡ pick (ltb index w.count) (some w.wanted.0) none
+  pub wanted : at_index ks index ≡ found w.wanted
 
 -- the walk along the heads, if there are such
-pub data Walked (index : ℕ) (w : Walk) : Option (List ℕ) → Type 0 where
-  broken : w.whole ≡ false → Walked index w none
-  whole : {ks : List ℕ} → w.whole ≡ true → Found index w ks → Walked index w (some ks)
+abbrev pub Walked : ℕ → Maybe Walk → Option (List ℕ) → Type 0
+Walked index r none = IsNone r
+Walked index r (some ks) = IsSomeAnd r (λ w. Found index w ks)

@@ -4,31 +4,25 @@ use mathlib.Core.Path.{◌≡◌, refl}
 use mathlib.Core.Option.{some}
 use Prim.Native.Nat.{suc, ◌+◌}
 use native.Mathlib.Omega.{arith}
-use Rattle.rules.specs.Pointers.{target_of}
 use Rattle.laws.proofs.Widths.{in_32_bits}
-use Rattle.chain.specs.Walks.{passed_by, pass, loads_in}
+use Rattle.numbers.specs.Places.{found}
+use Rattle.chain.specs.Walks.{passed_by, pass}
 use Rattle.chain.proofs.Walking.{steps_nowhere, steps_other, steps_on}
 use Rattle.chain.proofs.advance.Goals as goal
 
-pub returns-in_default : goal.returns-in_default
-returns-in_default c =
-    let a = c.args in
-    steps_nowhere (loads_in a.base.0 a.t a.pool.now a.table.now) _ _ _ _ c.in_default.ensures c.broken.ensures
+pub returns-in_err-k : goal.returns-in_err-k
+returns-in_err-k c = rw c.from_residual.ensures (steps_nowhere _ _ _ c.args.w c.in_err-k.ensures)
 
-pub returns-in_default-link : goal.returns-in_default-link
-returns-in_default-link c =
-    let at : some c.in-At.k.0 ≡ target_of c.args.base.0 4096 c.args.w.at.0 = c.in-At.ensures in
-    let a = c.args in
-    steps_other (loads_in a.base.0 a.t a.pool.now a.table.now) _ _ _ _ _ at c.in_default-link.ensures c.broken-in_default-link.ensures
+pub returns-in_err-next : goal.returns-in_err-next
+returns-in_err-next c = rw c.from_residual-in_err-next.ensures (steps_other _ _ _ c.args.w _ c.in_ok-k.ensures c.in_err-next.ensures)
 
-pub overflow_add-passed : goal.overflow_add-passed
-overflow_add-passed c = in_32_bits (record { fits = omega (arith, c.requires.1) })
+pub overflow_add-result : goal.overflow_add-result
+overflow_add-result c = in_32_bits (record { fits = omega (arith, c.requires.1) })
 
 pub returns : goal.returns
 returns c =
-    let at : some c.in-At.k.0 ≡ target_of c.args.base.0 4096 c.args.w.at.0 = c.in-At.ensures in
-    let a = c.args in
-    let k = c.in-At.k.0 in
-    let n : a.w.count + 1 ≡ suc a.w.count = omega arith in
-    let by : record { count = a.w.count + 1; last = k; wanted = c.wanted.result.0 } ≡ pass a.index (passed_by a.w) k = rw (n, c.wanted.ensures) in
-    steps_on (loads_in a.base.0 a.t a.pool.now a.table.now) _ _ _ _ k at c.in-Next.ensures refl c.of_word.ensures by
+    let w = c.args.w in
+    let k = c.in_ok-k.k.0 in
+    let n : w.count + 1 ≡ suc w.count = omega arith in
+    let by : record { count = w.count + 1; last = some k; wanted = found c.wanted.result } ≡ pass c.args.index (passed_by w) k = rw (n, c.wanted.ensures) refl in
+    steps_on _ _ _ w k c.in_ok-k.ensures _ c.in_ok-next.ensures c.from.ensures by

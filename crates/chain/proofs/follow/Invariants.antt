@@ -6,9 +6,8 @@ use Rattle.chain.specs.Walks.{loads_in}
 use Rattle.chain.proofs.Walking.{Walks}
 use Rattle.chain.proofs.follow.Given as goal
 
-abbrev pub invariant-loop-w : goal.invariant-loop-w
-invariant-loop-w l =
-    Walks (loads_in l.base.0 l.t l.pool l.table) l.base.0 l.index l.initial.w.last.0 l.initial.w.wanted.0 (heads_from (loads_in l.base.0 l.t l.pool l.table) l.base.0 4096 l.initial.w.at.0) l.w
+abbrev pub invariant-loop-base : goal.invariant-loop-base
+invariant-loop-base l = let loads = loads_in l.base.0 l.t l.pool l.table in Walks loads l.base.0 l.index (heads_from loads l.base.0 4096 l.fn.first.0) l.w
 
-abbrev pub decreases-loop-w : goal.decreases-loop-w
-decreases-loop-w l = 4096 - l.w.count
+abbrev pub decreases-loop-base : goal.decreases-loop-base
+decreases-loop-base l = 4096 - l.w.count
