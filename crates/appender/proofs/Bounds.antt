@@ -70,10 +70,10 @@ allocate_change t base bytes m e =
     rw e
     (small_change (planes t) (Allocate base bytes) [] m (λ z. (promises.allocated base (heap_in (planes t) m) bytes (on_bytes.accepted_bytes (planes t) (Allocate base bytes) [] m z).0).counts.range))
 
-pub collect_change : (t base : ℕ) (roots stack : List ℕ) (m : Memory) {x : Result} → x ≡ perform (planes t) (Collect base roots) stack m → nat_abs x.answer.change ≤ 4096
+pub collect_change : (t base : ℕ) (roots stack : List ℕ) (m : Memory) {x : Result} → x ≡ perform (planes t) (Collect base roots) stack m → {d : ℤ} → d ≡ x.answer.change → nat_abs d ≤ 4096
 unfolding step
-collect_change t base roots stack m e =
-    rw e
+collect_change t base roots stack m e q =
+    rw (q, e)
     (small_change (planes t) (Collect base roots) stack m
     (λ z. (promises.reclaimed (planes t) (planes_faithful t) base m roots stack (on_bytes.accepted_bytes (planes t) (Collect base roots) stack m z).0).counts.range))
 

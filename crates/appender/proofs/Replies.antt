@@ -1,13 +1,12 @@
 -- Each way the adding of an entry can end, as what its program comes to.
 -- Assumes nothing.
 use mathlib.Core.Path.{◌≡◌, refl, sym, ap, ◌∙◌}
-use mathlib.Core.Bool.{Bool}
 use mathlib.Core.List.{List, [], ◌++◌}
 use mathlib.Core.Option.{some, none}
 use Prim.Native.Nat.{ℕ}
-use lib.Dec.{eqb}
-use lib.IntN.{ℤ, ◌+ℤ◌}
-use borrow.Author.Tests.{eq-eqb, ne_eqb}
+use lib.IntN.{ℤ, pos, ◌+ℤ◌}
+use borrow.Author.Tests.{ne_eqb}
+use Rattle.std.specs.Prelude.{Result as Returned, Ok, Err, Some, None, MatchResult}
 use Rattle.rules.specs.Tests.{pick}
 use Rattle.rules.specs.Words.{bytes_of}
 use Rattle.rules.specs.Pointers.{address_of}
@@ -20,8 +19,15 @@ use Rattle.logs.specs.Log.{Reply, logged, is_accepted, last_of, join, enter, app
 use Rattle.heap.specs.Answers.{status}
 use Rattle.objects.specs.declared.Placed.{Placed}
 use Rattle.allocator.specs.Answers.{placed}
-use Rattle.collector.specs.Answers.{result_of}
+use Rattle.objects.specs.Answers.{place_of}
+use Rattle.collector.specs.Answers.{answer_of, result_of}
 use Rattle.collector.specs.declared.Collected.{Collected}
+use Rattle.numbers.specs.Places.{found}
+use Rattle.numbers.specs.declared.Block.{Block}
+use Rattle.refusals.specs.Codes.{code}
+use Rattle.refusals.specs.declared.Refusal.{Refusal}
+use Rattle.refusals.specs.declared.Refusal.TheVariants.{NoRoom}
+use Rattle.refusals.proofs.Codes.{not_accepted}
 use Rattle.chain.specs.declared.Walk.{Walk}
 use Rattle.chain.specs.Walks.{last_by}
 use Rattle.appender.specs.Answers.{again_to, logs}
@@ -29,7 +35,7 @@ use Rattle.appender.proofs.Asking.{asked, asked_collect}
 
 -- ---- a new entry, at block k, with the pool before it and after each store
 
-module _ (t base first time tips k : ℕ) (w : Walk) (d : ℤ) (table pool pool₁ pool₂ : List ℕ) {a b own : ℕ}
+module _ (t base first time tips k : ℕ) (w : Walk) (d : ℤ) (table pool pool₁ pool₂ : List ℕ) (a b : Returned (Unit {0}) Refusal) {own : ℕ}
     (time_stored : status a pool₁ table ≡ perform (planes t) (Store base k 1 time) [] (memory pool table))
     (tips_stored : status b pool₂ table ≡ perform (planes t) (Store base k 2 tips) [] (memory pool₁ table))
     (address : own ≡ address_of base k) (ks stack : List ℕ) (last : last_of ks ≡ last_by w) where
@@ -38,22 +44,27 @@ module _ (t base first time tips k : ℕ) (w : Walk) (d : ℤ) (table pool pool�
   joins = sym (asked (planes t) (Store base k 1 time) _ stack _ _ refl time_stored ∙ asked (planes t) (Store base k 2 tips) _ stack _ _ refl tips_stored)
 
   -- the log starts with it
-  pub enters_first : w.count ≡ 0 → logs (record { refusal = 0; first = own; change = d }) pool₂ table stack ≡ run (planes t) (enter base first time tips ks k d) stack (memory pool table)
+  pub enters_first : w.last ≡ None → logs (Ok (record { first = own; change = d })) pool₂ table stack ≡ run (planes t) (enter base first time tips ks k d) stack (memory pool table)
   unfolding join run
   enters_first z =
-      let none_last : last_of ks ≡ none = last ∙ ap (λ (x : Bool). pick x none (some w.last.0)) (eq-eqb w.count 0 z) in
+      let none_last : last_of ks ≡ none = last ∙ ap found z in
       rw address (rw none_last at joins)
 
   -- or it stands behind the last
-  pub enters_behind : (pool₃ : List ℕ) {c : ℕ} → (w.count ≡ 0 → ⊥) → status c pool₃ table ≡ perform (planes t) (Store base w.last.0 0 own) [] (memory pool₂ table)
-      → logs (record { refusal = 0; first = first; change = d }) pool₃ table stack ≡ run (planes t) (enter base first time tips ks k d) stack (memory pool table)
+  pub enters_behind : (l : Block) (pool₃ : List ℕ) (x : Returned (Unit {0}) Refusal) → w.last ≡ Some l → status x pool₃ table ≡ perform (planes t) (Store base l.0 0 own) [] (memory pool₂ table)
+      → logs (Ok (record { first = first; change = d })) pool₃ table stack ≡ run (planes t) (enter base first time tips ks k d) stack (memory pool table)
   unfolding join run
-  enters_behind pool₃ ne stored =
-      let some_last : last_of ks ≡ some w.last.0 = last ∙ ap (λ (x : Bool). pick x none (some w.last.0)) (ne_eqb w.count 0 ne) in
-      let there = asked (planes t) (Store base w.last.0 0 (address_of base k)) (λ x. give (logged 0 first d)) stack (memory pool₂ table) _ refl (rw address at stored) in
+  enters_behind l pool₃ x z stored =
+      let some_last : last_of ks ≡ some l.0 = last ∙ ap found z in
+      let there = asked (planes t) (Store base l.0 0 (address_of base k)) (λ y. give (logged 0 first d)) stack (memory pool₂ table) _ refl (rw address at stored) in
       sym there ∙ rw some_last at joins
 
 -- ---- room for it
+
+-- the change by a collection: none, if it was refused
+pub reclaimed_by : (c : Returned Collected Refusal) (d : ℤ) → MatchResult c (λ x. d ≡ x.change) (λ _. d ≡ pos 0) → d ≡ (answer_of c).change
+reclaimed_by (Ok x) d e = e
+reclaimed_by (Err r) d e = e
 
 module _ (t base first time tips : ℕ) (roots ks stack : List ℕ) (pool table : List ℕ) where
   -- the entry at block k, with the change d
@@ -66,37 +77,37 @@ module _ (t base first time tips : ℕ) (roots ks stack : List ℕ) (pool table 
   abbrev reseeking : ℤ → Answer → Program Reply
   reseeking d x = pick (is_accepted x) (entering x.block (d +ℤ x.change)) (give (logged 9 0 d))
 
-  module _ (a : Placed) (pool₁ table₁ : List ℕ) (asks : placed a pool₁ table₁ ≡ perform (planes t) (Allocate base 32) [] (memory pool table)) where
+  module _ (pool₁ table₁ : List ℕ) where
     -- there is
-    pub adds : {y : Ran Reply} {d : ℤ} → a.refusal ≡ 0 → d ≡ a.change → y ≡ run (planes t) (entering a.block.0 d) stack (memory pool₁ table₁)
-        → y ≡ run (planes t) (append_to base first time tips roots ks) stack (memory pool table)
+    pub adds : (a : Placed) → placed (Ok a) pool₁ table₁ ≡ perform (planes t) (Allocate base 32) [] (memory pool table) → {y : Ran Reply} {d : ℤ} → d ≡ a.change
+        → y ≡ run (planes t) (entering a.block.0 d) stack (memory pool₁ table₁) → y ≡ run (planes t) (append_to base first time tips roots ks) stack (memory pool table)
     unfolding append_to
-    adds z e done =
+    adds a asks e done =
         done ∙ ap (λ (x : ℤ). run (planes t) (entering a.block.0 x) stack (memory pool₁ table₁)) e
-        ∙ sym (rw (eq-eqb a.refusal 0 z) at (asked (planes t) (Allocate base 32) seeking stack (memory pool table) _ refl asks))
+        ∙ sym (asked (planes t) (Allocate base 32) seeking stack (memory pool table) _ refl asks)
 
     -- there is none, and what is done then comes to y
-    pub adds_again : {y : Ran Reply} → (a.refusal ≡ 0 → ⊥) → y ≡ run (planes t) (again_to base first time tips roots ks) stack (memory pool₁ table₁)
-        → y ≡ run (planes t) (append_to base first time tips roots ks) stack (memory pool table)
+    pub adds_again : (r : Refusal) → placed (Err r) pool₁ table₁ ≡ perform (planes t) (Allocate base 32) [] (memory pool table) → {y : Ran Reply}
+        → y ≡ run (planes t) (again_to base first time tips roots ks) stack (memory pool₁ table₁) → y ≡ run (planes t) (append_to base first time tips roots ks) stack (memory pool table)
     unfolding append_to
-    adds_again ne done = done ∙ sym (rw (ne_eqb a.refusal 0 ne) at (asked (planes t) (Allocate base 32) seeking stack (memory pool table) _ refl asks))
+    adds_again r asks done = done ∙ sym (rw (ne_eqb (code r) 0 (not_accepted r)) at (asked (planes t) (Allocate base 32) seeking stack (memory pool table) _ refl asks))
 
   -- after a collection
-  module _ (c : Collected) (a : Placed) (table₁ stack₁ pool₂ table₂ : List ℕ) (collects : result_of c pool table₁ stack₁ ≡ perform (planes t) (Collect base (bytes_of first ++ roots)) stack (memory pool table))
-      (asks : placed a pool₂ table₂ ≡ perform (planes t) (Allocate base 32) [] (memory pool table₁)) where
-    reseeks : run (planes t) (again_to base first time tips roots ks) stack (memory pool table)
-        ≡ run (planes t) (pick (eqb a.refusal 0) (entering a.block.0 (c.change +ℤ a.change)) (give (logged 9 0 c.change))) stack₁ (memory pool₂ table₂)
-    reseeks =
+  module _ (c : Returned Collected Refusal) (table₁ stack₁ pool₂ table₂ : List ℕ)
+      (collects : result_of c pool table₁ stack₁ ≡ perform (planes t) (Collect base (bytes_of first ++ roots)) stack (memory pool table)) {d : ℤ} (reclaimed : d ≡ (answer_of c).change) where
+    reseeks : (p : Returned Placed Refusal) → placed p pool₂ table₂ ≡ perform (planes t) (Allocate base 32) [] (memory pool table₁)
+        → run (planes t) (again_to base first time tips roots ks) stack (memory pool table) ≡ run (planes t) (reseeking d (place_of p)) stack₁ (memory pool₂ table₂)
+    reseeks p asks =
         asked_collect (planes t) base (bytes_of first ++ roots) (λ x. ask (Allocate base 32) (reseeking x.change)) stack (memory pool table) _ collects
-        ∙ asked (planes t) (Allocate base 32) (reseeking c.change) stack₁ (memory pool table₁) _ refl asks
+        ∙ asked (planes t) (Allocate base 32) (reseeking (answer_of c).change) stack₁ (memory pool table₁) _ refl asks
+        ∙ ap (λ (x : ℤ). run (planes t) (reseeking x (place_of p)) stack₁ (memory pool₂ table₂)) (sym reclaimed)
 
-    pub again_adds : {y : Ran Reply} {d : ℤ} → a.refusal ≡ 0 → d ≡ c.change +ℤ a.change → y ≡ run (planes t) (entering a.block.0 d) stack₁ (memory pool₂ table₂)
-        → y ≡ run (planes t) (again_to base first time tips roots ks) stack (memory pool table)
-    again_adds z e done =
-        done ∙ ap (λ (x : ℤ). run (planes t) (entering a.block.0 x) stack₁ (memory pool₂ table₂)) e ∙ sym (rw (eq-eqb a.refusal 0 z) at reseeks)
+    pub again_adds : (a : Placed) → placed (Ok a) pool₂ table₂ ≡ perform (planes t) (Allocate base 32) [] (memory pool table₁) → {y : Ran Reply} {n : ℤ} → n ≡ d +ℤ a.change
+        → y ≡ run (planes t) (entering a.block.0 n) stack₁ (memory pool₂ table₂) → y ≡ run (planes t) (again_to base first time tips roots ks) stack (memory pool table)
+    again_adds a asks e done = done ∙ ap (λ (x : ℤ). run (planes t) (entering a.block.0 x) stack₁ (memory pool₂ table₂)) e ∙ sym (reseeks (Ok a) asks)
 
     -- 9: the collection stands
-    pub again_full : {d : ℤ} → (a.refusal ≡ 0 → ⊥) → d ≡ c.change
-        → logs (record { refusal = 9; first = 0; change = d }) pool₂ table₂ stack₁ ≡ run (planes t) (again_to base first time tips roots ks) stack (memory pool table)
+    pub again_full : (r : Refusal) → placed (Err r) pool₂ table₂ ≡ perform (planes t) (Allocate base 32) [] (memory pool table₁) → {n : ℤ} → n ≡ d
+        → logs (Err (record { refusal = NoRoom; change = n })) pool₂ table₂ stack₁ ≡ run (planes t) (again_to base first time tips roots ks) stack (memory pool table)
     unfolding run
-    again_full ne e = ap (λ (x : ℤ). ran (logged 9 0 x) (memory pool₂ table₂) stack₁) e ∙ sym (rw (ne_eqb a.refusal 0 ne) at reseeks)
+    again_full r asks e = ap (λ (x : ℤ). ran (logged 9 0 x) (memory pool₂ table₂) stack₁) e ∙ sym (rw (ne_eqb (code r) 0 (not_accepted r)) at (reseeks (Err r) asks))

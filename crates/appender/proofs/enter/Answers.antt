@@ -12,28 +12,22 @@ use Rattle.appender.proofs.enter.Goals as goal
 pub of_block-requires : goal.of_block-requires
 of_block-requires c = below_address _ _ c.requires.0
 
-pub to_word-own-requires : goal.to_word-own-requires
-to_word-own-requires c = rw c.of_block.ensures c.requires.0
-
-pub store_checked-requires : goal.store_checked-requires
-store_checked-requires c = c.requires.1
-
 pub store_checked-requires-2 : goal.store_checked-requires-2
 store_checked-requires-2 c = stays_checked _ _ _ [] _ c.store_checked.ensures c.requires.1
 
-pub returns-then-w-eq0 : goal.returns-then-w-eq0
-returns-then-w-eq0 c ks stack last =
+pub store_checked-requires-in-Some : goal.store_checked-requires-in-Some
+store_checked-requires-in-Some c = stays_checked _ _ _ [] _ c.store_checked-2.ensures (stays_checked _ _ _ [] _ c.store_checked.ensures c.requires.1)
+
+pub returns-in-Some : goal.returns-in-Some
+returns-in-Some c ks stack last =
     let a = c.args in
     rw (to_z-of_z w32 a.change (search (rules, c.ranges)))
-    (enters_first a.t a.base.0 a.first a.time a.tips a.k.0 a.w a.change a.table.now a.pool.now _ _ c.store_checked.ensures c.store_checked-2.ensures
-    (c.to_word-own.ensures ∙ c.of_block.ensures) ks stack last c.if-w-eq0.true)
+    (enters_behind a.t a.base.0 a.first a.time a.tips a.k.0 a.w a.change a.table.now a.pool.now _ _ _ _ c.store_checked.ensures c.store_checked-2.ensures
+    (c.to_word-own.ensures ∙ c.of_block.ensures) ks stack last _ _ _ c.in-Some.is c.store_checked-in-Some.ensures)
 
-pub store_checked-requires-3 : goal.store_checked-requires-3
-store_checked-requires-3 c = stays_checked _ _ _ [] _ c.store_checked-2.ensures (stays_checked _ _ _ [] _ c.store_checked.ensures c.requires.1)
-
-pub returns : goal.returns
-returns c ks stack last =
+pub returns-in-None : goal.returns-in-None
+returns-in-None c ks stack last =
     let a = c.args in
     rw (to_z-of_z w32 a.change (search (rules, c.ranges)))
-    (enters_behind a.t a.base.0 a.first a.time a.tips a.k.0 a.w a.change a.table.now a.pool.now _ _ c.store_checked.ensures c.store_checked-2.ensures
-    (c.to_word-own.ensures ∙ c.of_block.ensures) ks stack last _ c.if-w-eq0.false c.store_checked-3.ensures)
+    (enters_first a.t a.base.0 a.first a.time a.tips a.k.0 a.w a.change a.table.now a.pool.now _ _ _ _ c.store_checked.ensures c.store_checked-2.ensures
+    (c.to_word-own.ensures ∙ c.of_block.ensures) ks stack last c.in-None.is)
