@@ -150,7 +150,7 @@ module _ (f : Form) (faithful : Faithful f) (base first index : ℕ) (stack : Li
 -- ---- drop
 
 -- the object of an entry can be freed
-free_accepted : (base : ℕ) (h : Heap) → Passed base h → (k : ℕ) → Object h k → Accepted (free base h k)
+pub free_accepted : (base : ℕ) (h : Heap) → Passed base h → (k : ℕ) → Object h k → Accepted (free base h k)
 unfolding First of_free
 free_accepted base h good k head =
     free_number base h k 0

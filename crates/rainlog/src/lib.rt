@@ -7,41 +7,46 @@ ghost use Rattle.rules.specs.Planes.{planes};
 ghost use Rattle.rules.specs.Memory.{memory};
 ghost use Rattle.programs.specs.Programs.{run};
 ghost use Rattle.logs.specs.Log.{append as append_program, read as read_program, drop as drop_program};
+ghost use Rattle.refusals.specs.Codes.{refused_by};
 ghost use Rattle.appender.specs.Answers.{logs};
-ghost use Rattle.rainlog.specs.Answers.{Tests, reads, unlogged_by, unread_by};
+ghost use Rattle.rainlog.specs.Answers.{Tests, Sought, reads, drops};
 
-use appender::Logged;
-use numbers::Address;
+use appender::{Declined, Logged};
+use numbers::{Address, Block};
+use refusals::Refusal;
 
 // An entry.
 #[derive(Clone, Copy)]
 pub struct Readout {
-    pub refusal: u32,
     pub time: u32,
     pub tips: u32,
 }
 
 // Refusals 1, 2, 3 and 4 of an append.
-fn check(base: Address, t: usize, pool: &[u8], table: &[u8], roots: &[u8], stack: &[u8]) -> u32
-    ensures { Tests (planes t) base.0 roots.now stack.now (memory pool.now table.now) result }
+fn check(
+    base: Address,
+    t: usize,
+    pool: &[u8],
+    table: &[u8],
+    roots: &[u8],
+    stack: &[u8],
+) -> Result<(), Refusal>
+    ensures { Tests (planes t) base.0 roots.now stack.now (memory pool.now table.now) (refused_by result) }
 {
     if roots.len() % 4 != 0 {
-        return refusals::BAD_SHAPE;
+        return Err(Refusal::BadShape);
     }
     if stack.len() % 4 != 0 {
-        return refusals::BAD_SHAPE;
+        return Err(Refusal::BadShape);
     }
-    let r = heap::check(base, t, pool, table);
-    if r != 0 {
-        return r;
-    }
+    heap::check(base, t, pool, table)?;
     if refusals::MAX_ROOTS <= roots.len() / 4 {
-        return refusals::TOO_MANY_ROOTS;
+        return Err(Refusal::TooManyRoots);
     }
     if refusals::MAX_STACK_ENTRIES < stack.len() / 4 {
-        return refusals::STACK_TOO_LONG;
+        return Err(Refusal::StackTooLong);
     }
-    0
+    Ok(())
 }
 
 // An entry more, at the end.
@@ -55,18 +60,12 @@ pub fn append(
     tips: u32,
     roots: &[u8],
     stack: &mut [u8],
-) -> Logged
+) -> Result<Logged, Declined>
     ensures { logs result pool.new table.new stack.new
         ≡ run (planes t) (append_program base.0 first.0 time tips roots.now stack.old) stack.old (memory pool.old table.old) }
 {
-    let r = check(base, t, &*pool, &*table, roots, &*stack);
-    if r != 0 {
-        return unlogged(r);
-    }
-    let w = chain::follow(base, t, &*pool, &*table, first, 0);
-    if !w.whole {
-        return unlogged(refusals::NO_LOG);
-    }
+    check(base, t, &*pool, &*table, roots, &*stack)?;
+    let w = chain::follow(base, t, &*pool, &*table, first, 0).ok_or(Refusal::NoLog)?;
     appender::add(
         base,
         t,
@@ -81,15 +80,20 @@ pub fn append(
     )
 }
 
-// A refusal: every other part of the answer is zero.
-fn unlogged(refusal: u32) -> Logged
-    ensures { result ≡ unlogged_by refusal }
+// The block of an entry, counted from 0, and refusals 1, 2, 18 and 19.
+fn entry(
+    base: Address,
+    t: usize,
+    pool: &[u8],
+    table: &[u8],
+    first: Address,
+    index: u64,
+) -> Result<Block, Refusal>
+    ensures { Sought t base.0 first.0 index pool.now table.now result }
 {
-    Logged {
-        refusal,
-        first: 0,
-        change: 0,
-    }
+    heap::check(base, t, pool, table)?;
+    let w = chain::follow(base, t, pool, table, first, index).ok_or(Refusal::NoLog)?;
+    w.wanted.ok_or(Refusal::NoEntry)
 }
 
 // The time and the tip count of an entry, counted from 0.
@@ -100,60 +104,30 @@ pub fn read(
     table: &[u8],
     first: Address,
     index: u64,
-) -> Readout
+) -> Result<Readout, Refusal>
     ensures { reads result pool.now table.now ≡ run (planes t) (read_program base.0 first.0 index) [] (memory pool.now table.now) }
 {
-    let r = heap::check(base, t, pool, table);
-    if r != 0 {
-        return unread(r);
-    }
-    let w = chain::follow(base, t, pool, table, first, index);
-    if !w.whole {
-        return unread(refusals::NO_LOG);
-    }
-    if w.count as u64 <= index {
-        return unread(refusals::NO_ENTRY);
-    }
-    let time = heap::load_checked(base, t, pool, table, w.wanted, 1).value;
-    let tips = heap::load_checked(base, t, pool, table, w.wanted, 2).value;
-    Readout {
-        refusal: 0,
-        time,
-        tips,
-    }
-}
-
-// A refusal: every other part of the answer is zero.
-fn unread(refusal: u32) -> Readout
-    ensures { result ≡ unread_by refusal }
-{
-    Readout {
-        refusal,
-        time: 0,
-        tips: 0,
-    }
+    let k = entry(base, t, pool, table, first, index)?;
+    let time = heap::load_checked(base, t, pool, table, k, 1)?;
+    let tips = heap::load_checked(base, t, pool, table, k, 2)?;
+    Ok(Readout { time, tips })
 }
 
 // The oldest entry's object is freed, and the next entry is the first.
-pub fn drop(base: Address, t: usize, pool: &[u8], table: &mut [u8], first: Address) -> Logged
-    ensures { logs result pool.now table.new [] ≡ run (planes t) (drop_program base.0 first.0) [] (memory pool.now table.old) }
+pub fn drop(
+    base: Address,
+    t: usize,
+    pool: &[u8],
+    table: &mut [u8],
+    first: Address,
+) -> Result<Logged, Refusal>
+    ensures { drops result pool.now table.new ≡ run (planes t) (drop_program base.0 first.0) [] (memory pool.now table.old) }
 {
-    let r = heap::check(base, t, pool, &*table);
-    if r != 0 {
-        return unlogged(r);
-    }
-    let w = chain::follow(base, t, pool, &*table, first, 0);
-    if !w.whole {
-        return unlogged(refusals::NO_LOG);
-    }
-    if w.count == 0 {
-        return unlogged(refusals::NO_ENTRY);
-    }
-    let next = heap::load_checked(base, t, pool, &*table, w.wanted, 0).value;
-    let freed = allocator::free(base, t, pool, table, w.wanted);
-    Logged {
-        refusal: 0,
+    let k = entry(base, t, pool, &*table, first, 0)?;
+    let next = heap::load_checked(base, t, pool, &*table, k, 0)?;
+    let change = allocator::free(base, t, pool, table, k)?;
+    Ok(Logged {
         first: next,
-        change: freed.change,
-    }
+        change,
+    })
 }

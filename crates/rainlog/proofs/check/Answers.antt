@@ -1,6 +1,8 @@
 -- Each test in turn, with what is known once those before it have passed.
 -- Assumes nothing.
-use mathlib.Core.Path.{sym, ◌∙◌}
+use mathlib.Core.Path.{sym}
+use Rattle.std.proofs.lemmas.Result.{err_from_is_err_and}
+use Rattle.refusals.proofs.Codes.{not_accepted}
 use Rattle.rainlog.proofs.Replies.{torn_roots, torn_stack, whole_lists, bad_heap, many_roots, long_stack, all_passed}
 use Rattle.rainlog.proofs.check.Goals as goal
 
@@ -10,17 +12,20 @@ returns-then-roots-ne0 c = torn_roots _ _ _ _ (λ i. (c.shared_slice_known-2-1.g
 pub returns-then-stack-ne0 : goal.returns-then-stack-ne0
 returns-then-stack-ne0 c = torn_stack _ _ _ _ (λ i. (c.shared_slice_known-2-1.given i).fits) _ _ c.if-roots-ne0.false c.if-stack-ne0.true
 
-pub returns-then-r-ne0 : goal.returns-then-r-ne0
-returns-then-r-ne0 c = bad_heap _ _ _ _ (λ i. (c.shared_slice_known-2-1.given i).fits) _ _ (whole_lists _ _ c.if-roots-ne0.false c.if-stack-ne0.false) c.check-r.ensures c.if-r-ne0.true
+pub returns-in_err-check : goal.returns-in_err-check
+returns-in_err-check c =
+    let p = err_from_is_err_and c.from_residual.result c.from_residual.ensures.1 in
+    rw (p.1, p.2)
+    (bad_heap _ _ _ _ (λ i. (c.shared_slice_known-2-1.given i).fits) _ _ (whole_lists _ _ c.if-roots-ne0.false c.if-stack-ne0.false) c.in_err-check.ensures (not_accepted _))
 
 pub returns-then-roots-ge-MAX_ROOTS : goal.returns-then-roots-ge-MAX_ROOTS
 returns-then-roots-ge-MAX_ROOTS c = many_roots _ _ _ _ (λ i. (c.shared_slice_known-2-1.given i).fits) _ _ (whole_lists _ _ c.if-roots-ne0.false c.if-stack-ne0.false)
-    (sym c.check-r.ensures ∙ c.if-r-ne0.false) c.if-roots-ge-MAX_ROOTS.true
+    (sym c.in_ok-check.ensures) c.if-roots-ge-MAX_ROOTS.true
 
 pub returns-then-stack-gt-MAX_STACK_ENTRIES : goal.returns-then-stack-gt-MAX_STACK_ENTRIES
 returns-then-stack-gt-MAX_STACK_ENTRIES c = long_stack _ _ _ _ (λ i. (c.shared_slice_known-2-1.given i).fits) _ _ (whole_lists _ _ c.if-roots-ne0.false c.if-stack-ne0.false)
-    (sym c.check-r.ensures ∙ c.if-r-ne0.false) c.if-roots-ge-MAX_ROOTS.false c.if-stack-gt-MAX_STACK_ENTRIES.true
+    (sym c.in_ok-check.ensures) c.if-roots-ge-MAX_ROOTS.false c.if-stack-gt-MAX_STACK_ENTRIES.true
 
 pub returns : goal.returns
 returns c = all_passed _ _ _ _ (λ i. (c.shared_slice_known-2-1.given i).fits) _ _ (whole_lists _ _ c.if-roots-ne0.false c.if-stack-ne0.false)
-    (sym c.check-r.ensures ∙ c.if-r-ne0.false) c.if-roots-ge-MAX_ROOTS.false c.if-stack-gt-MAX_STACK_ENTRIES.false
+    (sym c.in_ok-check.ensures) c.if-roots-ge-MAX_ROOTS.false c.if-stack-gt-MAX_STACK_ENTRIES.false
