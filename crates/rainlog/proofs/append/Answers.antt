@@ -1,4 +1,5 @@
 -- `rainlog::append` meets its contract. Assumes nothing.
+use borrow.Author.Rules.{rules}
 use mathlib.Core.Path.{◌≡◌, refl, sym, ap, ◌∙◌}
 use mathlib.Core.Bool.{Bool, true, false}
 use mathlib.Core.List.{List}
@@ -30,7 +31,7 @@ few_roots f base roots stack m tests = go (leb 4096 (length roots / 4)) refl
 pub returns-in_err-check : goal.returns-in_err-check
 returns-in_err-check c =
     let p = err_from_is_err_and c.from_residual.result c.from_residual.ensures.1 in
-    rw (p.1, p.2) (append_refused _ _ _ _ (λ i. (c.slice_known-2-1.given i).fits) _ _ _ _ _ _ c.in_err-check.ensures)
+    rw (p.1, p.2) (append_refused _ _ _ _ (search rules) _ _ _ _ _ _ c.in_err-check.ensures)
 
 pub follow-requires : goal.follow-requires
 follow-requires c = c.in_ok-check.ensures.accepts refl
@@ -39,13 +40,13 @@ pub returns-in_err-w : goal.returns-in_err-w
 returns-in_err-w c =
     let p = err_from_is_err_and c.from_residual-in_err-w.result c.from_residual-in_err-w.ensures.1 in
     rw (p.1, p.2)
-    (append_no_log _ _ _ _ (λ i. (c.slice_known-2-1.given i).fits) _ _ _ _ _ c.in_ok-check.ensures c.follow.ensures _ c.in_err-w.ensures.ok_part c.in_err-w.ensures.value)
+    (append_no_log _ _ _ _ (search rules) _ _ _ _ _ c.in_ok-check.ensures c.follow.ensures _ c.in_err-w.ensures.ok_part c.in_err-w.ensures.value)
 
 pub to_word-requires : goal.to_word-requires
-to_word-requires c = append_word _ _ _ _ (λ i. (c.slice_known-2-1.given i).fits) _ _ _ 0 0 c.in_ok-check.ensures c.follow.ensures c.in_ok-w.ensures.ok_part
+to_word-requires c = append_word _ _ _ _ (search rules) _ _ _ 0 0 c.in_ok-check.ensures c.follow.ensures c.in_ok-w.ensures.ok_part
 
 pub add-requires : goal.add-requires
 add-requires c = (few_roots _ _ _ _ _ c.in_ok-check.ensures, c.in_ok-check.ensures.accepts refl)
 
 pub returns : goal.returns
-returns c = append_done _ _ _ _ (λ i. (c.slice_known-2-1.given i).fits) _ _ _ _ _ c.in_ok-check.ensures c.follow.ensures c.in_ok-w.ensures.ok_part c.to_word.ensures c.add.ensures
+returns c = append_done _ _ _ _ (search rules) _ _ _ _ _ c.in_ok-check.ensures c.follow.ensures c.in_ok-w.ensures.ok_part c.to_word.ensures c.add.ensures

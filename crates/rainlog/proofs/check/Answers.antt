@@ -1,5 +1,6 @@
 -- Each test in turn, with what is known once those before it have passed.
 -- Assumes nothing.
+use borrow.Author.Rules.{rules}
 use mathlib.Core.Path.{sym}
 use Rattle.std.proofs.lemmas.Result.{err_from_is_err_and}
 use Rattle.refusals.proofs.Codes.{not_accepted}
@@ -7,25 +8,25 @@ use Rattle.rainlog.proofs.Replies.{torn_roots, torn_stack, whole_lists, bad_heap
 use Rattle.rainlog.proofs.check.Goals as goal
 
 pub returns-then-roots-ne0 : goal.returns-then-roots-ne0
-returns-then-roots-ne0 c = torn_roots _ _ _ _ (λ i. (c.shared_slice_known-2-1.given i).fits) _ _ c.if-roots-ne0.true
+returns-then-roots-ne0 c = torn_roots _ _ _ _ (search rules) _ _ c.if-roots-ne0.true
 
 pub returns-then-stack-ne0 : goal.returns-then-stack-ne0
-returns-then-stack-ne0 c = torn_stack _ _ _ _ (λ i. (c.shared_slice_known-2-1.given i).fits) _ _ c.if-roots-ne0.false c.if-stack-ne0.true
+returns-then-stack-ne0 c = torn_stack _ _ _ _ (search rules) _ _ c.if-roots-ne0.false c.if-stack-ne0.true
 
 pub returns-in_err-check : goal.returns-in_err-check
 returns-in_err-check c =
     let p = err_from_is_err_and c.from_residual.result c.from_residual.ensures.1 in
     rw (p.1, p.2)
-    (bad_heap _ _ _ _ (λ i. (c.shared_slice_known-2-1.given i).fits) _ _ (whole_lists _ _ c.if-roots-ne0.false c.if-stack-ne0.false) c.in_err-check.ensures (not_accepted _))
+    (bad_heap _ _ _ _ (search rules) _ _ (whole_lists _ _ c.if-roots-ne0.false c.if-stack-ne0.false) c.in_err-check.ensures (not_accepted _))
 
 pub returns-then-roots-ge-MAX_ROOTS : goal.returns-then-roots-ge-MAX_ROOTS
-returns-then-roots-ge-MAX_ROOTS c = many_roots _ _ _ _ (λ i. (c.shared_slice_known-2-1.given i).fits) _ _ (whole_lists _ _ c.if-roots-ne0.false c.if-stack-ne0.false)
+returns-then-roots-ge-MAX_ROOTS c = many_roots _ _ _ _ (search rules) _ _ (whole_lists _ _ c.if-roots-ne0.false c.if-stack-ne0.false)
     (sym c.in_ok-check.ensures) c.if-roots-ge-MAX_ROOTS.true
 
 pub returns-then-stack-gt-MAX_STACK_ENTRIES : goal.returns-then-stack-gt-MAX_STACK_ENTRIES
-returns-then-stack-gt-MAX_STACK_ENTRIES c = long_stack _ _ _ _ (λ i. (c.shared_slice_known-2-1.given i).fits) _ _ (whole_lists _ _ c.if-roots-ne0.false c.if-stack-ne0.false)
+returns-then-stack-gt-MAX_STACK_ENTRIES c = long_stack _ _ _ _ (search rules) _ _ (whole_lists _ _ c.if-roots-ne0.false c.if-stack-ne0.false)
     (sym c.in_ok-check.ensures) c.if-roots-ge-MAX_ROOTS.false c.if-stack-gt-MAX_STACK_ENTRIES.true
 
 pub returns : goal.returns
-returns c = all_passed _ _ _ _ (λ i. (c.shared_slice_known-2-1.given i).fits) _ _ (whole_lists _ _ c.if-roots-ne0.false c.if-stack-ne0.false)
+returns c = all_passed _ _ _ _ (search rules) _ _ (whole_lists _ _ c.if-roots-ne0.false c.if-stack-ne0.false)
     (sym c.in_ok-check.ensures) c.if-roots-ge-MAX_ROOTS.false c.if-stack-gt-MAX_STACK_ENTRIES.false

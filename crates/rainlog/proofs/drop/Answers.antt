@@ -10,17 +10,17 @@ use Rattle.rainlog.proofs.drop.Goals as goal
 pub returns-in_err-k : goal.returns-in_err-k
 returns-in_err-k c =
     let p = err_from_is_err_and c.from_residual.result c.from_residual.ensures.1 in
-    rw (p.1, p.2) (drop_refused _ _ _ _ (λ i. (c.slice_known-1.given i).fits) _ _ c.in_err-k.ensures)
+    rw (p.1, p.2) (drop_refused _ _ _ _ (search rules) _ _ c.in_err-k.ensures)
 
 pub load_checked-requires : goal.load_checked-requires
 load_checked-requires c = c.in_ok-k.ensures.accepted
 
 pub returns-in_err-next : goal.returns-in_err-next
-returns-in_err-next c = absurd (load_stands _ _ _ _ (λ i. (c.slice_known-1.given i).fits) c.in_ok-k.ensures 0 (omega arith) _ c.in_err-next.ensures)
+returns-in_err-next c = absurd (load_stands _ _ _ _ (search rules) c.in_ok-k.ensures 0 (omega arith) _ c.in_err-next.ensures)
 
 pub returns-in_err-change : goal.returns-in_err-change
-returns-in_err-change c = absurd (free_stands _ _ _ _ (λ i. (c.slice_known-1.given i).fits) c.in_ok-k.ensures _ _ c.in_err-change.ensures)
+returns-in_err-change c = absurd (free_stands _ _ _ _ (search rules) c.in_ok-k.ensures _ _ c.in_err-change.ensures)
 
 pub returns : goal.returns
 returns c =
-    drop_done _ _ _ _ (λ i. (c.slice_known-1.given i).fits) c.in_ok-k.ensures _ _ _ c.in_ok-next.ensures c.in_ok-change.ensures (to_z-of_z w32 c.in_ok-change.change (search rules))
+    drop_done _ _ _ _ (search rules) c.in_ok-k.ensures _ _ _ c.in_ok-next.ensures c.in_ok-change.ensures (to_z-of_z w32 c.in_ok-change.change (search rules))

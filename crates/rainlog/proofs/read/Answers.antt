@@ -1,4 +1,5 @@
 -- `rainlog::read` meets its contract. Assumes nothing.
+use borrow.Author.Rules.{rules}
 use native.Mathlib.Omega.{arith}
 use Rattle.std.proofs.lemmas.Result.{err_from_is_err_and}
 use Rattle.rainlog.proofs.Replies.{read_refused, load_stands, read_done}
@@ -7,19 +8,19 @@ use Rattle.rainlog.proofs.read.Goals as goal
 pub returns-in_err-k : goal.returns-in_err-k
 returns-in_err-k c =
     let p = err_from_is_err_and c.from_residual.result c.from_residual.ensures.1 in
-    rw (p.1, p.2) (read_refused _ _ _ _ (λ i. (c.shared_slice_known-2-1.given i).fits) _ _ _ c.in_err-k.ensures)
+    rw (p.1, p.2) (read_refused _ _ _ _ (search rules) _ _ _ c.in_err-k.ensures)
 
 pub load_checked-requires : goal.load_checked-requires
 load_checked-requires c = c.in_ok-k.ensures.accepted
 
 pub returns-in_err-time : goal.returns-in_err-time
-returns-in_err-time c = absurd (load_stands _ _ _ _ (λ i. (c.shared_slice_known-2-1.given i).fits) c.in_ok-k.ensures 1 (omega arith) _ c.in_err-time.ensures)
+returns-in_err-time c = absurd (load_stands _ _ _ _ (search rules) c.in_ok-k.ensures 1 (omega arith) _ c.in_err-time.ensures)
 
 pub load_checked-requires-2 : goal.load_checked-requires-2
 load_checked-requires-2 c = c.in_ok-k.ensures.accepted
 
 pub returns-in_err-tips : goal.returns-in_err-tips
-returns-in_err-tips c = absurd (load_stands _ _ _ _ (λ i. (c.shared_slice_known-2-1.given i).fits) c.in_ok-k.ensures 2 (omega arith) _ c.in_err-tips.ensures)
+returns-in_err-tips c = absurd (load_stands _ _ _ _ (search rules) c.in_ok-k.ensures 2 (omega arith) _ c.in_err-tips.ensures)
 
 pub returns : goal.returns
-returns c = read_done _ _ _ _ (λ i. (c.shared_slice_known-2-1.given i).fits) c.in_ok-k.ensures _ _ c.in_ok-time.ensures c.in_ok-tips.ensures
+returns c = read_done _ _ _ _ (search rules) c.in_ok-k.ensures _ _ c.in_ok-time.ensures c.in_ok-tips.ensures
