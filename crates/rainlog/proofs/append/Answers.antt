@@ -33,9 +33,6 @@ returns-in_err-check c =
     let p = err_from_is_err_and c.from_residual.result c.from_residual.ensures.1 in
     rw (p.1, p.2) (append_refused _ _ _ _ (search rules) _ _ _ _ _ _ c.in_err-check.ensures)
 
-pub follow-requires : goal.follow-requires
-follow-requires c = c.in_ok-check.ensures.accepts refl
-
 pub returns-in_err-w : goal.returns-in_err-w
 returns-in_err-w c =
     let p = err_from_is_err_and c.from_residual-in_err-w.result c.from_residual-in_err-w.ensures.1 in

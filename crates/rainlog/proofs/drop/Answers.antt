@@ -12,9 +12,6 @@ returns-in_err-k c =
     let p = err_from_is_err_and c.from_residual.result c.from_residual.ensures.1 in
     rw (p.1, p.2) (drop_refused _ _ _ _ (search rules) _ _ c.in_err-k.ensures)
 
-pub load_checked-requires : goal.load_checked-requires
-load_checked-requires c = c.in_ok-k.ensures.accepted
-
 pub returns-in_err-next : goal.returns-in_err-next
 returns-in_err-next c = absurd (load_stands _ _ _ _ (search rules) c.in_ok-k.ensures 0 (omega arith) _ c.in_err-next.ensures)
 

@@ -10,14 +10,8 @@ returns-in_err-k c =
     let p = err_from_is_err_and c.from_residual.result c.from_residual.ensures.1 in
     rw (p.1, p.2) (read_refused _ _ _ _ (search rules) _ _ _ c.in_err-k.ensures)
 
-pub load_checked-requires : goal.load_checked-requires
-load_checked-requires c = c.in_ok-k.ensures.accepted
-
 pub returns-in_err-time : goal.returns-in_err-time
 returns-in_err-time c = absurd (load_stands _ _ _ _ (search rules) c.in_ok-k.ensures 1 (omega arith) _ c.in_err-time.ensures)
-
-pub load_checked-requires-2 : goal.load_checked-requires-2
-load_checked-requires-2 c = c.in_ok-k.ensures.accepted
 
 pub returns-in_err-tips : goal.returns-in_err-tips
 returns-in_err-tips c = absurd (load_stands _ _ _ _ (search rules) c.in_ok-k.ensures 2 (omega arith) _ c.in_err-tips.ensures)
