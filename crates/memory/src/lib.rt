@@ -6,17 +6,10 @@
 ghost use Rattle.std.specs.Prelude.{◌≡◌, ◌⊎◌, ℕ, ◌+◌, ◌-◌, ◌*◌, ◌^◌, ◌<◌, ◌≤◌, length, take, drop, replicate};
 ghost use Rattle.std.proofs.Common.{rules};
 ghost use Rattle.std.proofs.lemmas.List.Edits.{sets};
-ghost use Rattle.rules.specs.Words.{number, bytes_of, two_bytes_of, first_two, word_at, with_word};
+ghost use Rattle.rules.specs.Words.{bytes_of, two_bytes_of, first_two, word_at, with_word};
 ghost use Rattle.memory.specs.Bits.{BitsFrom};
 
 use numbers::Bytes;
-
-// The number in four bytes, the first the lowest.
-fn from_le_bytes(a: u8, b: u8, c: u8, d: u8) -> u32
-    ensures { result ≡ number a b c d }
-{
-    u32::from_le_bytes([a, b, c, d])
-}
 
 // Word i of the bytes.
 pub fn word(bytes: &[u8], i: usize) -> u32
