@@ -4,7 +4,6 @@ use mathlib.Core.Path.{◌≡◌, refl, sym, ap, ◌∙◌}
 use mathlib.Core.Bool.{Bool, true, false}
 use mathlib.Core.List.{List, [], ◌∷◌}
 use Prim.Native.Nat.{ℕ, zero, suc, ◌+◌, ◌-◌, ◌*◌, ◌%◌, ◌^◌, ◌≤◌, ◌<◌, min}
-use native.Mathlib.Nat.{one-le-pow}
 use native.Mathlib.Decide.{dec_lt}
 use native.Mathlib.Omega.{arith}
 use lib.Bits.{bit_and, bit_or, or_lt}
@@ -81,9 +80,6 @@ none_free es i h j l = bit_of_zero j ∙ past_end es i j (omega arith)
 -- the lowest `left` bits
 mask_is : (left : ℕ) → left < 32 → 1 * 2 ^ left % 2 ^ 32 ≡ 2 ^ left
 mask_is left h = let l : 2 ^ left < 2 ^ 32 = pow-lt {i = left} {j = 32} h in omega (arith, l)
-
-pub mask_some : (left : ℕ) → left < 32 → 1 ≤ 1 * 2 ^ left % 2 ^ 32
-mask_some left h = omega (arith, mask_is left h, one-le-pow left 2 (omega arith))
 
 module _ (es : List ℕ) (i low high : ℕ) (hl : low < 2 ^ 32) (hh : high < 2 ^ 32) (g : InLanes 32 es i low high) where
   abbrev free : ℕ

@@ -121,15 +121,6 @@ module _ (es : List ℕ) (i bits : ℕ) (small : bits < 2 ^ 32) (holds : FreeIn 
 
 -- ---- the whole table
 
-pub scan_start : (es : List ℕ) → Scanned es 0 0 0
-scan_start es = record {
-  start = 0;
-  run = record { room = omega arith; free = λ j l. absurd (omega arith) };
-  room = omega arith;
-  free = λ k h l. absurd (omega arith);
-  most = λ c s h r. absurd (omega arith);
-}
-
 -- at the end of the table the run that is left is one of the runs, and there is no other
 pub scan_end : (es : List ℕ) (p longest ending r : ℕ) → length es ≤ p → Scanned es p longest ending → longest ≤ r → ending ≤ r → (r ≡ longest) ⊎ (r ≡ ending)
     → Longest es r

@@ -9,12 +9,6 @@ use Rattle.laws.proofs.Widths.{in_32_bits}
 use Rattle.backscan.proofs.Tails.{last_is, tails_join, up_to_last, tails_here, back_to, back_first}
 use Rattle.backscan.proofs.past_tails.Goals as goal
 
-pub loop-at-init : goal.loop-at-init
-loop-at-init c = λ k l r. absurd (omega arith)
-
-pub non_tails-requires : goal.non_tails-requires
-non_tails-requires c = (c.requires.0, omega (arith, c.requires.1))
-
 pub overflow_mul-at : goal.overflow_mul-at
 overflow_mul-at c = in_32_bits (record { fits = omega (arith, few_entries c.args.t c.args.table.now c.requires.0, c.requires.1) })
 

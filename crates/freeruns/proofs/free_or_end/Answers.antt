@@ -4,7 +4,7 @@ use native.Mathlib.Omega.{arith}
 use borrow.Author.Rules.{rules}
 use Rattle.rules.specs.Planes.{entries_in}
 use Rattle.laws.proofs.Widths.{in_32_bits}
-use Rattle.freeruns.proofs.Frees.{mask_some, none_free, free_whole, free_left}
+use Rattle.freeruns.proofs.Frees.{none_free, free_whole, free_left}
 use Rattle.freeruns.proofs.free_or_end.Goals as goal
 
 pub overflow_mul-i : goal.overflow_mul-i
@@ -14,12 +14,6 @@ pub returns-then-left-eq0 : goal.returns-then-left-eq0
 returns-then-left-eq0 c =
     let a = c.args in
     none_free (entries_in a.t a.table.now) a.i (omega (arith, c.blocks-2.ensures a.table.now))
-
-pub group-g-requires : goal.group-g-requires
-group-g-requires c = (c.requires.0, omega (arith, c.blocks-2.ensures c.args.table.now))
-
-pub overflow_sub-result : goal.overflow_sub-result
-overflow_sub-result c = mask_some c.saturating_sub-left.result c.if-left-lt32.true
 
 pub returns-then-left-lt32 : goal.returns-then-left-lt32
 returns-then-left-lt32 c =

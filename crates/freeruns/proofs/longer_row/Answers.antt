@@ -1,22 +1,15 @@
 -- `longer_row`: as long as a row of one bit more starts somewhere, the whole row there is the next length.
 -- Assumes nothing.
-use mathlib.Core.Path.{refl}
-use mathlib.Core.Logic.{inl, inr}
+use mathlib.Core.Logic.{inr}
 use Prim.Native.Nat.{◌<◌}
 use native.Mathlib.Omega.{arith}
 use borrow.Author.Rules.{rules}
 use Rattle.laws.proofs.Widths.{in_32_bits}
-use Rattle.freeruns.proofs.Rows.{zeros_below, none_longer, starts_inside, whole_longer}
+use Rattle.freeruns.proofs.Rows.{zeros_below, none_longer, whole_longer}
 use Rattle.freeruns.proofs.longer_row.Goals as goal
-
-pub loop-best-init : goal.loop-best-init
-loop-best-init c = (search rules, inl refl)
 
 pub overflow_add-best : goal.overflow_add-best
 overflow_add-best c = in_32_bits (search rules)
-
-pub row_starts-found-requires : goal.row_starts-found-requires
-row_starts-found-requires c = (omega arith, omega arith)
 
 pub returns-then-found-eq0 : goal.returns-then-found-eq0
 returns-then-found-eq0 c =
@@ -26,13 +19,6 @@ returns-then-found-eq0 c =
       found = l.invariant.1;
       most = λ count j few row. none_longer c.args.bits l.best c.row_starts-found.result (omega arith) c.row_starts-found.ensures c.if-found-eq0.true count j row;
     }
-
-pub overflow_cast-found : goal.overflow_cast-found
-overflow_cast-found c = record { fits = omega (arith, (zeros_below 32 c.row_starts-found.result).few) }
-
-pub row_from-best-requires : goal.row_from-best-requires
-row_from-best-requires c =
-    starts_inside _ _ _ _ (omega arith) c.if-found-eq0.false c.row_starts-found.ensures (zeros_below 32 _)
 
 pub loop-best-smaller : goal.loop-best-smaller
 loop-best-smaller c =

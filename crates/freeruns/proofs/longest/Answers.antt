@@ -13,16 +13,11 @@ use Rattle.laws.proofs.Widths.{in_32_bits}
 use Rattle.entries.proofs.Cut.{held_in_planes, in_words, plane_lengths}
 use Rattle.freeruns.proofs.Frees.{free_whole}
 use Rattle.freeruns.proofs.Rows.{zeros_at}
-use Rattle.freeruns.proofs.Scans.{scan_start, scan_rest}
+use Rattle.freeruns.proofs.Scans.{scan_rest}
 use Rattle.freeruns.proofs.longest.Goals as goal
 
 pub overflow_mul-highs : goal.overflow_mul-highs
 overflow_mul-highs c = in_32_bits (record { fits = omega (arith, c.plane_bytes-half.ensures, c.requires.sized.few, (room_entries c.args.t).1) })
-
-pub loop-i-init : goal.loop-i-init
-loop-i-init c =
-    let a = c.args in
-    (omega arith, scan_start (entries_in a.t a.table.now))
 
 pub word_at-requires : goal.word_at-requires
 word_at-requires c =
@@ -39,9 +34,6 @@ word_at-requires-in-loop-i c =
     let room : 4 * c.loop-i.i + 4 ≤ c.plane_bytes-half.result =
     omega (arith, more, c.plane_bytes-half.ensures, length_entries_in c.args.t c.args.table.now, (room_entries c.args.t).0) in
     omega (arith, room, (plane_lengths c.args.t c.plane_bytes-half.result c.args.table.now c.requires c.plane_bytes-half.ensures).1)
-
-pub read_on-read-requires : goal.read_on-read-requires
-read_on-read-requires c = omega (arith, c.loop-i.invariant.1.room, c.loop-i.invariant.0)
 
 pub loop-i-preserved : goal.loop-i-preserved
 loop-i-preserved c =

@@ -10,15 +10,6 @@ use Rattle.freeruns.proofs.row_starts.Goals as goal
 pub loop-length-init : goal.loop-length-init
 loop-length-init c = (search rules, (search rules, (omega arith, row_one (c.args.bits + 2 ^ 32 * c.args.next))))
 
-pub overflow_cast-starts : goal.overflow_cast-starts
-overflow_cast-starts c = record { fits = omega arith }
-
-pub overflow_cast-starts-in-loop-length : goal.overflow_cast-starts-in-loop-length
-overflow_cast-starts-in-loop-length c = record { fits = omega arith }
-
-pub overflow_cast-after : goal.overflow_cast-after
-overflow_cast-after c = record { fits = omega arith }
-
 pub overflow_mul-length : goal.overflow_mul-length
 overflow_mul-length c = in_32_bits (search rules)
 
@@ -38,12 +29,6 @@ returns-then-rest-eq0 c =
     let l = c.loop-length in
     let a = c.args in
     starts_done a.bits a.next l.length 0 a.count l.starts l.after l.invariant.1.1.0 l.invariant.1.1.1 (omega (arith, c.if-rest-eq0.true))
-
-pub overflow_cast-result : goal.overflow_cast-result
-overflow_cast-result c = record { fits = omega arith }
-
-pub overflow_cast-result-2 : goal.overflow_cast-result-2
-overflow_cast-result-2 c = record { fits = omega arith }
 
 pub returns : goal.returns
 returns c =

@@ -51,12 +51,6 @@ overflow_add-at-then-found-ne0 c =
     let few = first_inside c.starts-found.result (omega arith) c.if-found-ne0.true in
     in_32_bits (record { fits = omega (arith, few, more) })
 
-pub plus-requires : goal.plus-requires
-plus-requires c =
-    let more = word_inside c.args.t c.args.table.now c.requires.0 (c.blocks-n.ensures c.args.table.now) c.loop-at-test.true in
-    let few = first_inside c.starts-found.result (omega arith) c.if-found-ne0.true in
-    omega (arith, few, more, c.first.ensures)
-
 pub returns-then-found-ne0 : goal.returns-then-found-ne0
 returns-then-found-ne0 c =
     let few = first_inside c.starts-found.result (omega arith) c.if-found-ne0.true in
@@ -95,11 +89,6 @@ loop-at-preserved c =
     let p = c.pass-at-in-loop-at in
     let none = none_here es c.args.count first c.loop-at.at bits.result mask.result after.result c.starts-found.result (omega arith) c.loop-at.invariant.1.1 bits.ensures mask.ensures after.ensures c.starts-found.ensures c.if-found-ne0.false in
     (p.ensures.1.0, (omega (arith, c.loop-at.invariant.1.0, p.ensures.0), no_start_join es c.args.count first (32 * (c.loop-at.at + 1)) (32 * p.result) none p.ensures.1.1))
-
-pub plus-requires-2 : goal.plus-requires-2
-plus-requires-2 c =
-    let long : c.blocks-n.result ≡ length (entries_in c.args.t c.args.table.now) = c.blocks-n.ensures c.args.table.now in
-    omega (arith, c.first-2.ensures, long, few_entries c.args.t c.args.table.now c.requires.0)
 
 pub returns : goal.returns
 returns c =

@@ -11,18 +11,8 @@ use Rattle.visitor.proofs.Pointing.{tail_inside, visit_at, visit_head, visit_oth
 use Rattle.visitor.proofs.Stacking.{came_to, came_pushed, came_same}
 use Rattle.visitor.proofs.visit.Goals as goal
 
-pub mark_head-met-requires : goal.mark_head-met-requires
-mark_head-met-requires c = (c.requires.table.0, c.block_of-k.ensures.small)
-
 pub push-requires : goal.push-requires
 push-requires c = (c.requires.table.1.0, c.block_of-k.ensures.small)
-
-pub visit_tail-requires : goal.visit_tail-requires
-visit_tail-requires c =
-    let h = c.in-Tail.ensures in
-    let a = c.args in
-    let same = came_same a.t a.table.now a.stack.now a.m c.requires.table.1.0 c.requires.table.1.1 h.1 in
-    record { table = (same.is_table, (same.deep, same.knows)); k_in_bounds = tail_inside a.t a.table.now c.mark_head-met.new.table c.block_of-k.result.0 h.0 }
 
 pub returns-in-Head : goal.returns-in-Head
 returns-in-Head c pool =

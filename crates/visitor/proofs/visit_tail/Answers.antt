@@ -36,11 +36,6 @@ returns-then-not-is_head c base pool =
       knows = knows_either (entries_in a.t a.table.now) a.m r.result h.result.0 a.k.0 c.requires.table.1.1 h.ensures r.ensures;
     }
 
-pub set_mark-requires : goal.set_mark-requires
-set_mark-requires c =
-    let head = head_is _ c.is_head.ensures c.if-not-is_head.false in
-    (c.requires.table.0, head)
-
 pub push-requires : goal.push-requires
 push-requires c =
     let es = entries_in c.args.t c.args.table.now in
