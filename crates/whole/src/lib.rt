@@ -89,7 +89,8 @@ pub fn well_formed(t: usize, table: &[u8]) -> bool
         bad = bad | r.bad;
         before = r.before;
     }
-    for j in 8 * groups..half {
+    let rest = 8 * groups;
+    for j in rest..half {
         let r = test_one(lows, highs, j, before);
         bad = bad | r.bad;
         before = r.before;
@@ -191,7 +192,8 @@ pub fn sweep(t: usize, table: &mut [u8])
     for i in 0..words {
         keeping = sweep_four(&mut *table, half, 4 * i, keeping);
     }
-    for j in 4 * words..half {
+    let rest = 4 * words;
+    for j in rest..half {
         keeping = sweep_one(&mut *table, half, j, keeping);
     }
 }

@@ -29,6 +29,11 @@ loop-i-preserved c =
       swept = rw next (e.ensures a.t (entries_in a.t a.table.now) c.plane_bytes-half.ensures l.invariant.swept);
     }
 
+pub overflow_mul-rest : goal.overflow_mul-rest
+overflow_mul-rest c =
+    let p = planes c.requires c.plane_bytes-half.ensures in
+    in_32_bits (record { fits = omega arith })
+
 pub loop-j-init : goal.loop-j-init
 loop-j-init c =
     let l = c.loop-i in

@@ -33,6 +33,11 @@ loop-i-preserved c =
     let next : 8 * l.i + 8 ≡ 8 * (l.i + 1) = omega arith in
     rw next at (tests_on _ _ _ (8 * l.i) 8 _ _ _ _ p.held l.invariant c.test_eight-r.ensures)
 
+pub overflow_mul-rest : goal.overflow_mul-rest
+overflow_mul-rest c =
+    let p = planes c.requires c.plane_bytes-half.ensures in
+    in_32_bits (record { fits = omega arith })
+
 pub loop-j-init : goal.loop-j-init
 loop-j-init c =
     let e : 8 * c.loop-i.i ≡ 8 * (c.plane_bytes-half.result / 8) = omega arith in
