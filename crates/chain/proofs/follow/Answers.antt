@@ -5,9 +5,6 @@ use native.Mathlib.Omega.{arith}
 use Rattle.chain.proofs.Walking.{ended, too_many, below, stopped, walk_on}
 use Rattle.chain.proofs.follow.Goals as goal
 
-pub loop-base-init : goal.loop-base-init
-loop-base-init c = record { few = omega arith; left = refl }
-
 pub returns-then-w-eq-MAX_BLOCKS : goal.returns-then-w-eq-MAX_BLOCKS
 returns-then-w-eq-MAX_BLOCKS c = too_many _ _ _ _ _ c.loop-base.invariant c.is_zero.ensures c.loop-base-test.true c.if-w-eq-MAX_BLOCKS.true
 
