@@ -2,20 +2,42 @@
 // reference. The crate blockheap_c exports each for C under the same name.
 #![tactic(auto)]
 
-ghost use Rattle.std.specs.Prelude.{◌≡◌, [], length as length_of};
+ghost use Rattle.std.specs.Prelude.{◌≡◌, ◌^◌, ◌<◌, [], length as length_of, IfOk};
 ghost use Rattle.rules.specs.Outcomes.{only_refusal, placement, collection, findings, reading, writing, opening};
 ghost use Rattle.rules.specs.Runs.{Init, Allocate, Free, Reallocate, Collect, Survey, Load, Store, WriteImage, OpenImage};
 ghost use Rattle.rules.specs.Lent.{lending, served, into_buffer};
+ghost use Rattle.objects.specs.Answers.{place_of};
 ghost use Rattle.logs.specs.Log.{logged, readout};
 ghost use Rattle.services.specs.Services.{HeapCall, Append, Read, Drop, answered, replied, serve};
 
 use numbers::{Address, Block, Bytes};
+use objects::Placed;
+use refusals::Refusal;
 
 pub fn blockheap_init(base: u64, t: u64, pool: &[u8], table: &mut [u8]) -> u32
     ensures { served (answered (only_refusal result)) (lending pool.now table.new) [] []
         ≡ serve t (HeapCall (Init base)) [] (lending pool.now table.old) }
 {
-    heap::init(Address::of_number(base), numbers::clamped(t), pool, table)
+    refusals::number_of(heap::init(Address::from(base), numbers::clamped(t), pool, table))
+}
+
+// Writes where an object is and the change in used blocks, and answers 0; of a refusal zeros, and its number.
+fn write_place(answer: Result<Placed, Refusal>, block: &mut u32, change: &mut i32) -> u32
+    requires { IfOk answer (λ (p : Placed). p.block.0 < 2 ^ 32) }
+    ensures { placement result block.new change.new ≡ place_of answer }
+{
+    match answer {
+        Ok(placed) => {
+            *block = placed.block.to_word();
+            *change = placed.change;
+            0
+        }
+        Err(refusal) => {
+            *block = 0;
+            *change = 0;
+            u32::from(refusal)
+        }
+    }
 }
 
 pub fn blockheap_allocate(
@@ -30,17 +52,14 @@ pub fn blockheap_allocate(
     ensures { served (answered (placement result block.new change.new)) (lending pool.new table.new) [] []
         ≡ serve t (HeapCall (Allocate base bytes)) [] (lending pool.old table.old) }
 {
-    let p = allocator::allocate(
-        Address::of_number(base),
+    let place = allocator::allocate(
+        Address::from(base),
         numbers::clamped(t),
         pool,
         table,
         Bytes::of_number(bytes),
     );
-    *block = p.block.number() as u32;
-    let d = p.change;
-    *change = d;
-    p.refusal
+    write_place(place, block, change)
 }
 
 pub fn blockheap_free(
@@ -54,16 +73,22 @@ pub fn blockheap_free(
     ensures { served (answered (placement result 0 change.new)) (lending pool.now table.new) [] []
         ≡ serve t (HeapCall (Free base block)) [] (lending pool.now table.old) }
 {
-    let f = allocator::free(
-        Address::of_number(base),
+    match allocator::free(
+        Address::from(base),
         numbers::clamped(t),
         pool,
         table,
         Block::of_number(block),
-    );
-    let d = f.change;
-    *change = d;
-    f.refusal
+    ) {
+        Ok(freed) => {
+            *change = freed;
+            0
+        }
+        Err(refusal) => {
+            *change = 0;
+            u32::from(refusal)
+        }
+    }
 }
 
 pub fn blockheap_reallocate(
@@ -79,18 +104,15 @@ pub fn blockheap_reallocate(
     ensures { served (answered (placement result new_block.new change.new)) (lending pool.new table.new) [] []
         ≡ serve t (HeapCall (Reallocate base block bytes)) [] (lending pool.old table.old) }
 {
-    let p = allocator::reallocate(
-        Address::of_number(base),
+    let place = allocator::reallocate(
+        Address::from(base),
         numbers::clamped(t),
         pool,
         table,
         Block::of_number(block),
         Bytes::of_number(bytes),
     );
-    *new_block = p.block.number() as u32;
-    let d = p.change;
-    *change = d;
-    p.refusal
+    write_place(place, new_block, change)
 }
 
 pub fn blockheap_collect(
@@ -107,19 +129,27 @@ pub fn blockheap_collect(
     ensures { served (answered (collection result kept.new rescans.new change.new)) (lending pool.now table.new) stack.new []
         ≡ serve t (HeapCall (Collect base roots.now)) stack.old (lending pool.now table.old) }
 {
-    let c = collector::collect(
-        Address::of_number(base),
+    match collector::collect(
+        Address::from(base),
         numbers::clamped(t),
         pool,
         table,
         roots,
         stack,
-    );
-    *kept = c.kept;
-    *rescans = c.rescans;
-    let d = c.change;
-    *change = d;
-    c.refusal
+    ) {
+        Ok(collected) => {
+            *kept = collected.kept;
+            *rescans = collected.rescans;
+            *change = collected.change;
+            0
+        }
+        Err(refusal) => {
+            *kept = 0;
+            *rescans = 0;
+            *change = 0;
+            u32::from(refusal)
+        }
+    }
 }
 
 pub fn blockheap_survey(
@@ -134,11 +164,20 @@ pub fn blockheap_survey(
     ensures { served (answered (findings result used.new objects.new longest.new)) (lending pool.now table.now) [] []
         ≡ serve t (HeapCall (Survey base)) [] (lending pool.now table.now) }
 {
-    let s = heap::survey(Address::of_number(base), numbers::clamped(t), pool, table);
-    *used = s.used;
-    *objects = s.objects;
-    *longest = s.longest;
-    s.refusal
+    match heap::survey(Address::from(base), numbers::clamped(t), pool, table) {
+        Ok(found) => {
+            *used = found.used;
+            *objects = found.objects;
+            *longest = found.longest;
+            0
+        }
+        Err(refusal) => {
+            *used = 0;
+            *objects = 0;
+            *longest = 0;
+            u32::from(refusal)
+        }
+    }
 }
 
 pub fn blockheap_load(
@@ -153,16 +192,23 @@ pub fn blockheap_load(
     ensures { served (answered (reading result value.new)) (lending pool.now table.now) [] []
         ≡ serve t (HeapCall (Load base block word)) [] (lending pool.now table.now) }
 {
-    let l = heap::load(
-        Address::of_number(base),
+    match heap::load(
+        Address::from(base),
         numbers::clamped(t),
         pool,
         table,
         Block::of_number(block),
         numbers::clamped(word),
-    );
-    *value = l.value;
-    l.refusal
+    ) {
+        Ok(word) => {
+            *value = word;
+            0
+        }
+        Err(refusal) => {
+            *value = 0;
+            u32::from(refusal)
+        }
+    }
 }
 
 pub fn blockheap_store(
@@ -177,15 +223,15 @@ pub fn blockheap_store(
     ensures { served (answered (only_refusal result)) (lending pool.new table.now) [] []
         ≡ serve t (HeapCall (Store base block word value)) [] (lending pool.old table.now) }
 {
-    heap::store(
-        Address::of_number(base),
+    refusals::number_of(heap::store(
+        Address::from(base),
         numbers::clamped(t),
         pool,
         table,
         Block::of_number(block),
         numbers::clamped(word),
         value,
-    )
+    ))
 }
 
 pub fn blockheap_write_image(
@@ -200,16 +246,23 @@ pub fn blockheap_write_image(
     ensures { served (answered (writing result length.new)) (lending pool.now table.now) [] image.new
         ≡ into_buffer image.old (serve t (HeapCall (WriteImage base roots.now (length_of image.old))) [] (lending pool.now table.now)) }
 {
-    let w = image::write(
-        Address::of_number(base),
+    match image::write(
+        Address::from(base),
         numbers::clamped(t),
         pool,
         table,
         roots,
         image,
-    );
-    *length = w.length;
-    w.refusal
+    ) {
+        Ok(written) => {
+            *length = written;
+            0
+        }
+        Err(refusal) => {
+            *length = 0;
+            u32::from(refusal)
+        }
+    }
 }
 
 pub fn blockheap_open_image(
@@ -224,10 +277,18 @@ pub fn blockheap_open_image(
     ensures { served (answered (opening result base.new count.new)) (lending pool.new table.new) [] roots.new
         ≡ into_buffer roots.old (serve t (HeapCall (OpenImage image.now (length_of roots.old))) [] (lending pool.old table.old)) }
 {
-    let o = opener::open_image(image, numbers::clamped(t), pool, table, roots);
-    *base = o.base;
-    *count = o.roots;
-    o.refusal
+    match opener::open_image(image, numbers::clamped(t), pool, table, roots) {
+        Ok(opened) => {
+            *base = opened.base;
+            *count = opened.roots;
+            0
+        }
+        Err(refusal) => {
+            *base = 0;
+            *count = 0;
+            u32::from(refusal)
+        }
+    }
 }
 
 pub fn blockheap_log_append(
@@ -246,21 +307,28 @@ pub fn blockheap_log_append(
     ensures { served (replied (logged result new_first.new change.new)) (lending pool.new table.new) stack.new []
         ≡ serve t (Append base first time tips roots.now) stack.old (lending pool.old table.old) }
 {
-    let l = rainlog::append(
-        Address::of_number(base),
+    match rainlog::append(
+        Address::from(base),
         numbers::clamped(t),
         pool,
         table,
-        Address::of_number(first),
+        Address::from(first),
         time,
         tips,
         roots,
         stack,
-    );
-    *new_first = l.first;
-    let d = l.change;
-    *change = d;
-    l.refusal
+    ) {
+        Ok(logged) => {
+            *new_first = logged.first;
+            *change = logged.change;
+            0
+        }
+        Err(declined) => {
+            *new_first = 0;
+            *change = declined.change;
+            u32::from(declined.refusal)
+        }
+    }
 }
 
 pub fn blockheap_log_read(
@@ -276,17 +344,25 @@ pub fn blockheap_log_read(
     ensures { served (replied (readout result time.new tips.new)) (lending pool.now table.now) [] []
         ≡ serve t (Read base first index) [] (lending pool.now table.now) }
 {
-    let e = rainlog::read(
-        Address::of_number(base),
+    match rainlog::read(
+        Address::from(base),
         numbers::clamped(t),
         pool,
         table,
-        Address::of_number(first),
+        Address::from(first),
         index,
-    );
-    *time = e.time;
-    *tips = e.tips;
-    e.refusal
+    ) {
+        Ok(entry) => {
+            *time = entry.time;
+            *tips = entry.tips;
+            0
+        }
+        Err(refusal) => {
+            *time = 0;
+            *tips = 0;
+            u32::from(refusal)
+        }
+    }
 }
 
 pub fn blockheap_log_drop(
@@ -301,15 +377,22 @@ pub fn blockheap_log_drop(
     ensures { served (replied (logged result new_first.new change.new)) (lending pool.now table.new) [] []
         ≡ serve t (Drop base first) [] (lending pool.now table.old) }
 {
-    let l = rainlog::drop(
-        Address::of_number(base),
+    match rainlog::drop(
+        Address::from(base),
         numbers::clamped(t),
         pool,
         table,
-        Address::of_number(first),
-    );
-    *new_first = l.first;
-    let d = l.change;
-    *change = d;
-    l.refusal
+        Address::from(first),
+    ) {
+        Ok(logged) => {
+            *new_first = logged.first;
+            *change = logged.change;
+            0
+        }
+        Err(refusal) => {
+            *new_first = 0;
+            *change = 0;
+            u32::from(refusal)
+        }
+    }
 }

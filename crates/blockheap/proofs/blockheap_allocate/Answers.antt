@@ -1,22 +1,19 @@
 -- `blockheap::blockheap_allocate` meets its contract: the block fits 32 bits, being a block of the table, and clamping changes no answer. Assumes nothing.
-use mathlib.Core.Path.{◌∙◌}
+use mathlib.Core.Path.{refl, ap, ◌∙◌}
 use mathlib.Core.List.{[]}
-use native.Mathlib.Omega.{arith}
-use borrow.Author.Rules.{rules}
-use mir.Syntax.{w32}
-use mir.ValLaws.{to_z-of_z}
+use Rattle.rules.specs.Outcomes.{Answer}
 use Rattle.rules.specs.Runs.{Allocate}
+use Rattle.rules.specs.Lent.{lending, served}
 use Rattle.laws.proofs.Blocks.{allocated_small}
-use Rattle.laws.proofs.Clamped.{call_clamped}
-use Rattle.services.proofs.Entries.{call_served}
+use Rattle.services.specs.Services.{answered}
+use Rattle.blockheap.proofs.Served.{by_call, fits_word}
 use Rattle.blockheap.proofs.blockheap_allocate.Goals as goal
 
-pub overflow_cast-block : goal.overflow_cast-block
-overflow_cast-block c = omega (arith, c.number.ensures, allocated_small _ _ _ _ _ c.allocate-p.ensures)
+pub write_place-requires : goal.write_place-requires
+write_place-requires c = fits_word _ (allocated_small _ _ _ _ _ c.allocate-place.ensures)
 
 pub returns : goal.returns
 returns c =
     let a = c.args in
-    rw (c.number.ensures, to_z-of_z w32 c.allocate-p.result.change (search (rules, c.struct_told-1.given)))
-    (call_served a.t [] _ (Allocate a.base a.bytes) _
-    ((rw (c.of_number.ensures, c.clamped.ensures, c.of_number-2.ensures) at c.allocate-p.ensures) ∙ call_clamped a.t (Allocate a.base a.bytes) [] _))
+    ap (λ (x : Answer). served (answered x) (lending c.allocate-place.new.pool c.allocate-place.new.table) [] []) c.write_place.ensures
+    ∙ by_call a.t (Allocate a.base a.bytes) [] _ _ c.allocate-place.ensures c.clamped.ensures (rw (c.from.ensures, c.of_number.ensures) refl)

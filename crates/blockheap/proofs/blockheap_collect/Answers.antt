@@ -1,16 +1,20 @@
 -- `blockheap::blockheap_collect` meets its contract: clamping changes no answer. Assumes nothing.
-use mathlib.Core.Path.{◌∙◌}
+use mathlib.Core.Path.{refl}
 use borrow.Author.Rules.{rules}
 use mir.Syntax.{w32}
 use mir.ValLaws.{to_z-of_z}
 use Rattle.rules.specs.Runs.{Collect}
-use Rattle.laws.proofs.Clamped.{call_clamped}
-use Rattle.services.proofs.Entries.{call_served}
+use Rattle.blockheap.proofs.Served.{by_call}
 use Rattle.blockheap.proofs.blockheap_collect.Goals as goal
 
-pub returns : goal.returns
-returns c =
+pub returns-in-Ok : goal.returns-in-Ok
+returns-in-Ok c =
     let a = c.args in
-    rw (to_z-of_z w32 c.collect-c.result.change (search (rules, c.struct_told-1.given)))
-    (call_served a.t a.stack.now _ (Collect a.base a.roots.now) _
-    ((rw (c.of_number.ensures, c.clamped.ensures) at c.collect-c.ensures) ∙ call_clamped a.t (Collect a.base a.roots.now) a.stack.now _))
+    rw (to_z-of_z w32 c.in-Ok.collected.change (search rules))
+    (by_call a.t (Collect a.base a.roots.now) a.stack.now _ _ c.in-Ok.ensures c.clamped.ensures (rw c.from.ensures refl))
+
+pub returns-in-Err : goal.returns-in-Err
+returns-in-Err c =
+    let a = c.args in
+    rw c.from-in-Err.ensures
+    (by_call a.t (Collect a.base a.roots.now) a.stack.now _ _ c.in-Err.ensures c.clamped.ensures (rw c.from.ensures refl))

@@ -1,17 +1,21 @@
 -- `blockheap::blockheap_free` meets its contract: clamping changes no answer. Assumes nothing.
-use mathlib.Core.Path.{◌∙◌}
+use mathlib.Core.Path.{refl}
 use mathlib.Core.List.{[]}
 use borrow.Author.Rules.{rules}
 use mir.Syntax.{w32}
 use mir.ValLaws.{to_z-of_z}
 use Rattle.rules.specs.Runs.{Free}
-use Rattle.laws.proofs.Clamped.{call_clamped}
-use Rattle.services.proofs.Entries.{call_served}
+use Rattle.blockheap.proofs.Served.{by_call}
 use Rattle.blockheap.proofs.blockheap_free.Goals as goal
 
-pub returns : goal.returns
-returns c =
+pub returns-in-Ok : goal.returns-in-Ok
+returns-in-Ok c =
     let a = c.args in
-    rw (to_z-of_z w32 c.free-f.result.change (search (rules, c.struct_told-1.given)))
-    (call_served a.t [] _ (Free a.base a.block) _
-    ((rw (c.of_number.ensures, c.clamped.ensures, c.of_number-2.ensures) at c.free-f.ensures) ∙ call_clamped a.t (Free a.base a.block) [] _))
+    rw (to_z-of_z w32 c.in-Ok.freed (search rules))
+    (by_call a.t (Free a.base a.block) [] _ _ c.in-Ok.ensures c.clamped.ensures (rw (c.from.ensures, c.of_number.ensures) refl))
+
+pub returns-in-Err : goal.returns-in-Err
+returns-in-Err c =
+    let a = c.args in
+    rw c.from-in-Err.ensures
+    (by_call a.t (Free a.base a.block) [] _ _ c.in-Err.ensures c.clamped.ensures (rw (c.from.ensures, c.of_number.ensures) refl))

@@ -1,13 +1,17 @@
 -- `blockheap::blockheap_load` meets its contract: clamping changes no answer. Assumes nothing.
-use mathlib.Core.Path.{◌∙◌}
+use mathlib.Core.Path.{refl}
 use mathlib.Core.List.{[]}
 use Rattle.rules.specs.Runs.{Load}
-use Rattle.laws.proofs.Clamped.{call_clamped}
-use Rattle.services.proofs.Entries.{call_served}
+use Rattle.blockheap.proofs.Served.{by_call}
 use Rattle.blockheap.proofs.blockheap_load.Goals as goal
 
-pub returns : goal.returns
-returns c =
+pub returns-in-Ok : goal.returns-in-Ok
+returns-in-Ok c =
     let a = c.args in
-    call_served a.t [] _ (Load a.base a.block a.word) _
-    ((rw (c.of_number.ensures, c.clamped.ensures, c.of_number-2.ensures, c.clamped-2.ensures) at c.load-l.ensures) ∙ call_clamped a.t (Load a.base a.block a.word) [] _)
+    by_call a.t (Load a.base a.block a.word) [] _ _ c.in-Ok.ensures c.clamped.ensures (rw (c.from.ensures, c.of_number.ensures, c.clamped-2.ensures) refl)
+
+pub returns-in-Err : goal.returns-in-Err
+returns-in-Err c =
+    let a = c.args in
+    rw c.from-in-Err.ensures
+    (by_call a.t (Load a.base a.block a.word) [] _ _ c.in-Err.ensures c.clamped.ensures (rw (c.from.ensures, c.of_number.ensures, c.clamped-2.ensures) refl))

@@ -6,8 +6,15 @@ use Rattle.logs.specs.Log.{read}
 use Rattle.services.proofs.Entries.{read_served}
 use Rattle.blockheap.proofs.blockheap_log_read.Goals as goal
 
-pub returns : goal.returns
-returns c =
+pub returns-in-Ok : goal.returns-in-Ok
+returns-in-Ok c =
     let a = c.args in
     read_served a.t [] _ a.base a.first a.index _
-    ((rw (c.of_number.ensures, c.clamped.ensures, c.of_number-2.ensures) at c.read-e.ensures) ∙ run_clamped a.t (read a.base a.first a.index) [] _)
+    (rw (c.from.ensures, c.clamped.ensures, c.from-2.ensures) at c.in-Ok.ensures ∙ run_clamped a.t (read a.base a.first a.index) [] _)
+
+pub returns-in-Err : goal.returns-in-Err
+returns-in-Err c =
+    let a = c.args in
+    rw c.from-in-Err.ensures
+    (read_served a.t [] _ a.base a.first a.index _
+    (rw (c.from.ensures, c.clamped.ensures, c.from-2.ensures) at c.in-Err.ensures ∙ run_clamped a.t (read a.base a.first a.index) [] _))

@@ -1,13 +1,17 @@
 -- `blockheap::blockheap_survey` meets its contract: clamping changes no answer. Assumes nothing.
-use mathlib.Core.Path.{◌∙◌}
+use mathlib.Core.Path.{refl}
 use mathlib.Core.List.{[]}
 use Rattle.rules.specs.Runs.{Survey}
-use Rattle.laws.proofs.Clamped.{call_clamped}
-use Rattle.services.proofs.Entries.{call_served}
+use Rattle.blockheap.proofs.Served.{by_call}
 use Rattle.blockheap.proofs.blockheap_survey.Goals as goal
 
-pub returns : goal.returns
-returns c =
+pub returns-in-Ok : goal.returns-in-Ok
+returns-in-Ok c =
     let a = c.args in
-    call_served a.t [] _ (Survey a.base) _
-    ((rw (c.of_number.ensures, c.clamped.ensures) at c.survey-s.ensures) ∙ call_clamped a.t (Survey a.base) [] _)
+    by_call a.t (Survey a.base) [] _ _ c.in-Ok.ensures c.clamped.ensures (rw c.from.ensures refl)
+
+pub returns-in-Err : goal.returns-in-Err
+returns-in-Err c =
+    let a = c.args in
+    rw c.from-in-Err.ensures
+    (by_call a.t (Survey a.base) [] _ _ c.in-Err.ensures c.clamped.ensures (rw c.from.ensures refl))
