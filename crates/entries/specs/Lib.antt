@@ -1,3 +1,4 @@
 pub mod Numbers
 pub mod Groups
 pub mod Marking
+pub mod Lent

@@ -11,7 +11,7 @@ ghost use Rattle.rules.specs.Tables.{entry_at, is_head, is_tail, well_formed, bl
 ghost use Rattle.rules.specs.Planes.{plane_bytes, entries_in, Sized, IsTable, Holds};
 ghost use Rattle.memory.specs.Bits.{BitsFrom};
 ghost use Rattle.entries.specs.Numbers.{number_of};
-ghost use Rattle.entries.specs.Groups.{Span, InLanes, InParts};
+ghost use Rattle.entries.specs.Groups.{Span, InLanes, InPlanes, InParts};
 ghost use Rattle.entries.specs.Marking.{MarksHead};
 
 use memory::FromBytes;
@@ -58,48 +58,123 @@ fn bit(b: u8, j: usize) -> u8
     ((u32::from(b) >> j) & 1) as u8
 }
 
-// The entry of block k.
-pub fn entry_at(t: usize, table: &[u8], k: Block) -> Entry
-    requires { IsTable t table.now × (k.0 < length (entries_in t table.now)) }
-    ensures { number_of result ≡ entry_at (entries_in t table.now) k.0 }
-{
-    let i = k.index();
-    let high = plane_bytes(t) + i / 8;
-    match bit(table[i / 8], i % 8) + 2 * bit(table[high], i % 8) {
-        0 => Entry::Free,
-        1 => Entry::Head,
-        2 => Entry::Tail,
-        _ => Entry::Mark,
+// A table of 4t blocks that is lent to be read. No spare bit of it is set; what its entries are is not tested.
+#[derive(Clone, Copy)]
+pub struct Table<'a> {
+    t: usize,
+    bytes: &'a [u8],
+    pub ghost is_table: { IsTable t bytes.now },
+}
+
+impl<'a> Table<'a> {
+    ghost use Rattle.entries.specs.Lent.{entries_of};
+
+    // The lent bytes as a table of 4t blocks.
+    pub fn new(t: usize, bytes: &'a [u8]) -> Table<'a>
+        requires { IsTable t bytes.now }
+        ensures { entries_of result ≡ entries_in t bytes.now }
+    {
+        Table { t, bytes }
     }
-}
 
-// Whether block k's low bit is LOW and its high bit the other: so is a HEAD for LOW 1, and a TAIL for LOW 0. Where the low bit tells, the high one is not read.
-fn is<const LOW: u8>(t: usize, table: &[u8], k: Block) -> bool
-    requires { (LOW < 2) × (IsTable t table.now × (k.0 < length (entries_in t table.now))) }
-    ensures { result ≡ eqb (entry_at (entries_in t table.now) k.0) (2 - LOW) }
-{
-    let i = k.index();
-    if bit(table[i / 8], i % 8) != LOW {
-        return false;
+    // How many blocks it rules.
+    pub fn blocks(&self) -> usize
+        ensures { result ≡ length (entries_of self.now) }
+    {
+        blocks(self.t)
     }
-    let high = plane_bytes(t) + i / 8;
-    bit(table[high], i % 8) != LOW
-}
 
-// Whether block k is HEAD.
-pub fn is_head(t: usize, table: &[u8], k: Block) -> bool
-    requires { IsTable t table.now × (k.0 < length (entries_in t table.now)) }
-    ensures { result ≡ is_head (entry_at (entries_in t table.now) k.0) }
-{
-    is::<1>(t, table, k)
-}
+    // Its two planes.
+    pub fn planes(&self) -> Planes<'a>
+        ensures hold { InPlanes (entries_of self.now) result.lows.now result.highs.now }
+        ensures lows { length result.lows.now ≡ plane_bytes self.now.t }
+        ensures highs { length result.highs.now ≡ plane_bytes self.now.t }
+    {
+        let half = plane_bytes(self.t);
+        Planes {
+            lows: &self.bytes[0..half],
+            highs: &self.bytes[half..2 * half],
+        }
+    }
 
-// Whether block k is TAIL.
-pub fn is_tail(t: usize, table: &[u8], k: Block) -> bool
-    requires { IsTable t table.now × (k.0 < length (entries_in t table.now)) }
-    ensures { result ≡ is_tail (entry_at (entries_in t table.now) k.0) }
-{
-    is::<0>(t, table, k)
+    // The entry of block k.
+    pub fn entry_at(&self, k: Block) -> Entry
+        requires { k.0 < length (entries_of self.now) }
+        ensures { number_of result ≡ entry_at (entries_of self.now) k.0 }
+    {
+        let i = k.index();
+        let high = plane_bytes(self.t) + i / 8;
+        match bit(self.bytes[i / 8], i % 8) + 2 * bit(self.bytes[high], i % 8) {
+            0 => Entry::Free,
+            1 => Entry::Head,
+            2 => Entry::Tail,
+            _ => Entry::Mark,
+        }
+    }
+
+    // Whether block k's low bit is LOW and its high bit the other: so is a HEAD for LOW 1, and a TAIL for LOW 0. Where the low bit tells, the high one is not read.
+    fn is<const LOW: u8>(&self, k: Block) -> bool
+        requires { (LOW < 2) × (k.0 < length (entries_of self.now)) }
+        ensures { result ≡ eqb (entry_at (entries_of self.now) k.0) (2 - LOW) }
+    {
+        let i = k.index();
+        if bit(self.bytes[i / 8], i % 8) != LOW {
+            return false;
+        }
+        let high = plane_bytes(self.t) + i / 8;
+        bit(self.bytes[high], i % 8) != LOW
+    }
+
+    // Whether block k is HEAD.
+    pub fn is_head(&self, k: Block) -> bool
+        requires { k.0 < length (entries_of self.now) }
+        ensures { result ≡ is_head (entry_at (entries_of self.now) k.0) }
+    {
+        self.is::<1>(k)
+    }
+
+    // Whether block k is TAIL.
+    pub fn is_tail(&self, k: Block) -> bool
+        requires { k.0 < length (entries_of self.now) }
+        ensures { result ≡ is_tail (entry_at (entries_of self.now) k.0) }
+    {
+        self.is::<0>(k)
+    }
+
+    // Whether block k is the head of an object of two blocks. There is no MARK: so a low bit is a HEAD's, and a high bit a TAIL's.
+    pub fn is_pair(&self, k: Block) -> bool
+        requires { (k.0 < length (entries_of self.now)) × (well_formed (entries_of self.now) ≡ true) }
+        ensures { result ≡ both (is_head (entry_at (entries_of self.now) k.0)) (eqb (block_count (entries_of self.now) k.0) 2) }
+    {
+        let Planes { lows, highs } = self.planes();
+        let i = k.index();
+        if plane_bit(lows, i) == 0 {
+            return false;
+        }
+        if plane_bit(highs, i + 1) == 0 {
+            return false;
+        }
+        plane_bit(highs, i + 2) == 0
+    }
+
+    // The entries of the blocks in number i of the table. Past its end they are FREE. The planes are not cut out: that is slower for one group.
+    pub fn group<W: FromBytes>(&self, i: usize) -> Lanes<W>
+        requires { 8 * W.BYTES * i < length (entries_of self.now) }
+        ensures { InLanes (8 * W.BYTES) (entries_of self.now) i (W.value result.low) (W.value result.high) }
+    {
+        let half = plane_bytes(self.t);
+        let at = W::BYTES * i;
+        if at + W::BYTES <= half {
+            return Lanes {
+                low: memory::bits(self.bytes, at),
+                high: memory::bits(self.bytes, half + at),
+            };
+        }
+        Lanes {
+            low: memory::last_bits(self.bytes, at, half),
+            high: memory::last_bits(self.bytes, half + at, 2 * half),
+        }
+    }
 }
 
 // Bit i of a plane. Past its end it is 0.
@@ -110,24 +185,6 @@ fn plane_bit(plane: &[u8], i: usize) -> u8
         Some(byte) => bit(*byte, i % 8),
         None => 0,
     }
-}
-
-// Whether block k is the head of an object of two blocks. There is no MARK: so a low bit is a HEAD's, and a high bit a TAIL's.
-pub fn is_pair(t: usize, table: &[u8], k: Block) -> bool
-    requires { IsTable t table.now × ((k.0 < length (entries_in t table.now)) × (well_formed (entries_in t table.now) ≡ true)) }
-    ensures { result ≡ both (is_head (entry_at (entries_in t table.now) k.0)) (eqb (block_count (entries_in t table.now) k.0) 2) }
-{
-    let half = plane_bytes(t);
-    let lows = &table[0..half];
-    let highs = &table[half..2 * half];
-    let i = k.index();
-    if plane_bit(lows, i) == 0 {
-        return false;
-    }
-    if plane_bit(highs, i + 1) == 0 {
-        return false;
-    }
-    plane_bit(highs, i + 2) == 0
 }
 
 // Block k, a HEAD, becomes MARK: its high bit is set.
@@ -213,46 +270,36 @@ pub struct Lanes<W> {
     pub high: W,
 }
 
-// The entries of the blocks in number i of the planes. Each plane is a part of its own, cut once for many numbers: then a bounds check of each is cheap.
-pub fn words_at<W: FromBytes>(lows: &[u8], highs: &[u8], i: usize) -> Lanes<W>
-    requires { (W.BYTES * i + W.BYTES ≤ length lows.now) × (W.BYTES * i + W.BYTES ≤ length highs.now) }
-    ensures { InParts (8 * W.BYTES) lows.now highs.now i (W.value result.low) (W.value result.high) }
-{
-    let at = W::BYTES * i;
-    Lanes {
-        low: memory::bits(lows, at),
-        high: memory::bits(highs, at),
-    }
+// The two planes of a table, each a part of its own, cut once for many numbers: then a bounds check of each is cheap.
+#[derive(Clone, Copy)]
+pub struct Planes<'a> {
+    pub lows: &'a [u8],
+    pub highs: &'a [u8],
 }
 
-// The same where the planes end in these blocks. Past the end they are FREE.
-pub fn last_words<W: FromBytes>(lows: &[u8], highs: &[u8], i: usize) -> Lanes<W>
-    requires { (W.BYTES * i ≤ length lows.now) × ((length lows.now ≤ W.BYTES * i + W.BYTES) × (length highs.now ≡ length lows.now)) }
-    ensures { InParts (8 * W.BYTES) lows.now highs.now i (W.value result.low) (W.value result.high) }
-{
-    let at = W::BYTES * i;
-    Lanes {
-        low: memory::last_bits(lows, at, lows.len()),
-        high: memory::last_bits(highs, at, highs.len()),
+impl Planes<'_> {
+    // The entries of the blocks in number i of the planes.
+    pub fn words_at<W: FromBytes>(&self, i: usize) -> Lanes<W>
+        requires { (W.BYTES * i + W.BYTES ≤ length self.now.lows.now) × (W.BYTES * i + W.BYTES ≤ length self.now.highs.now) }
+        ensures { InParts (8 * W.BYTES) self.now.lows.now self.now.highs.now i (W.value result.low) (W.value result.high) }
+    {
+        let at = W::BYTES * i;
+        Lanes {
+            low: memory::bits(self.lows, at),
+            high: memory::bits(self.highs, at),
+        }
     }
-}
 
-// The same of a table. Past its end they are FREE. The planes are not cut out: that is slower for one group.
-pub fn group<W: FromBytes>(t: usize, table: &[u8], i: usize) -> Lanes<W>
-    requires { IsTable t table.now × (8 * W.BYTES * i < length (entries_in t table.now)) }
-    ensures { InLanes (8 * W.BYTES) (entries_in t table.now) i (W.value result.low) (W.value result.high) }
-{
-    let half = plane_bytes(t);
-    let at = W::BYTES * i;
-    if at + W::BYTES <= half {
-        return Lanes {
-            low: memory::bits(table, at),
-            high: memory::bits(table, half + at),
-        };
-    }
-    Lanes {
-        low: memory::last_bits(table, at, half),
-        high: memory::last_bits(table, half + at, 2 * half),
+    // The same where the planes end in these blocks. Past the end they are FREE.
+    pub fn last_words<W: FromBytes>(&self, i: usize) -> Lanes<W>
+        requires { (W.BYTES * i ≤ length self.now.lows.now) × ((length self.now.lows.now ≤ W.BYTES * i + W.BYTES) × (length self.now.highs.now ≡ length self.now.lows.now)) }
+        ensures { InParts (8 * W.BYTES) self.now.lows.now self.now.highs.now i (W.value result.low) (W.value result.high) }
+    {
+        let at = W::BYTES * i;
+        Lanes {
+            low: memory::last_bits(self.lows, at, self.lows.len()),
+            high: memory::last_bits(self.highs, at, self.highs.len()),
+        }
     }
 }
 

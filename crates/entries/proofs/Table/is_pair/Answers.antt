@@ -15,13 +15,12 @@ use Rattle.rules.specs.Entries.{HEAD, TAIL, MARK}
 use Rattle.rules.specs.Tables.{entry_at, is_head, well_formed, block_count}
 use Rattle.laws.specs.Meaning.{Extent}
 use Rattle.laws.proofs.Bits.{bit_at_lt}
-use Rattle.laws.proofs.Planes.{few_entries, room_entries}
+use Rattle.laws.proofs.Planes.{few_entries}
 use Rattle.laws.proofs.Refusals.{both_false}
 use Rattle.laws.proofs.Tables.{entry_inside, well_says, extent_of, count_is}
 use Rattle.laws.proofs.Widths.{in_32_bits}
 use Rattle.entries.specs.Groups.{InPlanes}
-use Rattle.entries.proofs.Cut.{held_in_planes}
-use Rattle.entries.proofs.is_pair.Goals as goal
+use Rattle.entries.proofs.Table.is_pair.Goals as goal
 
 -- the entries es in two planes, with no MARK; i is the number of a block k
 module _ (es lows highs : List ℕ) (planes : InPlanes es lows highs) (well : well_formed es ≡ true) (k : ℕ) (inside : k < length es) {i : ℕ} (is : i ≡ k) where
@@ -75,25 +74,21 @@ module _ (es lows highs : List ℕ) (planes : InPlanes es lows highs) (well : we
             sym (eq-eqb (block_count es k) 2 (count_is es k 2 two))
         go false q = sym (ne_eqb (block_count es k) 2 (λ two. (extent_of es k inside).next (rw two (tail_of (k + 2) g eg (eqb-false g 0 q)))))
 
-pub overflow_mul-highs : goal.overflow_mul-highs
-overflow_mul-highs c =
-    in_32_bits (record { fits = omega (arith, c.plane_bytes-half.ensures, c.requires.0.sized.few, (room_entries c.args.t).1) })
-
 pub returns-then-plane_bit-eq0 : goal.returns-then-plane_bit-eq0
 returns-then-plane_bit-eq0 c =
-    no_head _ _ _ (held_in_planes c.args.t _ c.args.table.now c.requires.0 c.plane_bytes-half.ensures) c.requires.1.1 c.args.k.0 c.requires.1.0 c.index-i.ensures _ c.plane_bit.ensures c.if-plane_bit-eq0.true
+    no_head _ _ _ c.planes.ensures.hold c.requires.1 c.args.k.0 c.requires.0 c.index-i.ensures _ c.plane_bit.ensures c.if-plane_bit-eq0.true
 
 pub overflow_add-i : goal.overflow_add-i
-overflow_add-i c = in_32_bits (record { fits = omega (arith, c.index-i.ensures, c.requires.1.0, few_entries _ _ c.requires.0) })
+overflow_add-i c = in_32_bits (record { fits = omega (arith, c.index-i.ensures, c.requires.0, few_entries _ _ c.args.self.now.is_table) })
 
 pub returns-then-plane_bit-eq0-2 : goal.returns-then-plane_bit-eq0-2
 returns-then-plane_bit-eq0-2 c =
-    one_block _ _ _ (held_in_planes c.args.t _ c.args.table.now c.requires.0 c.plane_bytes-half.ensures) c.requires.1.1 c.args.k.0 c.requires.1.0 c.index-i.ensures _ c.plane_bit-2.ensures c.if-plane_bit-eq0-2.true
+    one_block _ _ _ c.planes.ensures.hold c.requires.1 c.args.k.0 c.requires.0 c.index-i.ensures _ c.plane_bit-2.ensures c.if-plane_bit-eq0-2.true
 
 pub overflow_add-i-2 : goal.overflow_add-i-2
-overflow_add-i-2 c = in_32_bits (record { fits = omega (arith, c.index-i.ensures, c.requires.1.0, few_entries _ _ c.requires.0) })
+overflow_add-i-2 c = in_32_bits (record { fits = omega (arith, c.index-i.ensures, c.requires.0, few_entries _ _ c.args.self.now.is_table) })
 
 pub returns : goal.returns
 returns c =
-    two_blocks _ _ _ (held_in_planes c.args.t _ c.args.table.now c.requires.0 c.plane_bytes-half.ensures) c.requires.1.1 c.args.k.0 c.requires.1.0 c.index-i.ensures
+    two_blocks _ _ _ c.planes.ensures.hold c.requires.1 c.args.k.0 c.requires.0 c.index-i.ensures
     _ c.plane_bit.ensures c.if-plane_bit-eq0.false _ c.plane_bit-2.ensures c.if-plane_bit-eq0-2.false _ c.plane_bit-3.ensures

@@ -17,7 +17,7 @@ use Rattle.laws.proofs.Planes.{length_entries_in, room_entries, entry_clean}
 use Rattle.laws.proofs.Widths.{in_32_bits}
 use Rattle.memory.specs.Bits.{BitsFrom}
 use Rattle.entries.specs.Groups.{InLanes}
-use Rattle.entries.proofs.group.Goals as goal
+use Rattle.entries.proofs.Table.group.Goals as goal
 
 -- m bytes of each plane are read: all n, or all that are left
 in_group : (t : ℕ) (table : List ℕ) (n i m low high : ℕ) → IsTable t table → n * i + m ≤ plane_bytes t → (m < n → n * i + m ≡ plane_bytes t)
@@ -49,55 +49,55 @@ starts {t = t} {table = table} i is is_half h e = record {
 
 pub overflow_mul-at : goal.overflow_mul-at
 overflow_mul-at g c =
-    let s = starts c.args.i c.requires.0 c.plane_bytes-half.ensures c.requires.1 c.BYTES.ensures in
+    let s = starts c.args.i c.args.self.now.is_table c.plane_bytes-half.ensures c.requires c.BYTES.ensures in
     in_32_bits (record { fits = omega arith })
 
 pub overflow_add-at : goal.overflow_add-at
 overflow_add-at g c =
-    let s = starts c.args.i c.requires.0 c.plane_bytes-half.ensures c.requires.1 c.BYTES.ensures in
+    let s = starts c.args.i c.args.self.now.is_table c.plane_bytes-half.ensures c.requires c.BYTES.ensures in
     in_32_bits (record { fits = omega (arith, c.BYTES-2.ensures, g.met.W.FromBytes.few_bytes) })
 
 pub overflow_add-half : goal.overflow_add-half
 overflow_add-half g c =
-    let s = starts c.args.i c.requires.0 c.plane_bytes-half.ensures c.requires.1 c.BYTES.ensures in
+    let s = starts c.args.i c.args.self.now.is_table c.plane_bytes-half.ensures c.requires c.BYTES.ensures in
     in_32_bits (record { fits = omega arith })
 
 pub overflow_add-half-2 : goal.overflow_add-half-2
 overflow_add-half-2 g c =
-    let s = starts c.args.i c.requires.0 c.plane_bytes-half.ensures c.requires.1 c.BYTES.ensures in
+    let s = starts c.args.i c.args.self.now.is_table c.plane_bytes-half.ensures c.requires c.BYTES.ensures in
     in_32_bits (record { fits = omega arith })
 
 pub overflow_mul-half : goal.overflow_mul-half
 overflow_mul-half g c =
-    let s = starts c.args.i c.requires.0 c.plane_bytes-half.ensures c.requires.1 c.BYTES.ensures in
+    let s = starts c.args.i c.args.self.now.is_table c.plane_bytes-half.ensures c.requires c.BYTES.ensures in
     in_32_bits (record { fits = omega arith })
 
 pub returns-then-at-BYTES : goal.returns-then-at-BYTES
 returns-then-at-BYTES g c =
-    let s = starts c.args.i c.requires.0 c.plane_bytes-half.ensures c.requires.1 c.BYTES.ensures in
+    let s = starts c.args.i c.args.self.now.is_table c.plane_bytes-half.ensures c.requires c.BYTES.ensures in
     let n = c.BYTES.ensures in
     let half = c.plane_bytes-half.ensures in
     let e : c.BYTES.result * c.args.i ≡ g.W.FromBytes.BYTES * c.args.i = ap (λ (x : ℕ). x * c.args.i) n in
-    in_group c.args.t c.args.table.now g.W.FromBytes.BYTES c.args.i g.W.FromBytes.BYTES _ _ c.requires.0 (omega (arith, half, c.BYTES-2.ensures)) (λ l. absurd (omega arith))
+    in_group c.args.self.now.t c.args.self.now.bytes.now g.W.FromBytes.BYTES c.args.i g.W.FromBytes.BYTES _ _ c.args.self.now.is_table (omega (arith, half, c.BYTES-2.ensures)) (λ l. absurd (omega arith))
     (rw n at c.bits.ensures) (rw (half, n) at c.bits-then-at-BYTES.ensures)
 
 pub last_bits-requires : goal.last_bits-requires
 last_bits-requires g c =
-    let s = starts c.args.i c.requires.0 c.plane_bytes-half.ensures c.requires.1 c.BYTES.ensures in
-    (omega arith, (omega (arith, c.BYTES-2.ensures), omega (arith, c.plane_bytes-half.ensures, c.requires.0.sized.long)))
+    let s = starts c.args.i c.args.self.now.is_table c.plane_bytes-half.ensures c.requires c.BYTES.ensures in
+    (omega arith, (omega (arith, c.BYTES-2.ensures), omega (arith, c.plane_bytes-half.ensures, c.args.self.now.is_table.sized.long)))
 
 pub last_bits-requires-2 : goal.last_bits-requires-2
 last_bits-requires-2 g c =
-    let s = starts c.args.i c.requires.0 c.plane_bytes-half.ensures c.requires.1 c.BYTES.ensures in
-    (omega arith, (omega (arith, c.BYTES-2.ensures), omega (arith, c.plane_bytes-half.ensures, c.requires.0.sized.long)))
+    let s = starts c.args.i c.args.self.now.is_table c.plane_bytes-half.ensures c.requires c.BYTES.ensures in
+    (omega arith, (omega (arith, c.BYTES-2.ensures), omega (arith, c.plane_bytes-half.ensures, c.args.self.now.is_table.sized.long)))
 
 pub returns : goal.returns
 returns g c =
-    let s = starts c.args.i c.requires.0 c.plane_bytes-half.ensures c.requires.1 c.BYTES.ensures in
+    let s = starts c.args.i c.args.self.now.is_table c.plane_bytes-half.ensures c.requires c.BYTES.ensures in
     let n = c.BYTES.ensures in
     let half = c.plane_bytes-half.ensures in
     let w = g.W.FromBytes.BYTES in
     let e : c.BYTES.result * c.args.i ≡ w * c.args.i = ap (λ (x : ℕ). x * c.args.i) n in
-    let m : 2 * plane_bytes c.args.t - (plane_bytes c.args.t + w * c.args.i) ≡ plane_bytes c.args.t - w * c.args.i = omega (arith, s, half, e) in
-    in_group c.args.t c.args.table.now w c.args.i (plane_bytes c.args.t - w * c.args.i) _ _ c.requires.0 (omega (arith, s, half, e)) (λ l. omega (arith, s, half, e))
+    let m : 2 * plane_bytes c.args.self.now.t - (plane_bytes c.args.self.now.t + w * c.args.i) ≡ plane_bytes c.args.self.now.t - w * c.args.i = omega (arith, s, half, e) in
+    in_group c.args.self.now.t c.args.self.now.bytes.now w c.args.i (plane_bytes c.args.self.now.t - w * c.args.i) _ _ c.args.self.now.is_table (omega (arith, s, half, e)) (λ l. omega (arith, s, half, e))
     (rw (half, n) at c.last_bits.ensures) (rw (half, n, m) at c.last_bits-2.ensures)
