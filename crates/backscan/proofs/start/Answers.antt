@@ -3,7 +3,7 @@
 use mathlib.Core.Path.{◌≡◌, sym, ap, ◌∙◌}
 use Prim.Native.Nat.{◌+◌, ◌*◌, ◌/◌, ◌%◌}
 use native.Mathlib.Omega.{arith}
-use Rattle.rules.specs.Planes.{entries_in}
+use Rattle.entries.specs.Lent.{entries_of}
 use Rattle.rules.specs.Tables.{start_of}
 use Rattle.laws.proofs.Planes.{few_entries}
 use Rattle.laws.proofs.Widths.{in_32_bits}
@@ -11,19 +11,19 @@ use Rattle.backscan.proofs.Tails.{last_is, up_to_mask, start_here, start_before}
 use Rattle.backscan.proofs.start.Goals as goal
 
 pub overflow_mul-i : goal.overflow_mul-i
-overflow_mul-i c = in_32_bits (record { fits = omega (arith, few_entries c.args.t c.args.table.now c.requires.0, c.requires.1) })
+overflow_mul-i c = in_32_bits (record { fits = omega (arith, few_entries _ _ c.args.table.now.is_table, c.requires) })
 
 pub overflow_add-i : goal.overflow_add-i
 overflow_add-i c =
-    in_32_bits (record { fits = omega (arith, c.in-Some.ensures.bound, few_entries c.args.t c.args.table.now c.requires.0, c.requires.1) })
+    in_32_bits (record { fits = omega (arith, c.in-Some.ensures.bound, few_entries _ _ c.args.table.now.is_table, c.requires) })
 
 pub plus-requires : goal.plus-requires
-plus-requires c = omega (arith, c.in-Some.ensures.bound, few_entries c.args.t c.args.table.now c.requires.0, c.requires.1)
+plus-requires c = omega (arith, c.in-Some.ensures.bound, few_entries _ _ c.args.table.now.is_table, c.requires)
 
 pub returns-in-Some : goal.returns-in-Some
 returns-in-Some c =
     let a = c.args in
-    let es = entries_in a.t a.table.now in
+    let es = entries_of a.table.now in
     let k = c.index-at in
     let bits = c.non_tails in
     let found = c.in-Some in
@@ -34,7 +34,7 @@ returns-in-Some c =
 pub returns-in-None : goal.returns-in-None
 returns-in-None c =
     let a = c.args in
-    let es = entries_in a.t a.table.now in
+    let es = entries_of a.table.now in
     let k = c.index-at in
     let bits = c.non_tails in
     let o = up_to_mask es (k.result / 64) (k.result % 64) bits.result (omega arith) bits.ensures in
