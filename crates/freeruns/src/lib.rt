@@ -6,6 +6,9 @@ ghost use Rattle.rules.specs.Tables.{longest as longest_of};
 ghost use Rattle.rules.specs.Planes.{entries_in, IsTable};
 ghost use Rattle.freeruns.specs.Rows.{FreeIn, Zeros, RowStarts, WholeRow, LongestRow};
 ghost use Rattle.freeruns.specs.Scans.{ReadOn};
+ghost use Rattle.entries.specs.Lent.{entries_of};
+
+use entries::Table;
 
 // The first of 64 bits that is set, by the zeros below it; 64 if there is none.
 pub fn first(bits: u64) -> usize
@@ -15,15 +18,15 @@ pub fn first(bits: u64) -> usize
 }
 
 // A bit for each of the 32 blocks from block 32 * i on that is FREE. Past the end of the table there is none.
-pub fn free_or_end(t: usize, table: &[u8], i: usize) -> u32
-    requires { IsTable t table.now × (i ≤ 128) }
-    ensures { FreeIn (entries_in t table.now) i result }
+pub fn free_or_end(table: &Table, i: usize) -> u32
+    requires { i ≤ 128 }
+    ensures { FreeIn (entries_of table.now) i result }
 {
-    let left = entries::blocks(t).saturating_sub(32 * i);
+    let left = table.blocks().saturating_sub(32 * i);
     if left == 0 {
         return 0;
     }
-    let g = entries::group::<u32>(t, table, i);
+    let g = table.group::<u32>(i);
     let free = !(g.low | g.high);
     if left < 32 {
         return free & ((1 << left) - 1);
@@ -114,23 +117,20 @@ fn read_on(before: Scan, free: u32) -> Scan
 }
 
 // The longest run of FREE blocks. Behind the whole words there are fewer than 32 blocks, so that the last run ends in them.
-pub fn longest(t: usize, table: &[u8]) -> usize
-    requires { IsTable t table.now }
-    ensures { result ≡ longest_of (entries_in t table.now) }
+pub fn longest(table: &Table) -> usize
+    ensures { result ≡ longest_of (entries_of table.now) }
 {
-    let half = entries::plane_bytes(t);
-    let lows = &table[0..half];
-    let highs = &table[half..2 * half];
-    let whole = entries::blocks(t) / 32;
+    let planes = table.planes();
+    let whole = table.blocks() / 32;
     let mut read = Scan {
         longest: 0,
         ending: 0,
     };
     for i in 0..whole {
-        let used = entries::word_at(lows, i) | entries::word_at(highs, i);
+        let used = entries::word_at(planes.lows, i) | entries::word_at(planes.highs, i);
         read = read_on(read, !used);
     }
-    let rest = free_or_end(t, table, whole);
+    let rest = free_or_end(table, whole);
     let last = read.ending + rest.trailing_ones() as usize;
     longest_row(rest, read.longest.max(last))
 }
