@@ -7,7 +7,9 @@ ghost use Rattle.rules.specs.Tests.{pick};
 ghost use Rattle.rules.specs.Bits.{bit_of};
 ghost use Rattle.rules.specs.Planes.{entries_in, IsTable};
 ghost use Rattle.search.specs.Starts.{NoStart, AllSet, NoneSet, Starts, Next, FreeFor};
+ghost use Rattle.entries.specs.Lent.{entries_of};
 
+use entries::Table;
 use numbers::Block;
 
 // The bits of the blocks of 32 that are aligned for four blocks or more.
@@ -66,17 +68,15 @@ fn word_before(i: usize, at: usize) -> usize
 }
 
 // Where the search from block 32 * i on may begin: at block 32 * r, before which count blocks may start nowhere.
-fn pass(t: usize, table: &[u8], i: usize, count: usize) -> usize
-    requires { IsTable t table.now × ((i ≤ 128) × (0 < count)) }
-    ensures { (i ≤ result) × ((result ≤ 128) × NoStart (entries_in t table.now) count (32 * i) (32 * result)) }
+fn pass(table: &Table, i: usize, count: usize) -> usize
+    requires { (i ≤ 128) × (0 < count) }
+    ensures { (i ≤ result) × ((result ≤ 128) × NoStart (entries_of table.now) count (32 * i) (32 * result)) }
 {
-    let half = entries::plane_bytes(t);
-    let lows = &table[0..half];
-    let highs = &table[half..2 * half];
-    let words = half / 4;
+    let planes = table.planes();
+    let words = planes.lows.len() / 4;
     let mut free: u32 = 0;
     for at in i..words {
-        let next = !(entries::word_at(lows, at) | entries::word_at(highs, at));
+        let next = !(entries::word_at(planes.lows, at) | entries::word_at(planes.highs, at));
         if may_start(free, next, count) {
             return word_before(i, at);
         }
@@ -95,21 +95,21 @@ fn bits_from(at: usize, from: usize) -> u32
 }
 
 // The first block from `from` on at which count blocks may start, or the end of the table.
-pub fn next(t: usize, table: &[u8], from: Block, count: usize) -> Block
-    requires { IsTable t table.now × ((from.0 ≤ length (entries_in t table.now)) × (0 < count)) }
-    ensures { Next (entries_in t table.now) count from.0 result.0 }
+pub fn next(table: &Table, from: Block, count: usize) -> Block
+    requires { (from.0 ≤ length (entries_of table.now)) × (0 < count) }
+    ensures { Next (entries_of table.now) count from.0 result.0 }
 {
-    let n = entries::blocks(t);
+    let n = table.blocks();
     let first = from.index();
     // No range counts these words: `pass` says which is the next.
-    let mut at = pass(t, table, first / 32, count);
+    let mut at = pass(table, first / 32, count);
     while 32 * at < n {
-        let free = freeruns::free_or_end(t, table, at) & bits_from(at, first);
-        let found = starts(free, freeruns::free_or_end(t, table, at + 1), count);
+        let free = freeruns::free_or_end(table, at) & bits_from(at, first);
+        let found = starts(free, freeruns::free_or_end(table, at + 1), count);
         if found != 0 {
             return Block::first().plus(32 * at + found.trailing_zeros() as usize);
         }
-        at = pass(t, table, at + 1, count);
+        at = pass(table, at + 1, count);
     }
     Block::first().plus(n)
 }
@@ -122,13 +122,13 @@ pub struct Ahead {
     pub ended: bool,
 }
 
-pub fn free_from(t: usize, table: &[u8], k: Block) -> Ahead
-    requires { IsTable t table.now × (k.0 < length (entries_in t table.now)) }
-    ensures { FreeFor (entries_in t table.now) k.0 result.free result.ended }
+pub fn free_from(table: &Table, k: Block) -> Ahead
+    requires { k.0 < length (entries_of table.now) }
+    ensures { FreeFor (entries_of table.now) k.0 result.free result.ended }
 {
     let at = k.index();
     let j = at % 32;
-    let free = freeruns::row_from(freeruns::free_or_end(t, table, at / 32), j);
+    let free = freeruns::row_from(freeruns::free_or_end(table, at / 32), j);
     Ahead {
         free,
         ended: j + free < 32,

@@ -4,7 +4,7 @@ use mathlib.Core.Path.{subst}
 use Prim.Native.Nat.{ℕ, ◌+◌, ◌%◌}
 use native.Mathlib.Omega.{arith}
 use lib.Dec.{ltb}
-use Rattle.rules.specs.Planes.{entries_in}
+use Rattle.entries.specs.Lent.{entries_of}
 use Rattle.laws.proofs.Planes.{few_entries}
 use Rattle.laws.proofs.Widths.{in_32_bits}
 use Rattle.freeruns.proofs.Rows.{row_inside}
@@ -14,7 +14,7 @@ use Rattle.search.proofs.free_from.Goals as goal
 
 pub free_or_end-requires : goal.free_or_end-requires
 free_or_end-requires c =
-    (c.requires.0, omega (arith, c.index-at.ensures, c.requires.1, few_entries c.args.t c.args.table.now c.requires.0))
+    omega (arith, c.index-at.ensures, c.requires, few_entries _ _ c.args.table.now.is_table)
 
 pub overflow_add-result : goal.overflow_add-result
 overflow_add-result c =
@@ -23,9 +23,9 @@ overflow_add-result c =
 
 pub returns : goal.returns
 returns c =
-    let es = entries_in c.args.t c.args.table.now in
+    let es = entries_of c.args.table.now in
     let k = c.index-at in
     let bits = c.free_or_end in
     let n = c.row_from-free in
     subst (λ (x : ℕ). FreeFor es x n.result (ltb (k.result % 32 + n.result) 32)) k.ensures
-    (free_ahead es k.result bits.result n.result (omega arith) bits.ensures (omega (arith, k.ensures, c.requires.1)) n.ensures)
+    (free_ahead es k.result bits.result n.result (omega arith) bits.ensures (omega (arith, k.ensures, c.requires)) n.ensures)
