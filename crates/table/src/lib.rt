@@ -5,18 +5,19 @@ ghost use Rattle.std.specs.Prelude.{◌≡◌, ◌+◌, ◌≤◌, ◌<◌, leb,
 ghost use Rattle.rules.specs.Tables.{block_count, free_from, first_fit, grows_in_place, placed, released, extended};
 ghost use Rattle.rules.specs.Planes.{entries_in, IsTable, Holds};
 ghost use Rattle.numbers.specs.Places.{found};
+ghost use Rattle.entries.specs.Lent.{entries_of};
 
-use entries::Entry;
+use entries::{Entry, Table};
 use numbers::Block;
 
 // How many blocks the object with head k has.
-pub fn block_count(t: usize, table: &[u8], k: Block) -> usize
-    requires { IsTable t table.now × (k.0 < length (entries_in t table.now)) }
-    ensures { (result ≡ block_count (entries_in t table.now) k.0) × (k.0 + result ≤ length (entries_in t table.now)) }
+pub fn block_count(table: &Table, k: Block) -> usize
+    requires { k.0 < length (entries_of table.now) }
+    ensures { (result ≡ block_count (entries_of table.now) k.0) × (k.0 + result ≤ length (entries_of table.now)) }
 {
-    let left = k.until(entries::blocks(t));
+    let left = k.until(table.blocks());
     for count in 1..left {
-        if !entries::is_tail(t, table, k.plus(count)) {
+        if !table.is_tail(k.plus(count)) {
             return count;
         }
     }
@@ -24,15 +25,15 @@ pub fn block_count(t: usize, table: &[u8], k: Block) -> usize
 }
 
 // Whether the count blocks from `from` on are blocks of the table, and FREE.
-fn is_free(t: usize, table: &[u8], from: Block, count: usize) -> bool
-    requires { IsTable t table.now × (from.0 ≤ length (entries_in t table.now)) }
-    ensures { result ≡ leb count (free_from (entries_in t table.now) from.0) }
+fn is_free(table: &Table, from: Block, count: usize) -> bool
+    requires { from.0 ≤ length (entries_of table.now) }
+    ensures { result ≡ leb count (free_from (entries_of table.now) from.0) }
 {
-    if from.until(entries::blocks(t)) < count {
+    if from.until(table.blocks()) < count {
         return false;
     }
     for i in 0..count {
-        if entries::entry_at(t, table, from.plus(i)) != Entry::Free {
+        if table.entry_at(from.plus(i)) != Entry::Free {
             return false;
         }
     }
@@ -40,31 +41,31 @@ fn is_free(t: usize, table: &[u8], from: Block, count: usize) -> bool
 }
 
 // Whether the object of old blocks at k may get more blocks, new in all, where it is.
-pub fn grows_in_place(t: usize, table: &[u8], k: Block, old: usize, new: usize) -> bool
-    requires { IsTable t table.now × ((k.0 + old ≤ length (entries_in t table.now)) × (old ≤ new)) }
-    ensures { result ≡ grows_in_place (entries_in t table.now) k.0 old new }
+pub fn grows_in_place(table: &Table, k: Block, old: usize, new: usize) -> bool
+    requires { (k.0 + old ≤ length (entries_of table.now)) × (old ≤ new) }
+    ensures { result ≡ grows_in_place (entries_of table.now) k.0 old new }
 {
     if !k.is_aligned(new) {
         return false;
     }
-    is_free(t, table, k.plus(old), new - old)
+    is_free(table, k.plus(old), new - old)
 }
 
 // The lowest block at which count blocks may start. No range counts the blocks of a run: it goes on by as many as are found FREE at once.
-pub fn first_fit(t: usize, table: &[u8], count: usize) -> Option<Block>
-    requires { IsTable t table.now × (0 < count) }
-    ensures { found result ≡ first_fit (entries_in t table.now) count }
+pub fn first_fit(table: &Table, count: usize) -> Option<Block>
+    requires { 0 < count }
+    ensures { found result ≡ first_fit (entries_of table.now) count }
 {
-    let n = entries::blocks(t);
-    let mut start = search::next(t, table, Block::first(), count);
+    let n = table.blocks();
+    let mut start = search::next(table, Block::first(), count);
     'starts: while count <= start.until(n) {
         let mut i = 0;
         while i < count {
-            let ahead = search::free_from(t, table, start.plus(i));
+            let ahead = search::free_from(table, start.plus(i));
             i += ahead.free;
             if ahead.ended {
                 if i < count {
-                    start = search::next(t, table, start.plus(i + 1), count);
+                    start = search::next(table, start.plus(i + 1), count);
                     continue 'starts;
                 }
             }

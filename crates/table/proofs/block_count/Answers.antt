@@ -9,7 +9,7 @@ use lib.ListN.{length}
 use borrow.Author.Tests.{eqb-false}
 use Rattle.rules.specs.Entries.{TAIL}
 use Rattle.rules.specs.Tables.{entry_at, is_tail, block_count}
-use Rattle.rules.specs.Planes.{entries_in}
+use Rattle.entries.specs.Lent.{entries_of}
 use Rattle.laws.proofs.Planes.{few_entries}
 use Rattle.laws.proofs.Tables.{count_is, entry_outside}
 use Rattle.table.proofs.block_count.Goals as goal
@@ -21,20 +21,20 @@ counted es k b h r tails next = (sym (count_is es k b (record { some_block = h; 
 
 pub plus-requires : goal.plus-requires
 plus-requires c =
-    omega (arith, few_entries _ _ c.requires.0, c.blocks-2.ensures c.args.table.now)
+    omega (arith, few_entries _ _ c.args.table.now.is_table, c.blocks-2.ensures)
 
 pub returns-then-not-is_tail : goal.returns-then-not-is_tail
 returns-then-not-is_tail c =
     let l = c.loop-count in
     let tail_is : let a = c.args in
-    c.is_tail.result ≡ is_tail (entry_at (entries_in a.t a.table.now) (a.k.0 + l.count)) = rw (← c.plus.ensures) c.is_tail.ensures in
-    counted _ _ l.count (omega arith) (omega (arith, c.blocks-2.ensures c.args.table.now)) l.invariant (eqb-false _ _ (sym tail_is ∙ c.if-not-is_tail.true))
+    c.is_tail.result ≡ is_tail (entry_at (entries_of a.table.now) (a.k.0 + l.count)) = rw (← c.plus.ensures) c.is_tail.ensures in
+    counted _ _ l.count (omega arith) (omega (arith, c.blocks-2.ensures)) l.invariant (eqb-false _ _ (sym tail_is ∙ c.if-not-is_tail.true))
 
 pub returns : goal.returns
 returns c =
     let a = c.args in
-    let es = entries_in a.t a.table.now in
-    let n = c.blocks-2.ensures a.table.now in
-    let all : c.loop-count.count ≡ c.until-left.result = omega (arith, c.requires.1) in
-    counted es a.k.0 c.until-left.result (omega (arith, c.requires.1)) (omega (arith, c.requires.1)) (rw all at c.loop-count.invariant)
+    let es = entries_of a.table.now in
+    let n = c.blocks-2.ensures in
+    let all : c.loop-count.count ≡ c.until-left.result = omega (arith, c.requires) in
+    counted es a.k.0 c.until-left.result (omega (arith, c.requires)) (omega (arith, c.requires)) (rw all at c.loop-count.invariant)
     (λ t. omega (arith, t, entry_outside es (a.k.0 + c.until-left.result) (omega arith)))

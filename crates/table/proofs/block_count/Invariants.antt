@@ -4,8 +4,8 @@ use mathlib.Core.Path.{◌≡◌}
 use Prim.Native.Nat.{ℕ, ◌+◌, ◌<◌}
 use Rattle.rules.specs.Entries.{TAIL}
 use Rattle.rules.specs.Tables.{entry_at}
-use Rattle.rules.specs.Planes.{entries_in}
+use Rattle.entries.specs.Lent.{entries_of}
 use Rattle.table.proofs.block_count.Given as goal
 
 abbrev pub invariant-loop-count : goal.invariant-loop-count
-invariant-loop-count l = (j : ℕ) → j < l.count → 0 < j → entry_at (entries_in l.t l.table) (l.k.0 + j) ≡ TAIL
+invariant-loop-count l = (j : ℕ) → j < l.count → 0 < j → entry_at (entries_of l.table) (l.k.0 + j) ≡ TAIL

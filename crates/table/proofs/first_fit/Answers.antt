@@ -44,47 +44,47 @@ module _ (es : List ℕ) (b s : ℕ) (start : Next es b 0 s) where
   nowhere h few = sym (none_first es b h (λ q f. start.none_before q (omega arith) (omega (arith, f.run.room)) f))
 
 pub next-start-requires : goal.next-start-requires
-next-start-requires c = (c.requires.0, (omega arith, omega arith))
+next-start-requires c = (omega arith, omega arith)
 
 pub starts-init : goal.starts-init
 starts-init c = rw (← c.first.ensures) c.next-start.ensures
 
 pub until-requires : goal.until-requires
-until-requires c = omega (arith, c.starts.invariant.inside, c.blocks-n.ensures c.args.table.now)
+until-requires c = omega (arith, c.starts.invariant.inside, c.blocks-n.ensures)
 
 pub loop-i-init : goal.loop-i-init
 loop-i-init c = (search rules, record { room = omega (arith, c.starts.invariant.inside); free = λ j l. absurd (omega arith) })
 
 pub plus-requires : goal.plus-requires
 plus-requires c =
-    omega (arith, c.blocks-n.ensures c.args.table.now, few_entries _ _ c.requires.0)
+    omega (arith, c.blocks-n.ensures, few_entries _ _ c.args.table.now.is_table)
 
 pub free_from-ahead-requires : goal.free_from-ahead-requires
 free_from-ahead-requires c =
-    (c.requires.0, omega (arith, c.blocks-n.ensures c.args.table.now))
+    omega (arith, c.blocks-n.ensures)
 
 pub overflow_add-i : goal.overflow_add-i
 overflow_add-i c =
     let longer = run_on _ _ _ _ _ c.loop-i.invariant.1 (omega arith) c.free_from-ahead.ensures.run in
-    in_32_bits (record { fits = omega (arith, longer.room, few_entries _ _ c.requires.0) })
+    in_32_bits (record { fits = omega (arith, longer.room, few_entries _ _ c.args.table.now.is_table) })
 
 pub overflow_add-i-then-i-count : goal.overflow_add-i-then-i-count
 overflow_add-i-then-i-count c =
     let longer = run_on _ _ _ _ _ c.loop-i.invariant.1 (omega arith) c.free_from-ahead.ensures.run in
-    in_32_bits (record { fits = omega (arith, longer.room, few_entries _ _ c.requires.0) })
+    in_32_bits (record { fits = omega (arith, longer.room, few_entries _ _ c.args.table.now.is_table) })
 
 pub plus-requires-then-i-count : goal.plus-requires-then-i-count
 plus-requires-then-i-count c =
     let longer = run_on _ _ _ _ _ c.loop-i.invariant.1 (omega arith) c.free_from-ahead.ensures.run in
-    omega (arith, longer.room, c.loop-i.invariant.0, few_entries _ _ c.requires.0)
+    omega (arith, longer.room, c.loop-i.invariant.0, few_entries _ _ c.args.table.now.is_table)
 
 pub next-start-requires-then-i-count : goal.next-start-requires-then-i-count
 next-start-requires-then-i-count c =
-    (c.requires.0, (omega (arith, c.if-i-count.true, c.blocks-n.ensures c.args.table.now), omega arith))
+    (omega (arith, c.if-i-count.true, c.blocks-n.ensures), omega arith)
 
 pub starts-smaller : goal.starts-smaller
 starts-smaller c =
-    omega (arith, c.if-i-count.true, c.next-start-then-i-count.ensures.from, c.blocks-n.ensures c.args.table.now)
+    omega (arith, c.if-i-count.true, c.next-start-then-i-count.ensures.from, c.blocks-n.ensures)
 
 pub starts-preserved : goal.starts-preserved
 starts-preserved c =
@@ -111,8 +111,8 @@ loop-i-preserved c =
 
 pub returns-in-starts : goal.returns-in-starts
 returns-in-starts c =
-    rw c.loop-i.invariant.0 (lowest _ _ _ c.starts.invariant _ c.requires.1 c.loop-i-test.false c.loop-i.invariant.1)
+    rw c.loop-i.invariant.0 (lowest _ _ _ c.starts.invariant _ c.requires c.loop-i-test.false c.loop-i.invariant.1)
 
 pub returns : goal.returns
 returns c =
-    nowhere _ _ _ c.starts.invariant c.requires.1 (omega (arith, c.blocks-n.ensures c.args.table.now))
+    nowhere _ _ _ c.starts.invariant c.requires (omega (arith, c.blocks-n.ensures))

@@ -7,7 +7,7 @@ use Prim.Native.Nat.{ℕ, ◌+◌, ◌-◌}
 use native.Mathlib.Omega.{arith}
 use lib.Dec.{leb}
 use Rattle.rules.specs.Tables.{free_from, aligned, grows_in_place}
-use Rattle.rules.specs.Planes.{entries_in}
+use Rattle.entries.specs.Lent.{entries_of}
 use Rattle.laws.proofs.Planes.{few_entries}
 use Rattle.table.proofs.grows_in_place.Goals as goal
 
@@ -25,11 +25,11 @@ returns-then-not-is_aligned c = sym (not_aligned _ _ _ _ (sym c.is_aligned.ensur
 
 pub plus-requires : goal.plus-requires
 plus-requires c =
-    omega (arith, few_entries _ _ c.requires.0)
+    omega (arith, few_entries _ _ c.args.table.now.is_table)
 
 pub returns : goal.returns
 returns c =
     let a = c.args in
-    let es = entries_in a.t a.table.now in
+    let es = entries_of a.table.now in
     c.is_free.ensures ∙ ap (λ (end : ℕ). leb (a.new - a.old) (free_from es end)) c.plus.ensures
     ∙ sym (where_aligned es a.k.0 a.old a.new (sym c.is_aligned.ensures ∙ c.if-not-is_aligned.false))

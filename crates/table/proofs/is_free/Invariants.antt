@@ -4,8 +4,8 @@ use mathlib.Core.Path.{◌≡◌}
 use Prim.Native.Nat.{ℕ, ◌+◌, ◌<◌}
 use Rattle.rules.specs.Entries.{FREE}
 use Rattle.rules.specs.Tables.{entry_at}
-use Rattle.rules.specs.Planes.{entries_in}
+use Rattle.entries.specs.Lent.{entries_of}
 use Rattle.table.proofs.is_free.Given as goal
 
 abbrev pub invariant-loop-i : goal.invariant-loop-i
-invariant-loop-i l = (j : ℕ) → j < l.i → entry_at (entries_in l.t l.table) (l.from.0 + j) ≡ FREE
+invariant-loop-i l = (j : ℕ) → j < l.i → entry_at (entries_of l.table) (l.from.0 + j) ≡ FREE
