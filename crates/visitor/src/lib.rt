@@ -8,8 +8,9 @@ ghost use Rattle.rules.specs.Tables.{start_of};
 ghost use Rattle.rules.specs.Pointers.{address_of, head_at};
 ghost use Rattle.rules.specs.Marking.{visit_to, visit as visit_of};
 ghost use Rattle.visitor.specs.Variables.{context_of, state_of, Knows, Pushes, Remembers, Came};
+ghost use Rattle.entries.specs.Lent.{entries_of};
 
-use entries::Met;
+use entries::{Met, Table};
 use numbers::{Address, Block};
 
 // How many entries of the mark stack are in use, and whether a block has been lost because it was full: 1 if so, else 0, as a `bool` leaves bytes
@@ -39,14 +40,14 @@ fn push(stack: &mut [u8], m: Marking, k: Block) -> Marking
 }
 
 // Where the object of block k starts: as remembered, or by the table.
-fn start_of(t: usize, table: &[u8], m: Marking, k: Block) -> Block
-    requires { IsTable t table.now × ((k.0 < length (entries_in t table.now)) × Knows (entries_in t table.now) m) }
-    ensures { result.0 ≡ start_of (entries_in t table.now) k.0 }
+fn start_of(table: &Table, m: Marking, k: Block) -> Block
+    requires { (k.0 < length (entries_of table.now)) × Knows (entries_of table.now) m }
+    ensures { result.0 ≡ start_of (entries_of table.now) k.0 }
 {
     if m.first <= k && k <= m.last {
         return m.first;
     }
-    backscan::start(t, table, k)
+    backscan::start(table, k)
 }
 
 // The scan from block k back to the start of its object is remembered, if it is longer than the one before.
@@ -71,9 +72,10 @@ fn visit_tail(t: usize, table: &mut [u8], stack: &mut [u8], m: Marking, k: Block
         (visit_to (context_of base pool stack.old) (state_of t table.old stack.old m) (head_at (entries_in t table.old) (some k.0)))
         table.new stack.new result }
 {
-    let head = start_of(t, &*table, m, k);
+    let lent = Table::new(t, &*table);
+    let head = start_of(&lent, m, k);
     let seen = remember(m, head, k);
-    if !entries::is_head(t, &*table, head) {
+    if !lent.is_head(head) {
         return seen;
     }
     entries::set_mark(t, &mut *table, head);
