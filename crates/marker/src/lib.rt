@@ -7,7 +7,7 @@ ghost use Rattle.rules.specs.Planes.{entries_in, IsTable};
 ghost use Rattle.rules.specs.Marking.{marked_in, mark_all, mark_root, mark_roots, pass_block, pass};
 ghost use Rattle.visitor.specs.Variables.{context_of, idle, Shape};
 
-use entries::Entry;
+use entries::{Entry, Table};
 use numbers::{Address, Block};
 
 // A root: if it leads to a HEAD, that becomes MARK and is traced. Returns the overflow.
@@ -27,8 +27,9 @@ fn mark_root(
     let Some(k) = base.target(entries::blocks(t), w) else {
         return overflow;
     };
-    let head = backscan::start(t, &*table, k);
-    if !entries::is_head(t, &*table, head) {
+    let lent = Table::new(t, &*table);
+    let head = backscan::start(&lent, k);
+    if !lent.is_head(head) {
         return overflow;
     }
     entries::set_mark(t, &mut *table, head);
@@ -73,7 +74,7 @@ fn rescan_block(
     ensures { IsTable t table.new × (idle t table.new result
         ≡ pass_block (context_of base.0 pool.now stack.old) k.0 (idle t table.old overflow)) }
 {
-    match entries::entry_at(t, &*table, k) {
+    match Table::new(t, &*table).entry_at(k) {
         Entry::Mark => tracer::trace(base, t, pool, &mut *table, &mut *stack, overflow, k),
         _ => overflow,
     }

@@ -6,6 +6,7 @@ ghost use Rattle.rules.specs.Planes.{entries_in, IsTable};
 ghost use Rattle.rules.specs.Marking.{walk as walk_of, trace as trace_of};
 ghost use Rattle.visitor.specs.Variables.{context_of, state_of, idle, Shape, Knows, Came};
 
+use entries::Table;
 use numbers::{Address, Block};
 use visitor::Marking;
 
@@ -25,7 +26,7 @@ fn walk(
         table.new stack.new result }
 {
     let first = k.first_word();
-    let words = 4 * table::block_count(t, &*table, k);
+    let words = 4 * table::block_count(&Table::new(t, &*table), k);
     let mut walked = m;
     for i in (0..words).rev() {
         walked = visitor::visit(

@@ -32,38 +32,39 @@ returns-in_default c =
 pub start-head-requires : goal.start-head-requires
 start-head-requires c =
     let inside = is_block c.args.t c.args.table.now _ _ _ _ c.in-Some.ensures (c.blocks-2.ensures _) in
-    (c.requires.is_table, inside)
+    rw c.new-lent.ensures inside
 
 pub is_head-requires : goal.is_head-requires
 is_head-requires c =
     let inside = is_block c.args.t c.args.table.now _ _ _ _ c.in-Some.ensures (c.blocks-2.ensures _) in
-    (c.requires.is_table, omega (arith, c.start-head.ensures, (start_says (entries_in c.args.t c.args.table.now) c.in-Some.k.0).from, inside))
+    rw c.new-lent.ensures
+    (omega (arith, rw c.new-lent.ensures at c.start-head.ensures, (start_says (entries_in c.args.t c.args.table.now) c.in-Some.k.0).from, inside))
 
 pub returns-then-not-is_head : goal.returns-then-not-is_head
 returns-then-not-is_head c =
     let a = c.args in
     let x = context_of a.base.0 a.pool.now a.stack.now in
     let s = idle a.t a.table.now a.overflow in
-    (c.requires.is_table, sym (root_target x a.w s _ (c.blocks-2.ensures _) c.in-Some.ensures ∙ root_stays x s _ _ c.start-head.ensures (no_head _ c.is_head.ensures c.if-not-is_head.true)))
+    (c.requires.is_table, sym (root_target x a.w s _ (c.blocks-2.ensures _) c.in-Some.ensures ∙ root_stays x s _ _ (rw c.new-lent.ensures at c.start-head.ensures) (no_head _ (rw c.new-lent.ensures at c.is_head.ensures) c.if-not-is_head.true)))
 
 pub set_mark-requires : goal.set_mark-requires
 set_mark-requires c =
-    let head = head_is _ c.is_head.ensures c.if-not-is_head.false in
+    let head = head_is _ (rw c.new-lent.ensures at c.is_head.ensures) c.if-not-is_head.false in
     (c.requires.is_table, head)
 
 pub trace-requires : goal.trace-requires
 trace-requires c =
     let a = c.args in
-    let e = c.set_mark in record { shape = shape_same a.base.0 a.t a.pool.now a.table.now e.new.table c.requires e.ensures.is_table; k_in_bounds = omega (arith, head_inside (entries_in a.t a.table.now) _ (head_is _ c.is_head.ensures c.if-not-is_head.false), as_many a.t e.new.table a.table.now) }
+    let e = c.set_mark in record { shape = shape_same a.base.0 a.t a.pool.now a.table.now e.new.table c.requires e.ensures.is_table; k_in_bounds = omega (arith, head_inside (entries_in a.t a.table.now) _ (head_is _ (rw c.new-lent.ensures at c.is_head.ensures) c.if-not-is_head.false), as_many a.t e.new.table a.table.now) }
 
 pub returns : goal.returns
 returns c =
-    let head = head_is _ c.is_head.ensures c.if-not-is_head.false in
+    let head = head_is _ (rw c.new-lent.ensures at c.is_head.ensures) c.if-not-is_head.false in
     let a = c.args in
     let x = context_of a.base.0 a.pool.now a.stack.now in
     let s = idle a.t a.table.now a.overflow in
     let h = c.start-head in (
       c.trace.ensures.0,
       c.trace.ensures.1 ∙ ap (λ (es : List ℕ). trace x h.result.0 (state es [] a.overflow)) c.set_mark.ensures.entries
-          ∙ sym (root_target x a.w s _ (c.blocks-2.ensures _) c.in-Some.ensures ∙ root_takes x s _ h.result.0 h.ensures head),
+          ∙ sym (root_target x a.w s _ (c.blocks-2.ensures _) c.in-Some.ensures ∙ root_takes x s _ h.result.0 (rw c.new-lent.ensures at h.ensures) head),
     )

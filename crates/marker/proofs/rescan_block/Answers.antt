@@ -23,12 +23,12 @@ returns-in_default c =
     let a = c.args in (
       c.requires.shape.is_table,
       sym (pass_skips (context_of a.base.0 a.pool.now a.stack.now) a.k.0 (idle a.t a.table.now a.overflow)
-          (λ q. c.in_default.not-Mark (mark_only c.entry_at.result (c.entry_at.ensures ∙ q)))),
+          (λ q. c.in_default.not-Mark (mark_only c.entry_at.result ((rw c.new.ensures at c.entry_at.ensures) ∙ q)))),
     )
 
 pub returns-in-Mark : goal.returns-in-Mark
 returns-in-Mark c =
     let a = c.args in (
       c.trace.ensures.0,
-      block_end (context_of a.base.0 a.pool.now a.stack.now) a.k.0 (idle a.t a.table.now a.overflow) (sym c.in-Mark.ensures) c.trace.ensures.1,
+      block_end (context_of a.base.0 a.pool.now a.stack.now) a.k.0 (idle a.t a.table.now a.overflow) (sym (rw c.new.ensures at c.in-Mark.ensures)) c.trace.ensures.1,
     )

@@ -14,19 +14,19 @@ pub first_word-first-requires : goal.first_word-first-requires
 first_word-first-requires c = omega (arith, c.requires.depth_in_bounds.1.0, few_entries c.args.t c.args.table.now c.requires.shape.is_table)
 
 pub overflow_mul-words : goal.overflow_mul-words
-overflow_mul-words c = in_32_bits (omega (arith, c.block_count-words.ensures.1, few_entries c.args.t c.args.table.now c.requires.shape.is_table))
+overflow_mul-words c = in_32_bits (omega (arith, (rw c.new.ensures at c.block_count-words.ensures).1, few_entries c.args.t c.args.table.now c.requires.shape.is_table))
 
 pub loop-i-init : goal.loop-i-init
 loop-i-init c = (omega arith, c.requires.depth_in_bounds.0, c.requires.shape.is_table, refl, refl, c.requires.depth_in_bounds.1.1, refl)
 
 pub overflow_add-first : goal.overflow_add-first
 overflow_add-first c =
-    let within : 4 * (c.first_word-first.result + c.loop-i.i) ≤ length c.args.pool.now = omega (arith, c.loop-i.invariant.0, c.block_count-words.ensures.1, c.first_word-first.ensures, c.requires.shape.whole) in
+    let within : 4 * (c.first_word-first.result + c.loop-i.i) ≤ length c.args.pool.now = omega (arith, c.loop-i.invariant.0, (rw c.new.ensures at c.block_count-words.ensures).1, c.first_word-first.ensures, c.requires.shape.whole) in
     in_32_bits (omega (arith, within, c.requires.shape.whole, few_entries c.args.t c.args.table.now c.requires.shape.is_table))
 
 pub word-requires : goal.word-requires
 word-requires c =
-    let within : 4 * (c.first_word-first.result + c.loop-i.i) ≤ length c.args.pool.now = omega (arith, c.loop-i.invariant.0, c.block_count-words.ensures.1, c.first_word-first.ensures, c.requires.shape.whole) in
+    let within : 4 * (c.first_word-first.result + c.loop-i.i) ≤ length c.args.pool.now = omega (arith, c.loop-i.invariant.0, (rw c.new.ensures at c.block_count-words.ensures).1, c.first_word-first.ensures, c.requires.shape.whole) in
     omega (arith, within, c.loop-i-test.true)
 
 pub visit-walked-requires : goal.visit-walked-requires
@@ -56,7 +56,7 @@ returns c =
       same =
           walk_end a.base.0 a.pool.now a.stack.now a.k.0 c.block_count-words.result c.first_word-first.result l.i
           (state_of a.t l.table l.stack l.walked) (state_of a.t a.table.now a.stack.now a.m)
-          c.loop-i-test.false c.first_word-first.ensures c.block_count-words.ensures.0 l.invariant.6;
+          c.loop-i-test.false c.first_word-first.ensures (rw c.new.ensures at c.block_count-words.ensures).0 l.invariant.6;
       is_table = l.invariant.2;
       deep = l.invariant.1;
       knows = l.invariant.5;
