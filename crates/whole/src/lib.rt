@@ -8,6 +8,9 @@ ghost use Rattle.rules.specs.Marking.{sweep as sweep_of};
 ghost use Rattle.rules.specs.Planes.{entries_in, spare_free, Sized, IsTable, Holds};
 ghost use Rattle.whole.specs.Shapes.{BadBits, TestsBits, TestsOn};
 ghost use Rattle.whole.specs.Sweeps.{SweptBits, SweepsOn};
+ghost use Rattle.entries.specs.Lent.{entries_of};
+
+use entries::{Planes, Table};
 
 // Whether no spare bit is set: of the last byte of each plane the upper half, if t is odd.
 pub fn spare_free(t: usize, table: &[u8]) -> bool
@@ -48,15 +51,17 @@ fn test(low: u32, high: u32, count: u32, before: u32) -> Tested
 }
 
 // The entries of eight bytes of both planes from byte `at` of each are tested, two words of each.
-fn test_eight(lows: &[u8], highs: &[u8], at: usize, before: u32) -> Tested
-    requires { (before < 2) × ((at + 8 ≤ length lows.now) × (at + 8 ≤ length highs.now)) }
-    ensures { TestsOn lows.now highs.now at 8 before result.bad result.before }
+fn test_eight(planes: &Planes, at: usize, before: u32) -> Tested
+    requires { (before < 2) × ((at + 8 ≤ length planes.now.lows.now) × (at + 8 ≤ length planes.now.highs.now)) }
+    ensures { TestsOn planes.now.lows.now planes.now.highs.now at 8 before result.bad result.before }
 {
     let end = at + 8;
-    let low_part = &lows[at..end];
-    let high_part = &highs[at..end];
-    let a = entries::words_at(low_part, high_part, 0);
-    let b = entries::words_at(low_part, high_part, 1);
+    let part = Planes {
+        lows: &planes.lows[at..end],
+        highs: &planes.highs[at..end],
+    };
+    let a = part.words_at(0);
+    let b = part.words_at(1);
     let first = test(a.low, a.high, 32, before);
     let second = test(b.low, b.high, 32, first.before);
     Tested {
@@ -66,32 +71,35 @@ fn test_eight(lows: &[u8], highs: &[u8], at: usize, before: u32) -> Tested
 }
 
 // The same of byte `at` of both planes.
-fn test_one(lows: &[u8], highs: &[u8], at: usize, before: u32) -> Tested
-    requires { (before < 2) × ((at < length lows.now) × (at < length highs.now)) }
-    ensures { TestsOn lows.now highs.now at 1 before result.bad result.before }
+fn test_one(planes: &Planes, at: usize, before: u32) -> Tested
+    requires { (before < 2) × ((at < length planes.now.lows.now) × (at < length planes.now.highs.now)) }
+    ensures { TestsOn planes.now.lows.now planes.now.highs.now at 1 before result.bad result.before }
 {
-    test(u32::from(lows[at]), u32::from(highs[at]), 8, before)
+    test(
+        u32::from(planes.lows[at]),
+        u32::from(planes.highs[at]),
+        8,
+        before,
+    )
 }
 
 // Whether there is no MARK, block 0 is no TAIL, and no TAIL follows a FREE.
-pub fn well_formed(t: usize, table: &[u8]) -> bool
-    requires { IsTable t table.now }
-    ensures { result ≡ well_formed (entries_in t table.now) }
+pub fn well_formed(table: &Table) -> bool
+    ensures { result ≡ well_formed (entries_of table.now) }
 {
-    let half = entries::plane_bytes(t);
-    let lows = &table[0..half];
-    let highs = &table[half..2 * half];
+    let planes = table.planes();
+    let half = planes.lows.len();
     let groups = half / 8;
     let mut bad: u32 = 0;
     let mut before: u32 = 0;
     for i in 0..groups {
-        let r = test_eight(lows, highs, 8 * i, before);
+        let r = test_eight(&planes, 8 * i, before);
         bad = bad | r.bad;
         before = r.before;
     }
-    let rest = 8 * groups;
-    for j in rest..half {
-        let r = test_one(lows, highs, j, before);
+    let grouped = 8 * groups;
+    for j in grouped..half {
+        let r = test_one(&planes, j, before);
         bad = bad | r.bad;
         before = r.before;
     }
@@ -106,23 +114,20 @@ pub struct Counts {
 }
 
 // The ones of a word of both planes are counted: a block that is not FREE has a bit in one of them, a HEAD in the first alone.
-pub fn count(t: usize, table: &[u8]) -> Counts
-    requires { IsTable t table.now }
-    ensures { (result.used ≡ used (entries_in t table.now)) × (result.objects ≡ objects (entries_in t table.now)) }
+pub fn count(table: &Table) -> Counts
+    ensures { (result.used ≡ used (entries_of table.now)) × (result.objects ≡ objects (entries_of table.now)) }
 {
-    let half = entries::plane_bytes(t);
-    let lows = &table[0..half];
-    let highs = &table[half..2 * half];
-    let words = half / 4;
+    let planes = table.planes();
+    let words = planes.lows.len() / 4;
     let mut used: u32 = 0;
     let mut heads: u32 = 0;
     for i in 0..words {
-        let low = entries::word_at(lows, i);
-        let high = entries::word_at(highs, i);
+        let low = entries::word_at(planes.lows, i);
+        let high = entries::word_at(planes.highs, i);
         used += u32::count_ones(low | high);
         heads += u32::count_ones(low & !high);
     }
-    let w = entries::last_words::<u32>(lows, highs, words);
+    let w = planes.last_words::<u32>(words);
     used += u32::count_ones(w.low | w.high);
     heads += u32::count_ones(w.low & !w.high);
     Counts {
@@ -192,8 +197,8 @@ pub fn sweep(t: usize, table: &mut [u8])
     for i in 0..words {
         keeping = sweep_four(&mut *table, half, 4 * i, keeping);
     }
-    let rest = 4 * words;
-    for j in rest..half {
+    let swept = 4 * words;
+    for j in swept..half {
         keeping = sweep_one(&mut *table, half, j, keeping);
     }
 }

@@ -3,7 +3,7 @@
 use Rattle.std.proofs.Common.{◌≡◌, ◌+◌, ◌*◌, ◌/◌, ◌∙◌, arith}
 use Rattle.rules.specs.Planes.{plane_bytes, entries_in}
 use Rattle.laws.proofs.Widths.{in_32_bits}
-use Rattle.whole.proofs.Planes.{planes}
+use Rattle.whole.proofs.Planes.{short}
 use Rattle.whole.proofs.Steps.{swept_start, swept_end, keeping_lt}
 use Rattle.whole.proofs.sweep.Goals as goal
 
@@ -11,9 +11,7 @@ pub loop-i-init : goal.loop-i-init
 loop-i-init c = record { long = rw c.plane_bytes-half.ensures c.requires.sized.long; swept = swept_start c.args.t c.args.table.now c.requires.clean }
 
 pub overflow_mul-i : goal.overflow_mul-i
-overflow_mul-i c =
-    let p = planes c.requires c.plane_bytes-half.ensures in
-    in_32_bits (record { fits = omega arith })
+overflow_mul-i c = in_32_bits (record { fits = omega (arith, short c.requires c.plane_bytes-half.ensures) })
 
 pub sweep_four-keeping-requires : goal.sweep_four-keeping-requires
 sweep_four-keeping-requires c = (keeping_lt c.loop-i.invariant.swept, (omega arith, c.loop-i.invariant.long))
@@ -29,10 +27,8 @@ loop-i-preserved c =
       swept = rw next (e.ensures a.t (entries_in a.t a.table.now) c.plane_bytes-half.ensures l.invariant.swept);
     }
 
-pub overflow_mul-rest : goal.overflow_mul-rest
-overflow_mul-rest c =
-    let p = planes c.requires c.plane_bytes-half.ensures in
-    in_32_bits (record { fits = omega arith })
+pub overflow_mul-swept : goal.overflow_mul-swept
+overflow_mul-swept c = in_32_bits (record { fits = omega (arith, short c.requires c.plane_bytes-half.ensures) })
 
 pub loop-j-init : goal.loop-j-init
 loop-j-init c =

@@ -20,7 +20,7 @@ word_lanes es lows highs at room room' planes i b low high place few words j h =
     ∙ words (entries_of es lows highs at n) (part_planes es lows highs at n (omega arith) (omega arith) planes) j h)
 
 pub overflow_add-end : goal.overflow_add-end
-overflow_add-end c = in_slice c.args.lows.now (search rules) (search rules)
+overflow_add-end c = in_slice c.args.planes.now.lows.now (search rules) (search rules)
 
 pub returns : goal.returns
 returns c es planes is =
@@ -29,7 +29,7 @@ returns c es planes is =
     let b = c.words_at-b in
     let here : 8 * x.at + 32 * 0 ≡ 8 * x.at = omega arith in
     let there : 8 * x.at + 32 * 1 ≡ 8 * x.at + 32 = omega arith in
-    let lanes = word_lanes es x.lows.now x.highs.now x.at c.requires.1.0 c.requires.1.1 planes in
+    let lanes = word_lanes es x.planes.now.lows.now x.planes.now.highs.now x.at c.requires.1.0 c.requires.1.1 planes in
     let first = c.test-first.ensures.1 es (8 * x.at) (lanes 0 (8 * x.at) a.result.low a.result.high here (omega arith) a.ensures) is in
     tested_more es (8 * x.at) 32 32 _ _ _ _ first
     (c.test-second.ensures.1 es (8 * x.at + 32) (lanes 1 (8 * x.at + 32) b.result.low b.result.high there (omega arith) b.ensures) first.last)

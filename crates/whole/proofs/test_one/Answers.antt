@@ -12,4 +12,4 @@ byte_lanes es lows highs at planes j h = planes (8 * at + j) ∙ rw (bit_at_byte
 pub returns : goal.returns
 returns c es planes is =
     let a = c.args in
-    c.test.ensures.1 es (8 * a.at) (rw (c.from.ensures, c.from-2.ensures) (byte_lanes es a.lows.now a.highs.now a.at planes)) is
+    c.test.ensures.1 es (8 * a.at) (rw (c.from.ensures, c.from-2.ensures) (byte_lanes es a.planes.now.lows.now a.planes.now.highs.now a.at planes)) is
