@@ -10,6 +10,7 @@ ghost use Rattle.rules.specs.Refusals.{first_of, good_shape, heap_tests, request
 ghost use Rattle.refusals.specs.Codes.{refused_by};
 ghost use Rattle.checks.specs.Refusal.{refusal_by};
 
+use entries::Table;
 use numbers::{Address, Block, Bytes};
 use refusals::Refusal;
 
@@ -41,7 +42,7 @@ fn is_sound(t: usize, table: &[u8]) -> bool
     if !whole::spare_free(t, table) {
         return false;
     }
-    whole::well_formed(t, table)
+    whole::well_formed(&Table::new(t, table))
 }
 
 // Refusals 1 and 2, of every call but init and an opening.
@@ -79,7 +80,7 @@ pub fn object(base: Address, t: usize, pool: &[u8], table: &[u8], k: Block) -> R
     ensures { refused_by result ≡ refusal_by t pool.now table.now (λ (h : Heap). object_tests base.0 h k.0) }
 {
     heap(base, t, pool, table)?;
-    named(t, table, k)
+    named(&Table::new(t, table), k)
 }
 
 // Refusals 1, 2, 5, 6 and 7, of a request for an object.
@@ -94,30 +95,28 @@ pub fn resize(
     ensures { refused_by result ≡ refusal_by t pool.now table.now (λ (h : Heap). resize_tests base.0 h k.0 bytes.0) }
 {
     request(base, t, pool, table, bytes)?;
-    named(t, table, k)
+    named(&Table::new(t, table), k)
 }
 
 // Refusals 6 and 7: whether block k names an object.
-fn named(t: usize, table: &[u8], k: Block) -> Result<(), Refusal>
-    requires { IsTable t table.now }
-    ensures { refused_by result ≡ first_of (name_tests (heap_at t [] table.now) k.0) }
+fn named(table: &Table, k: Block) -> Result<(), Refusal>
+    ensures { refused_by result ≡ first_of (name_tests (heap_at table.now.t [] table.now.bytes.now) k.0) }
 {
-    if !k.is_below(entries::blocks(t)) {
+    if !k.is_below(table.blocks()) {
         return Err(Refusal::NoSuchBlock);
     }
-    if !entries::is_head(t, table, k) {
+    if !table.is_head(k) {
         return Err(Refusal::NotAHead);
     }
     Ok(())
 }
 
 // Refusals 6, 7 and 8, of a word of an object, where 1 and 2 are passed.
-pub fn object_word(t: usize, table: &[u8], k: Block, i: usize) -> Result<(), Refusal>
-    requires { IsTable t table.now }
-    ensures { refused_by result ≡ first_of (name_tests (heap_at t [] table.now) k.0 ++ no_word (heap_at t [] table.now) k.0 i ∷ []) }
+pub fn object_word(table: &Table, k: Block, i: usize) -> Result<(), Refusal>
+    ensures { refused_by result ≡ first_of (name_tests (heap_at table.now.t [] table.now.bytes.now) k.0 ++ no_word (heap_at table.now.t [] table.now.bytes.now) k.0 i ∷ []) }
 {
-    named(t, table, k)?;
-    if 4 * table::block_count(t, table, k) <= i {
+    named(table, k)?;
+    if 4 * table::block_count(table, k) <= i {
         return Err(Refusal::NoSuchWord);
     }
     Ok(())

@@ -17,8 +17,8 @@ spare_free-requires c = c.requires
 pub returns-then-not-spare_free : goal.returns-then-not-spare_free
 returns-then-not-spare_free c = first_fails _ _ (sym c.spare_free.ensures ∙ c.if-not-spare_free.true)
 
-pub well_formed-requires : goal.well_formed-requires
-well_formed-requires c = record { sized = c.requires; clean = sym c.spare_free.ensures ∙ c.if-not-spare_free.false }
+pub new-requires : goal.new-requires
+new-requires c = record { sized = c.requires; clean = sym c.spare_free.ensures ∙ c.if-not-spare_free.false }
 
 pub returns : goal.returns
-returns c = first_holds _ _ (sym c.spare_free.ensures ∙ c.if-not-spare_free.false) c.well_formed-2.ensures
+returns c = first_holds _ _ (sym c.spare_free.ensures ∙ c.if-not-spare_free.false) (rw c.new.ensures at c.well_formed-2.ensures)

@@ -27,15 +27,15 @@ entry_of : (t : ℕ) (table : List ℕ) (k : ℕ) {n : ℕ} {b : Bool} → n ≡
 entry_of t table k e is below = rw (← e) (ltb-true _ _ (sym is ∙ below))
 
 pub returns-then-not-is_below : goal.returns-then-not-is_below
-returns-then-not-is_below c = far _ _ _ (rw (← c.blocks-2.ensures _) (ltb-false _ _ (sym c.is_below.ensures ∙ c.if-not-is_below.true)))
+returns-then-not-is_below c = far _ _ _ (rw (← c.blocks-2.ensures) (ltb-false _ _ (sym c.is_below.ensures ∙ c.if-not-is_below.true)))
 
 pub is_head-requires : goal.is_head-requires
-is_head-requires c = (c.requires, entry_of _ _ _ (c.blocks-2.ensures _) c.is_below.ensures c.if-not-is_below.false)
+is_head-requires c = entry_of _ _ _ (c.blocks-2.ensures) c.is_below.ensures c.if-not-is_below.false
 
 pub returns-then-not-is_head : goal.returns-then-not-is_head
 returns-then-not-is_head c =
-    other _ _ _ (entry_of _ _ _ (c.blocks-2.ensures _) c.is_below.ensures c.if-not-is_below.false) (ap not (sym c.is_head.ensures ∙ c.if-not-is_head.true))
+    other _ _ _ (entry_of _ _ _ (c.blocks-2.ensures) c.is_below.ensures c.if-not-is_below.false) (ap not (sym c.is_head.ensures ∙ c.if-not-is_head.true))
 
 pub returns : goal.returns
 returns c =
-    head _ _ _ (entry_of _ _ _ (c.blocks-2.ensures _) c.is_below.ensures c.if-not-is_below.false) (ap not (sym c.is_head.ensures ∙ c.if-not-is_head.false))
+    head _ _ _ (entry_of _ _ _ (c.blocks-2.ensures) c.is_below.ensures c.if-not-is_below.false) (ap not (sym c.is_head.ensures ∙ c.if-not-is_head.false))

@@ -22,20 +22,17 @@ module _ (h : Heap) (k i : ℕ) {r b : ℕ} (test : r ≡ first_of (name_tests h
   within : i < 4 * b → 0 ≡ first_of (name_tests h k ++ no_word h k i ∷ [])
   within l = sym (first_more (name_tests h k) _ refl (sym test ∙ ok) ∙ first_last _ (lt-leb _ _ (rw count at l)))
 
-pub named-requires : goal.named-requires
-named-requires c = c.requires
-
 pub returns-in_err-named : goal.returns-in_err-named
 returns-in_err-named c = passed_on _ _ c.from_residual.ensures.1 ∙ refused_first _ _ c.in_err-named.ensures (not_accepted _)
 
 pub block_count-requires : goal.block_count-requires
 block_count-requires c =
     let a = c.args in
-    (c.requires, (named (heap_at a.t [] a.table.now) a.k.0 [] (sym c.in_ok-named.ensures ∙ refl)).inside)
+    (named (heap_at a.table.now.t [] a.table.now.bytes.now) a.k.0 [] (sym c.in_ok-named.ensures ∙ refl)).inside
 
 pub overflow_mul-block_count : goal.overflow_mul-block_count
 overflow_mul-block_count c =
-    let few = few_entries _ _ c.requires in
+    let few = few_entries _ _ c.args.table.now.is_table in
     let end = c.block_count.ensures.1 in
     in_32_bits (omega arith)
 

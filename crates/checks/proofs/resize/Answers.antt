@@ -13,10 +13,10 @@ returns-in_err-request c =
     let a = c.args in
     passed_on _ _ c.from_residual.ensures.1 ∙ refused_first_in (planes a.t) (memory [] a.table.now) _ _ refl refl c.in_err-request.ensures (not_accepted _)
 
-pub named-requires : goal.named-requires
-named-requires c = (is_table_of _ _ _ _ _ c.in_ok-request.ensures refl).0
+pub new-requires : goal.new-requires
+new-requires c = (is_table_of _ _ _ _ _ c.in_ok-request.ensures refl).0
 
 pub returns : goal.returns
 returns c =
     let a = c.args in
-    refused_next_in (planes a.t) (memory [] a.table.now) _ _ refl c.in_ok-request.ensures refl c.named.ensures
+    refused_next_in (planes a.t) (memory [] a.table.now) _ _ refl c.in_ok-request.ensures refl (rw c.new.ensures at c.named.ensures)

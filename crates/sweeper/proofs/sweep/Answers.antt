@@ -17,7 +17,7 @@ fewer es es' e = rw e (used_swept es)
 pub overflow_sub-result : goal.overflow_sub-result
 overflow_sub-result c =
     let l = fewer (entries_in c.args.t c.args.table.now) (entries_in c.args.t c.sweep.new.table) c.sweep.ensures.entries in
-    omega (arith, l, c.count-after.ensures.0, c.count-before.ensures.0)
+    omega (arith, l, (rw c.new-2.ensures at c.count-after.ensures).0, (rw c.new.ensures at c.count-before.ensures).0)
 
 pub returns : goal.returns
 returns c =
@@ -26,7 +26,7 @@ returns c =
       s.is_table,
       record {
         entries = s.entries;
-        kept = c.count-after.ensures.1;
-        freed = omega (arith, l, c.count-after.ensures.0, c.count-before.ensures.0);
+        kept = (rw c.new-2.ensures at c.count-after.ensures).1;
+        freed = omega (arith, l, (rw c.new-2.ensures at c.count-after.ensures).0, (rw c.new.ensures at c.count-before.ensures).0);
       },
     )
