@@ -1,12 +1,15 @@
 // The packed order of heap images, four blocks to a byte. Beside `entries` and `whole` only this crate knows how entries lie in bytes.
 #![tactic(auto)]
 
-ghost use Rattle.std.specs.Prelude.{◌≡◌, [], ◌∷◌, ◌+◌, ◌*◌, ◌≤◌, ◌<◌, length};
+ghost use Rattle.std.specs.Prelude.{◌≡◌, [], ◌∷◌, ◌+◌, ◌*◌, ◌/◌, ◌≤◌, ◌<◌, length};
 ghost use Rattle.std.proofs.lemmas.List.Edits.{sets};
 ghost use Rattle.rules.specs.Entries.{entries_of, table_of};
 ghost use Rattle.rules.specs.Tables.{used as used_of, well_formed};
-ghost use Rattle.rules.specs.Planes.{entries_in, Sized, IsTable, Holds};
+ghost use Rattle.rules.specs.Planes.{Sized, Holds};
 ghost use Rattle.packing.specs.Packing.{Spread, Interleaved, Gathered, UnpacksOn};
+ghost use Rattle.entries.specs.Lent.{entries_of as lent_entries};
+
+use entries::Table;
 
 // The bits of a byte, spread: bit j becomes bit 2 * j.
 fn spread(b: u8) -> u16
@@ -25,19 +28,19 @@ fn interleave(low: u8, high: u8) -> u16
     spread(low) | (spread(high) << 1)
 }
 
-// The packed table of the entries, four blocks to a byte, from byte `at` of the buffer on: a byte of both planes at a time, and the last half of one if t is odd.
-pub fn pack(t: usize, table: &[u8], buffer: &mut [u8], at: usize)
-    requires { IsTable t table.now × (at + t ≤ length buffer.old) }
-    ensures { buffer.new ≡ sets buffer.old at (table_of (entries_in t table.now)) }
+// The packed table of the entries, four blocks to a byte, from byte `at` of the buffer on: a byte of both planes at a time, and half of the last one where four blocks are left.
+pub fn pack(table: &Table, buffer: &mut [u8], at: usize)
+    requires { at + length (lent_entries table.now) / 4 ≤ length buffer.old }
+    ensures { buffer.new ≡ sets buffer.old at (table_of (lent_entries table.now)) }
 {
-    let half = entries::plane_bytes(t);
-    let pairs = t / 2;
+    let planes = table.planes();
+    let pairs = table.blocks() / 8;
     for i in 0..pairs {
-        let eight = interleave(table[i], table[half + i]);
+        let eight = interleave(planes.lows[i], planes.highs[i]);
         memory::set_two_bytes(&mut *buffer, at + 2 * i, usize::from(eight));
     }
-    if t % 2 == 1 {
-        let four = interleave(table[pairs], table[half + pairs]);
+    if pairs < planes.lows.len() {
+        let four = interleave(planes.lows[pairs], planes.highs[pairs]);
         buffer[at + 2 * pairs] = (four % 256) as u8;
     }
 }
