@@ -5,11 +5,12 @@
 ghost use Rattle.std.specs.Prelude.{◌≡◌, ◌+◌, ◌*◌, ◌%◌, ◌≤◌, ◌<◌, min, length, drop};
 ghost use Rattle.std.proofs.lemmas.List.Edits.{sets};
 ghost use Rattle.rules.specs.Tables.{used as used_of};
-ghost use Rattle.rules.specs.Planes.{entries_in, IsTable};
 ghost use Rattle.rules.specs.Images.{used_from};
 ghost use Rattle.rules.specs.Files.{pool_of};
 ghost use Rattle.transfer.specs.Copying.{lanes, Inside, blocks_in, group_in, with_used};
+ghost use Rattle.entries.specs.Lent.{entries_of};
 
+use entries::Table;
 use numbers::{Block, Bytes};
 
 // 64 blocks that are all used.
@@ -74,13 +75,13 @@ fn copy_group(pool: &[u8], i: usize, used: u64, image: &mut [u8], at: usize) -> 
 }
 
 // The used blocks are copied, from `at` on, 64 blocks at a time.
-pub fn gather(t: usize, pool: &[u8], table: &[u8], image: &mut [u8], at: usize)
-    requires { IsTable t table.now × ((length pool.now ≡ 16 * length (entries_in t table.now)) × (at + 16 * used_of (entries_in t table.now) ≤ length image.old)) }
-    ensures { image.new ≡ sets image.old at (used_from pool.now 0 (entries_in t table.now)) }
+pub fn gather(pool: &[u8], table: &Table, image: &mut [u8], at: usize)
+    requires { (length pool.now ≡ 16 * length (entries_of table.now)) × (at + 16 * used_of (entries_of table.now) ≤ length image.old) }
+    ensures { image.new ≡ sets image.old at (used_from pool.now 0 (entries_of table.now)) }
 {
     let mut to = at;
-    for i in 0..entries::blocks(t).div_ceil(64) {
-        let g = entries::group::<u64>(t, table, i);
+    for i in 0..table.blocks().div_ceil(64) {
+        let g = table.group::<u64>(i);
         to = copy_group(pool, i, g.low | g.high, &mut *image, to);
     }
 }
@@ -117,20 +118,13 @@ fn group_end(n: usize, i: usize) -> usize
 
 // The 64 blocks from block 64 * i on, or as many as there are: the used ones get the next blocks of the bytes, of which `passed` come before, and the others become zero.
 // Returns how many are passed then. Where all are used, they are one part of the bytes.
-fn fill_group(
-    t: usize,
-    bytes: &[u8],
-    passed: usize,
-    table: &[u8],
-    i: usize,
-    pool: &mut [u8],
-) -> usize
-    requires table { IsTable t table.now × ((64 * i < length (entries_in t table.now)) × (length pool.old ≡ 16 * length (entries_in t table.now))) }
-    requires i_bound { (passed + used_of (group_in (entries_in t table.now) i) ≤ 4096) × (16 * (passed + used_of (group_in (entries_in t table.now) i)) ≤ length bytes.now) }
-    ensures { (pool.new ≡ sets pool.old (1024 * i) (pool_of (group_in (entries_in t table.now) i) (drop (16 * passed) bytes.now)))
-        × (result ≡ passed + used_of (group_in (entries_in t table.now) i)) }
+fn fill_group(bytes: &[u8], passed: usize, table: &Table, i: usize, pool: &mut [u8]) -> usize
+    requires table { (64 * i < length (entries_of table.now)) × (length pool.old ≡ 16 * length (entries_of table.now)) }
+    requires i_bound { (passed + used_of (group_in (entries_of table.now) i) ≤ 4096) × (16 * (passed + used_of (group_in (entries_of table.now) i)) ≤ length bytes.now) }
+    ensures { (pool.new ≡ sets pool.old (1024 * i) (pool_of (group_in (entries_of table.now) i) (drop (16 * passed) bytes.now)))
+        × (result ≡ passed + used_of (group_in (entries_of table.now) i)) }
 {
-    let g = entries::group::<u64>(t, table, i);
+    let g = table.group::<u64>(i);
     let used = g.low | g.high;
     let start = block_offset(i, 0);
     if used == ALL {
@@ -142,18 +136,18 @@ fn fill_group(
         copy_run(&bytes[from..to], &mut pool[at..at_end]);
         return next;
     }
-    let end = group_end(entries::blocks(t), i);
+    let end = group_end(table.blocks(), i);
     memory::clear_part(&mut *pool, start, Bytes::of_blocks(end));
     place_group(bytes, passed, i, used, &mut *pool)
 }
 
 // The pool of a table's entries: each used block gets the next 16 of the bytes, and every other byte becomes zero.
-pub fn scatter(t: usize, bytes: &[u8], table: &[u8], pool: &mut [u8])
-    requires { IsTable t table.now × ((length pool.old ≡ 16 * length (entries_in t table.now)) × (length bytes.now ≡ 16 * used_of (entries_in t table.now))) }
-    ensures { pool.new ≡ pool_of (entries_in t table.now) bytes.now }
+pub fn scatter(bytes: &[u8], table: &Table, pool: &mut [u8])
+    requires { (length pool.old ≡ 16 * length (entries_of table.now)) × (length bytes.now ≡ 16 * used_of (entries_of table.now)) }
+    ensures { pool.new ≡ pool_of (entries_of table.now) bytes.now }
 {
     let mut next = 0;
-    for i in 0..entries::blocks(t).div_ceil(64) {
-        next = fill_group(t, bytes, next, table, i, &mut *pool);
+    for i in 0..table.blocks().div_ceil(64) {
+        next = fill_group(bytes, next, table, i, &mut *pool);
     }
 }
