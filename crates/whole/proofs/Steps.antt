@@ -28,14 +28,6 @@ unfolding sweep
 swept_end t old table keeping sized s =
     holds_of t (sweep (entries_in t old)) table sized (sweep_length false (entries_in t old) ∙ length_entries_in t old) s.done
 
--- `keeping` is 0 or 1
-pub keeping_lt : {t : ℕ} {es table : List ℕ} {at keeping : ℕ} → SweptTo t es table at keeping → keeping < 2
-keeping_lt {es = es} {at = at} s = rw s.keeps (go (freeing_at false (entry_at es) (8 * at)))
-  where
-    go : (f : Bool) → pick f 0 1 < 2
-    go true = omega arith
-    go false = omega arith
-
 keeping_none : (f : Bool) → eqb (pick f 0 1) 0 ≡ f
 keeping_none true = refl
 keeping_none false = refl

@@ -33,10 +33,7 @@ may_same : (p q e : ℕ) → is_free p ≡ is_free q → may_follow p e ≡ may_
 unfolding may_follow
 may_same p q e h = rw h
 
--- ---- the start, and the end
-
-pub tested_none : (es : List ℕ) → TestedFrom es 0 0 0 0
-tested_none es = record { sound = λ z k g h. absurd (omega arith); full = λ all. refl; last = refl }
+-- ---- the end
 
 -- in a well-formed table every entry is allowed, and also what is read past the last
 well_allowed : (es : List ℕ) → well_formed es ≡ true → (k : ℕ) → Allowed es k
@@ -77,14 +74,6 @@ tests_on es lows highs at n bad before bad' after planes f on =
     let z : 0 + 8 * at ≡ 8 * at = omega arith in
     let e : 8 * at + 8 * n ≡ 8 * (at + n) = omega arith in
     rw e at (tested_more es 0 (8 * at) (8 * n) bad before bad' after f (rw z (on es planes (rw z at f.last))))
-
--- `before` is 0 or 1
-pub before_lt : {es : List ℕ} {b n bad before : ℕ} → TestedFrom es b n bad before → before < 2
-before_lt {es = es} {b = b} {n = n} f = rw f.last (go (is_used (entry_at (FREE ∷ es) (b + n))))
-  where
-    go : (x : Bool) → pick x 1 0 < 2
-    go true = omega arith
-    go false = omega arith
 
 -- ---- n entries in two numbers
 

@@ -37,11 +37,6 @@ loop-i-init c =
     let es = entries_of c.args.table.now in
     (omega (arith, few is_used es 0), omega (arith, few is_head es 0))
 
-pub word_at-high-requires : goal.word_at-high-requires
-word_at-high-requires c =
-    let p = c.planes-planes.ensures in
-    omega (arith, p.lows, p.highs)
-
 pub overflow_add-used : goal.overflow_add-used
 overflow_add-used c =
     let p = c.planes-planes.ensures in
@@ -60,11 +55,6 @@ loop-i-preserved c =
     let k = counted _ _ p.hold (short c.args.table.now.is_table p.lows) (omega arith) (search rules) (search rules) (in_words _ _ _ _ _ c.word_at-low.ensures c.word_at-high.ensures) c.loop-i.invariant.0 c.loop-i.invariant.1 in
     (k.used_is, k.heads_is)
 
-pub last_words-w-requires : goal.last_words-w-requires
-last_words-w-requires c =
-    let p = c.planes-planes.ensures in
-    (omega arith, (omega arith, omega (arith, p.lows, p.highs)))
-
 pub overflow_add-used-2 : goal.overflow_add-used-2
 overflow_add-used-2 c =
     let p = c.planes-planes.ensures in
@@ -78,20 +68,6 @@ overflow_add-heads-2 c =
     let all : length c.planes-planes.result.lows.now / 4 ≡ c.loop-i.i = omega arith in
     let k = counted _ _ p.hold (short c.args.table.now.is_table p.lows) (omega arith) (search rules) (search rules) (rw all at c.last_words-w.ensures) c.loop-i.invariant.0 c.loop-i.invariant.1 in
     as_u32 (record { fits = omega arith })
-
-pub overflow_cast-result : goal.overflow_cast-result
-overflow_cast-result c =
-    let p = c.planes-planes.ensures in
-    let all : length c.planes-planes.result.lows.now / 4 ≡ c.loop-i.i = omega arith in
-    let k = counted _ _ p.hold (short c.args.table.now.is_table p.lows) (omega arith) (search rules) (search rules) (rw all at c.last_words-w.ensures) c.loop-i.invariant.0 c.loop-i.invariant.1 in
-    record { fits = omega arith }
-
-pub overflow_cast-result-2 : goal.overflow_cast-result-2
-overflow_cast-result-2 c =
-    let p = c.planes-planes.ensures in
-    let all : length c.planes-planes.result.lows.now / 4 ≡ c.loop-i.i = omega arith in
-    let k = counted _ _ p.hold (short c.args.table.now.is_table p.lows) (omega arith) (search rules) (search rules) (rw all at c.last_words-w.ensures) c.loop-i.invariant.0 c.loop-i.invariant.1 in
-    record { fits = omega arith }
 
 pub returns : goal.returns
 returns c =

@@ -1,10 +1,10 @@
 -- `sweep`: the table is swept from its front on, a word of each plane at a time and then single bytes.
 -- Assumes nothing.
-use Rattle.std.proofs.Common.{◌≡◌, ◌+◌, ◌*◌, ◌/◌, ◌∙◌, arith}
+use Rattle.std.proofs.Common.{◌≡◌, ◌+◌, ◌*◌, ◌∙◌, arith}
 use Rattle.rules.specs.Planes.{plane_bytes, entries_in}
 use Rattle.laws.proofs.Widths.{in_32_bits}
 use Rattle.whole.proofs.Planes.{short}
-use Rattle.whole.proofs.Steps.{swept_start, swept_end, keeping_lt}
+use Rattle.whole.proofs.Steps.{swept_start, swept_end}
 use Rattle.whole.proofs.sweep.Goals as goal
 
 pub loop-i-init : goal.loop-i-init
@@ -12,9 +12,6 @@ loop-i-init c = record { long = rw c.plane_bytes-half.ensures c.requires.sized.l
 
 pub overflow_mul-i : goal.overflow_mul-i
 overflow_mul-i c = in_32_bits (record { fits = omega (arith, short c.requires c.plane_bytes-half.ensures) })
-
-pub sweep_four-keeping-requires : goal.sweep_four-keeping-requires
-sweep_four-keeping-requires c = (keeping_lt c.loop-i.invariant.swept, (omega arith, c.loop-i.invariant.long))
 
 pub loop-i-preserved : goal.loop-i-preserved
 loop-i-preserved c =
@@ -29,15 +26,6 @@ loop-i-preserved c =
 
 pub overflow_mul-swept : goal.overflow_mul-swept
 overflow_mul-swept c = in_32_bits (record { fits = omega (arith, short c.requires c.plane_bytes-half.ensures) })
-
-pub loop-j-init : goal.loop-j-init
-loop-j-init c =
-    let l = c.loop-i in
-    let e : 4 * l.i ≡ 4 * (c.plane_bytes-half.result / 4) = omega arith in
-    rw e at l.invariant
-
-pub sweep_one-keeping-requires : goal.sweep_one-keeping-requires
-sweep_one-keeping-requires c = (keeping_lt c.loop-j.invariant.swept, (omega arith, c.loop-j.invariant.long))
 
 pub loop-j-preserved : goal.loop-j-preserved
 loop-j-preserved c =

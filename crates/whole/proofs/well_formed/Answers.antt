@@ -1,22 +1,14 @@
 -- `well_formed`: the entries are tested from the front on, eight bytes of each plane at a time and then single ones.
 -- Assumes nothing.
-use Rattle.std.proofs.Common.{◌≡◌, ◌+◌, ◌*◌, ◌/◌, length, arith}
+use Rattle.std.proofs.Common.{◌≡◌, ◌+◌, ◌*◌, arith}
 use Rattle.laws.proofs.Widths.{in_32_bits}
 use Rattle.entries.specs.Lent.{entries_of}
 use Rattle.whole.proofs.Planes.{short, all_entries}
-use Rattle.whole.proofs.Testing.{tested_none, tested_all, tests_on, before_lt}
+use Rattle.whole.proofs.Testing.{tested_all, tests_on}
 use Rattle.whole.proofs.well_formed.Goals as goal
-
-pub loop-i-init : goal.loop-i-init
-loop-i-init c = tested_none _
 
 pub overflow_mul-i : goal.overflow_mul-i
 overflow_mul-i c = in_32_bits (record { fits = omega (arith, short c.args.table.now.is_table c.planes-planes.ensures.lows) })
-
-pub test_eight-r-requires : goal.test_eight-r-requires
-test_eight-r-requires c =
-    let p = c.planes-planes.ensures in
-    (before_lt c.loop-i.invariant, (omega arith, omega (arith, p.lows, p.highs)))
 
 pub loop-i-preserved : goal.loop-i-preserved
 loop-i-preserved c =
@@ -26,21 +18,6 @@ loop-i-preserved c =
 
 pub overflow_mul-grouped : goal.overflow_mul-grouped
 overflow_mul-grouped c = in_32_bits (record { fits = omega (arith, short c.args.table.now.is_table c.planes-planes.ensures.lows) })
-
-pub overflow_mul-rest : goal.overflow_mul-rest
-overflow_mul-rest c =
-    let p = planes c.requires c.plane_bytes-half.ensures in
-    in_32_bits (record { fits = omega arith })
-
-pub loop-j-init : goal.loop-j-init
-loop-j-init c =
-    let e : 8 * c.loop-i.i ≡ 8 * (length c.planes-planes.result.lows.now / 8) = omega arith in
-    rw e at c.loop-i.invariant
-
-pub test_one-r-requires : goal.test_one-r-requires
-test_one-r-requires c =
-    let p = c.planes-planes.ensures in
-    (before_lt c.loop-j.invariant, (omega arith, omega (arith, p.lows, p.highs)))
 
 pub loop-j-preserved : goal.loop-j-preserved
 loop-j-preserved c = tests_on _ _ _ c.loop-j.j 1 _ _ _ _ c.planes-planes.ensures.hold c.loop-j.invariant c.test_one-r.ensures
