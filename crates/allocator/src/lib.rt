@@ -8,6 +8,7 @@ ghost use Rattle.rules.specs.Runs.{Allocate, Free, Reallocate};
 ghost use Rattle.rules.specs.Memory.{memory, perform};
 ghost use Rattle.allocator.specs.Answers.{placed, freed};
 
+use entries::Table;
 use numbers::{Address, Block, Bytes};
 use objects::Placed;
 use refusals::Refusal;
@@ -27,7 +28,7 @@ pub fn allocate(
         return Err(Refusal::NoRoom);
     }
     let count = bytes.blocks();
-    let block = table::first_fit(t, &*table, count).ok_or(Refusal::NoRoom)?;
+    let block = table::first_fit(&Table::new(t, &*table), count).ok_or(Refusal::NoRoom)?;
     objects::take(t, pool, table, block, count);
     Ok(Placed {
         block,
@@ -64,12 +65,12 @@ pub fn reallocate(
     if !bytes.fits_in(&*pool) {
         return Err(Refusal::NoRoom);
     }
-    let old = table::block_count(t, &*table, k);
+    let old = table::block_count(&Table::new(t, &*table), k);
     let new = bytes.blocks();
     if new <= old {
         return Ok(objects::shrink(t, &*pool, table, k, old, new));
     }
-    if table::grows_in_place(t, &*table, k, old, new) {
+    if table::grows_in_place(&Table::new(t, &*table), k, old, new) {
         return Ok(objects::grow(t, pool, table, k, old, new));
     }
     objects::relocate(t, pool, table, k, old, new)

@@ -10,6 +10,7 @@ ghost use Rattle.rules.specs.Memory.{memory, AcceptedIn, perform};
 ghost use Rattle.refusals.specs.Codes.{refused_by};
 ghost use Rattle.heap.specs.Answers.{status, surveyed, loaded, linked, next_by};
 
+use entries::Table;
 use numbers::{Address, Block};
 use refusals::Refusal;
 
@@ -37,11 +38,12 @@ pub fn survey(base: Address, t: usize, pool: &[u8], table: &[u8]) -> Result<Surv
     ensures { surveyed result pool.now table.now ≡ perform (planes t) (Survey base.0) [] (memory pool.now table.now) }
 {
     checks::heap(base, t, pool, table)?;
-    let counts = whole::count(t, table);
+    let table = Table::new(t, table);
+    let counts = whole::count(&table);
     Ok(Surveyed {
         used: counts.used as u32,
         objects: counts.objects as u32,
-        longest: freeruns::longest(t, table) as u32,
+        longest: freeruns::longest(&table) as u32,
     })
 }
 
@@ -88,7 +90,7 @@ fn word_index(t: usize, table: &[u8], k: Block, i: usize) -> Result<usize, Refus
     ensures refusal { refused_by result ≡ first_of (name_tests (heap_at t [] table.now) k.0 ++ no_word (heap_at t [] table.now) k.0 i ∷ []) }
     ensures index { IfOk result (λ (at : ℕ). at ≡ 4 * k.0 + i) }
 {
-    checks::object_word(t, table, k, i)?;
+    checks::object_word(&Table::new(t, table), k, i)?;
     Ok(k.first_word() + i)
 }
 
@@ -97,7 +99,8 @@ pub fn load_link(base: Address, t: usize, pool: &[u8], table: &[u8], k: Block) -
     requires { AcceptedIn (perform (planes t) (Survey base.0) [] (memory pool.now table.now)) }
     ensures { linked result ≡ next_by (λ (i : ℕ). (perform (planes t) (Load base.0 k.0 i) [] (memory pool.now table.now)).answer) }
 {
-    if k.is_below(entries::blocks(t)) && entries::is_pair(t, table, k) {
+    let table = Table::new(t, table);
+    if k.is_below(table.blocks()) && table.is_pair(k) {
         Some(memory::word(pool, k.first_word()))
     } else {
         None

@@ -10,6 +10,7 @@ ghost use Rattle.rules.specs.Runs.{WriteImage};
 ghost use Rattle.rules.specs.Memory.{memory, with_buffer, perform};
 ghost use Rattle.image.specs.Answers.{written};
 
+use entries::Table;
 use numbers::{Address, Bytes};
 use refusals::Refusal;
 
@@ -30,10 +31,11 @@ fn write_sections(
     memory::set_two_bytes(&mut *image, 0, 1);
     memory::set_four_bytes(&mut *image, 2, base.to_word());
     memory::set_two_bytes(&mut *image, 6, t);
-    packing::pack(t, table, &mut *image, 8);
+    let table = Table::new(t, table);
+    packing::pack(&table, &mut *image, 8);
     let blocks = 8 + t;
     memory::set_two_bytes(&mut *image, blocks, used);
-    transfer::gather(t, pool, table, &mut *image, blocks + 2);
+    transfer::gather(pool, &table, &mut *image, blocks + 2);
     let list = blocks + 2 + Bytes::of_blocks(used).index();
     memory::set_two_bytes(&mut *image, list, roots.len() / 4);
     memory::set_part(&mut *image, list + 2, roots);
@@ -52,7 +54,7 @@ pub fn write(
         ≡ with_buffer image.old (perform (planes t) (WriteImage base.0 roots.now (length image.old)) [] (memory pool.now table.now)) }
 {
     checks::root_list(base, t, pool, table, roots.len())?;
-    let used = whole::count(t, table).used;
+    let used = whole::count(&Table::new(t, table)).used;
     let length = 12 + t + Bytes::of_blocks(used).index() + roots.len();
     if image.len() < length {
         return Err(Refusal::OutputTooShort);

@@ -10,6 +10,7 @@ ghost use Rattle.rules.specs.Calls.{taken, placing, shrunk, grown, moves_to, alo
 ghost use Rattle.objects.specs.Held.{Held};
 ghost use Rattle.objects.specs.Answers.{placed_in};
 
+use entries::Table;
 use numbers::{Block, Bytes};
 use refusals::Refusal;
 
@@ -44,7 +45,7 @@ pub fn free_object(t: usize, table: &mut [u8], k: Block) -> i32
     ensures { Holds t (released (entries_in t table.old) k.0 (block_count (entries_in t table.old) k.0)) table.new
         × (result ≡ neg_ℤ (pos (block_count (entries_in t table.old) k.0))) }
 {
-    let count = table::block_count(t, &*table, k);
+    let count = table::block_count(&Table::new(t, &*table), k);
     table::release(t, table, k, count);
     numbers::negated(count)
 }
@@ -90,7 +91,7 @@ pub fn relocate(
     requires lt { (old < new) × (new ≤ 4096) }
     ensures { IsTable t table.new × (placed_in result (heap_at t pool.new table.new) ≡ (let h = heap_at t pool.old table.old in along (moves_to (first_fit h.entries new)) h k.0 old new)) }
 {
-    let s = table::first_fit(t, &*table, new).ok_or(Refusal::NoRoom)?;
+    let s = table::first_fit(&Table::new(t, &*table), new).ok_or(Refusal::NoRoom)?;
     table::place(t, &mut *table, s, new);
     memory::copy(&mut *pool, k.offset(), s.offset(), Bytes::of_blocks(old));
     clear_blocks(&mut *pool, s.plus(old), new - old);

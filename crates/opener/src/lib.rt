@@ -11,6 +11,7 @@ ghost use Rattle.parser.specs.Reading.{Says};
 ghost use Rattle.opener.specs.Answers.{opened};
 ghost use Rattle.opener.specs.Filling.{lent_tests, Suits, Filled};
 
+use entries::Table;
 use numbers::{Address, Bytes};
 use parser::File;
 use refusals::Refusal;
@@ -63,7 +64,11 @@ fn fill(image: &[u8], file: File, t: usize, pool: &mut [u8], table: &mut [u8], r
     packing::unpack(t, &image[8..table_end], &mut *table);
     let blocks = table_end + 2;
     let blocks_end = blocks + Bytes::of_blocks(file.used).index();
-    transfer::scatter(t, &image[blocks..blocks_end], &*table, &mut *pool);
+    transfer::scatter(
+        &image[blocks..blocks_end],
+        &Table::new(t, &*table),
+        &mut *pool,
+    );
     let words = blocks_end + 2;
     memory::set_part(&mut *roots, 0, &image[words..]);
 }

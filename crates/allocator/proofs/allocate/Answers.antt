@@ -31,17 +31,18 @@ blocks-count-requires c =
     let shape = (allocate_checked _ _ _ _ _ c.in_ok-request.ensures).shape in
     omega (arith, leb-true _ _ (sym c.fits_in.ensures ∙ c.if-not-fits_in.false), shape.pool, shape.few)
 
+pub new-requires : goal.new-requires
+new-requires c = (allocate_checked _ _ _ _ _ c.in_ok-request.ensures).is
+
 pub first_fit-requires : goal.first_fit-requires
-first_fit-requires c =
-    let test = c.in_ok-request.ensures in
-    ((allocate_checked _ _ _ _ _ test).is, rw c.blocks-count.ensures (blocks_some _ (allocate_asks _ _ _ _ _ test)))
+first_fit-requires c = rw c.blocks-count.ensures (blocks_some _ (allocate_asks _ _ _ _ _ c.in_ok-request.ensures))
 
 pub returns-in_err-block : goal.returns-in_err-block
 returns-in_err-block c =
     let p = err_from_is_err_and c.from_residual-in_err-block.result c.from_residual-in_err-block.ensures.1 in
     let none = c.in_err-block.ensures.ok_part in
     rw (p.1, p.2)
-    (allocate_full _ _ _ _ _ c.in_ok-request.ensures (rw c.blocks-count.ensures at (nowhere c.first_fit.ensures none)) (no_room _ _ none c.in_err-block.ensures.value))
+    (allocate_full _ _ _ _ _ c.in_ok-request.ensures (rw c.blocks-count.ensures at (nowhere (rw c.new.ensures at c.first_fit.ensures) none)) (no_room _ _ none c.in_err-block.ensures.value))
 
 pub take-requires : goal.take-requires
 take-requires c =
@@ -49,7 +50,7 @@ take-requires c =
     let some_blocks : 0 < c.blocks-count.result = rw c.blocks-count.ensures (blocks_some _ (allocate_asks _ _ _ _ _ c.in_ok-request.ensures)) in
     record {
       table = (knows.is, some_blocks);
-      count_in_bounds = ((first_fits _ _ _ some_blocks (start c.first_fit.ensures c.in_ok-block.ensures.ok_part)).run.room, omega (arith, knows.shape.pool));
+      count_in_bounds = ((first_fits _ _ _ some_blocks (start (rw c.new.ensures at c.first_fit.ensures) c.in_ok-block.ensures.ok_part)).run.room, omega (arith, knows.shape.pool));
     }
 
 pub difference-requires : goal.difference-requires
@@ -62,6 +63,6 @@ pub returns : goal.returns
 returns c =
     let count = c.blocks-count.ensures in
     allocate_done _ _ _ _ _ c.in_ok-request.ensures _ _ _ _ (λ i. (c.type_inv.table i).fits)
-    (rw count at (start c.first_fit.ensures c.in_ok-block.ensures.ok_part))
+    (rw count at (start (rw c.new.ensures at c.first_fit.ensures) c.in_ok-block.ensures.ok_part))
     (rw count at c.take.ensures)
     (signed _ c.difference.type_inv ∙ c.difference.ensures ∙ gained _ ∙ ap pos count)

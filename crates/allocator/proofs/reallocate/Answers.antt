@@ -82,8 +82,11 @@ returns-then-not-fits_in c =
     let all : AllBytes c.args.table.now = λ i. (c.slice_known-2-1.given i).fits in
     done _ _ _ _ _ _ test all (Err NoRoom) _ _ all ((accepted _ _ _ _ _ _ test).is, refl) (too_long _ _ _ _ _ _ test (leb-false _ _ (sym c.fits_in.ensures ∙ c.if-not-fits_in.true)))
 
+pub new-requires : goal.new-requires
+new-requires c = (object _ _ _ _ _ _ c.in_ok-resize.ensures refl).is_table
+
 pub block_count-old-requires : goal.block_count-old-requires
-block_count-old-requires c = let o = object _ _ _ _ _ _ c.in_ok-resize.ensures refl in (o.is_table, o.inside)
+block_count-old-requires c = rw c.new.ensures (object _ _ _ _ _ _ c.in_ok-resize.ensures refl).inside
 
 pub blocks-new-requires : goal.blocks-new-requires
 blocks-new-requires c =
@@ -93,43 +96,46 @@ blocks-new-requires c =
 pub shrink-requires : goal.shrink-requires
 shrink-requires c =
     let test = c.in_ok-resize.ensures in
-    record { held = object _ _ _ _ _ _ test c.block_count-old.ensures.0; nonzero = (wanted _ _ _ _ _ _ test c.blocks-new.ensures, c.if-new-old.true) }
+    record { held = object _ _ _ _ _ _ test (rw c.new.ensures at c.block_count-old.ensures.0); nonzero = (wanted _ _ _ _ _ _ test c.blocks-new.ensures, c.if-new-old.true) }
 
 pub returns-then-new-old : goal.returns-then-new-old
 returns-then-new-old c =
     let test = c.in_ok-resize.ensures in
     done _ _ _ _ _ _ test (λ i. (c.slice_known-2-1.given i).fits) (Ok c.shrink.result) _ _ (λ i. (c.type_inv.table i).fits) c.shrink.ensures
-    (reallocate_shrinks _ _ _ _ (accepted _ _ _ _ _ _ test).passes _ _ c.block_count-old.ensures.0 c.blocks-new.ensures c.if-new-old.true)
+    (reallocate_shrinks _ _ _ _ (accepted _ _ _ _ _ _ test).passes _ _ (rw c.new.ensures at c.block_count-old.ensures.0) c.blocks-new.ensures c.if-new-old.true)
+
+pub new-requires-2 : goal.new-requires-2
+new-requires-2 c = (object _ _ _ _ _ _ c.in_ok-resize.ensures refl).is_table
 
 pub grows_in_place-requires : goal.grows_in_place-requires
 grows_in_place-requires c =
-    let o = object _ _ _ _ _ _ c.in_ok-resize.ensures c.block_count-old.ensures.0 in
-    (o.is_table, (held_room o, omega arith))
+    let o = object _ _ _ _ _ _ c.in_ok-resize.ensures (rw c.new.ensures at c.block_count-old.ensures.0) in
+    rw c.new-2.ensures (held_room o, omega arith)
 
 pub grow-requires : goal.grow-requires
 grow-requires c =
-    let o = object _ _ _ _ _ _ c.in_ok-resize.ensures c.block_count-old.ensures.0 in
-    record { held = o; lt = (omega arith, may_grow _ _ _ _ c.grows_in_place.ensures (held_room o) c.if-grows_in_place.true) }
+    let o = object _ _ _ _ _ _ c.in_ok-resize.ensures (rw c.new.ensures at c.block_count-old.ensures.0) in
+    record { held = o; lt = (omega arith, may_grow _ _ _ _ (rw c.new-2.ensures at c.grows_in_place.ensures) (held_room o) c.if-grows_in_place.true) }
 
 pub returns-then-grows_in_place : goal.returns-then-grows_in_place
 returns-then-grows_in_place c =
     let test = c.in_ok-resize.ensures in
-    let o = object _ _ _ _ _ _ test c.block_count-old.ensures.0 in
-    let g = may_grow _ _ _ _ c.grows_in_place.ensures (held_room o) c.if-grows_in_place.true in
+    let o = object _ _ _ _ _ _ test (rw c.new.ensures at c.block_count-old.ensures.0) in
+    let g = may_grow _ _ _ _ (rw c.new-2.ensures at c.grows_in_place.ensures) (held_room o) c.if-grows_in_place.true in
     done _ _ _ _ _ _ test (λ i. (c.slice_known-2-1.given i).fits) (Ok c.grow.result) _ _ (λ i. (c.type_inv.table i).fits) c.grow.ensures
-    (reallocate_grows _ _ _ _ (accepted _ _ _ _ _ _ test).passes _ _ c.block_count-old.ensures.0 c.blocks-new.ensures (omega arith) g)
+    (reallocate_grows _ _ _ _ (accepted _ _ _ _ _ _ test).passes _ _ (rw c.new.ensures at c.block_count-old.ensures.0) c.blocks-new.ensures (omega arith) g)
 
 pub relocate-requires : goal.relocate-requires
 relocate-requires c =
     let test = c.in_ok-resize.ensures in
     record {
-      held = object _ _ _ _ _ _ test c.block_count-old.ensures.0;
+      held = object _ _ _ _ _ _ test (rw c.new.ensures at c.block_count-old.ensures.0);
       lt = (omega arith, within _ _ _ _ _ _ test c.blocks-new.ensures (leb-true _ _ (sym c.fits_in.ensures ∙ c.if-not-fits_in.false)));
     }
 
 pub returns : goal.returns
 returns c =
     let test = c.in_ok-resize.ensures in
-    let none = may_not _ _ _ _ c.grows_in_place.ensures c.if-grows_in_place.false in
+    let none = may_not _ _ _ _ (rw c.new-2.ensures at c.grows_in_place.ensures) c.if-grows_in_place.false in
     done _ _ _ _ _ _ test (λ i. (c.slice_known-2-1.given i).fits) c.relocate.result _ _ (λ i. (c.type_inv.table i).fits) c.relocate.ensures
-    (reallocate_moves _ _ _ _ (accepted _ _ _ _ _ _ test).passes _ _ c.block_count-old.ensures.0 c.blocks-new.ensures (held_room (object _ _ _ _ _ _ test c.block_count-old.ensures.0)) (omega arith) none)
+    (reallocate_moves _ _ _ _ (accepted _ _ _ _ _ _ test).passes _ _ (rw c.new.ensures at c.block_count-old.ensures.0) c.blocks-new.ensures (held_room (object _ _ _ _ _ _ test (rw c.new.ensures at c.block_count-old.ensures.0))) (omega arith) none)

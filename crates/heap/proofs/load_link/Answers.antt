@@ -19,29 +19,29 @@ use Rattle.heap.proofs.load_link.Goals.{else-is_below-via-then-is_below+else-is_
 below : {k n m : ℕ} {b : Bool} → n ≡ m → b ≡ ltb k n → b ≡ true → k < m
 below e q y = omega (arith, e, ltb-true _ _ (sym q ∙ y))
 
-pub blocks-requires : goal.blocks-requires
-blocks-requires c = (accepted_checked _ _ _ _ c.requires).is.sized.few
+pub new-table-requires : goal.new-table-requires
+new-table-requires c = (accepted_checked _ _ _ _ c.requires).is
 
 pub is_pair-requires : goal.is_pair-requires
 is_pair-requires c =
     let a = c.args in
     let p = accepted_checked _ _ _ _ c.requires in
-    (p.is, (below (c.blocks-2.ensures a.table.now) c.is_below.ensures c.if-is_below.true, (passed a.base.0 (heap_at a.t a.pool.now a.table.now) [] p.passes).well))
+    rw c.new-table.ensures (below (rw c.new-table.ensures at c.blocks-2.ensures) c.is_below.ensures c.if-is_below.true, (passed a.base.0 (heap_at a.t a.pool.now a.table.now) [] p.passes).well)
 
 pub first_word-requires : goal.first_word-requires
 first_word-requires c =
-    omega (arith, below (c.blocks-2.ensures c.args.table.now) c.is_below.ensures c.if-is_below.true, (accepted_checked _ _ _ _ c.requires).shape.few)
+    omega (arith, below (rw c.new-table.ensures at c.blocks-2.ensures) c.is_below.ensures c.if-is_below.true, (accepted_checked _ _ _ _ c.requires).shape.few)
 
 pub word-requires : goal.word-requires
 word-requires c =
-    omega (arith, below (c.blocks-2.ensures c.args.table.now) c.is_below.ensures c.if-is_below.true, (accepted_checked _ _ _ _ c.requires).shape.pool, c.first_word.ensures)
+    omega (arith, below (rw c.new-table.ensures at c.blocks-2.ensures) c.is_below.ensures c.if-is_below.true, (accepted_checked _ _ _ _ c.requires).shape.pool, c.first_word.ensures)
 
 pub returns-then-is_pair : goal.returns-then-is_pair
 returns-then-is_pair c =
     let a = c.args in
     ap some (c.word.ensures ∙ ap (word_at a.pool.now) (omega (arith, c.first_word.ensures)))
     ∙ next_of a.t a.base.0 a.pool.now a.table.now (λ i. (c.type_inv.table i).fits) c.requires a.k.0
-    (below (c.blocks-2.ensures a.table.now) c.is_below.ensures c.if-is_below.true) (sym c.is_pair.ensures ∙ c.if-is_pair.true)
+    (below (rw c.new-table.ensures at c.blocks-2.ensures) c.is_below.ensures c.if-is_below.true) (sym (rw c.new-table.ensures at c.is_pair.ensures) ∙ c.if-is_pair.true)
 
 pub returns-else-is_below : goal.returns-else-is_below
 returns-else-is_below c =
@@ -49,8 +49,8 @@ returns-else-is_below c =
     elim c.else-is_below.branch [
       | else-is_below-via-then-is_below+else-is_pair w ↦
           next_other a.t a.base.0 a.pool.now a.table.now (λ i. (c.type_inv.table i).fits) c.requires a.k.0
-          (below (c.blocks-2.ensures a.table.now) c.is_below.ensures w.if-is_below.true) (sym w.is_pair.ensures ∙ w.if-is_pair.false)
+          (below (rw c.new-table.ensures at c.blocks-2.ensures) c.is_below.ensures w.if-is_below.true) (sym (rw c.new-table.ensures at w.is_pair.ensures) ∙ w.if-is_pair.false)
       | else-is_below-via-else-is_below w ↦
           next_outside a.t a.base.0 a.pool.now a.table.now (λ i. (c.type_inv.table i).fits) c.requires a.k.0
-          (omega (arith, c.blocks-2.ensures a.table.now, ltb-false a.k.0 c.blocks-2.result (sym c.is_below.ensures ∙ w.if-is_below.false)))
+          (omega (arith, rw c.new-table.ensures at c.blocks-2.ensures, ltb-false a.k.0 c.blocks-2.result (sym c.is_below.ensures ∙ w.if-is_below.false)))
     ]

@@ -12,28 +12,25 @@ returns-in_err-heap c =
     let p = err_from_is_err_and c.from_residual.result c.from_residual.ensures.1 in
     rw (p.1, p.2) (survey_refused _ _ _ _ c.in_err-heap.ensures (not_accepted _))
 
-pub count-counts-requires : goal.count-counts-requires
-count-counts-requires c = (survey_checked _ _ _ _ c.in_ok-heap.ensures).is
+pub new-table-requires : goal.new-table-requires
+new-table-requires c = (survey_checked _ _ _ _ c.in_ok-heap.ensures).is
 
 pub overflow_cast-result : goal.overflow_cast-result
 overflow_cast-result c =
     let a = c.args in
-    omega (arith, (survey_checked _ _ _ _ c.in_ok-heap.ensures).shape.few, c.count-counts.ensures.0, used_le (entries_in a.t a.table.now))
+    omega (arith, (survey_checked _ _ _ _ c.in_ok-heap.ensures).shape.few, (rw c.new-table.ensures at c.count-counts.ensures).0, used_le (entries_in a.t a.table.now))
 
 pub overflow_cast-result-2 : goal.overflow_cast-result-2
 overflow_cast-result-2 c =
     let a = c.args in
-    omega (arith, (survey_checked _ _ _ _ c.in_ok-heap.ensures).shape.few, c.count-counts.ensures.1, objects_le (entries_in a.t a.table.now))
-
-pub longest-requires : goal.longest-requires
-longest-requires c = (survey_checked _ _ _ _ c.in_ok-heap.ensures).is
+    omega (arith, (survey_checked _ _ _ _ c.in_ok-heap.ensures).shape.few, (rw c.new-table.ensures at c.count-counts.ensures).1, objects_le (entries_in a.t a.table.now))
 
 pub overflow_cast-result-3 : goal.overflow_cast-result-3
 overflow_cast-result-3 c =
     let a = c.args in
-    omega (arith, (survey_checked _ _ _ _ c.in_ok-heap.ensures).shape.few, (longest_says (entries_in a.t a.table.now)).run.room)
+    omega (arith, (survey_checked _ _ _ _ c.in_ok-heap.ensures).shape.few, rw c.new-table.ensures at c.longest.ensures, (longest_says (entries_in a.t a.table.now)).run.room)
 
 pub returns : goal.returns
 returns c =
     survey_done _ _ _ _ c.in_ok-heap.ensures _ _ _ (λ i. (c.type_inv.table i).fits)
-    c.count-counts.ensures.0 c.count-counts.ensures.1 c.longest.ensures
+    (rw c.new-table.ensures at c.count-counts.ensures).0 (rw c.new-table.ensures at c.count-counts.ensures).1 (rw c.new-table.ensures at c.longest.ensures)

@@ -5,5 +5,5 @@ use Rattle.objects.proofs.free_object.Goals as goal
 
 pub negated-requires : goal.negated-requires
 negated-requires c =
-    let end = c.block_count-count.ensures.1 in
+    let end = (rw c.new.ensures at c.block_count-count.ensures).1 in
     omega (arith, few_entries c.args.t c.args.table.now c.requires.0)

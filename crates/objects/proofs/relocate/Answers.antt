@@ -60,10 +60,10 @@ pub returns-in_err-s : goal.returns-in_err-s
 returns-in_err-s c =
     let p = err_from_is_err_and c.from_residual.result c.from_residual.ensures.1 in
     let none = c.in_err-s.ensures.ok_part in
-    (c.requires.held.is_table, rw (p.1, p.2) (stays _ _ _ _ _ _ (nowhere c.first_fit.ensures none) (no_room _ _ none c.in_err-s.ensures.value)))
+    (c.requires.held.is_table, rw (p.1, p.2) (stays _ _ _ _ _ _ (nowhere (rw c.new.ensures at c.first_fit.ensures) none) (no_room _ _ none c.in_err-s.ensures.value)))
 
 pub place-requires : goal.place-requires
-place-requires c = (c.requires.held.is_table, (omega arith, (run c.requires.held c.requires.lt (start c.first_fit.ensures c.in_ok-s.ensures.ok_part)).room))
+place-requires c = (c.requires.held.is_table, (omega arith, (run c.requires.held c.requires.lt (start (rw c.new.ensures at c.first_fit.ensures) c.in_ok-s.ensures.ok_part)).room))
 
 pub offset-requires : goal.offset-requires
 offset-requires c =
@@ -71,26 +71,26 @@ offset-requires c =
     omega (arith, held_room held, held_few held)
 
 pub offset-requires-2 : goal.offset-requires-2
-offset-requires-2 c = omega (arith, (run c.requires.held c.requires.lt (start c.first_fit.ensures c.in_ok-s.ensures.ok_part)).room, held_few c.requires.held)
+offset-requires-2 c = omega (arith, (run c.requires.held c.requires.lt (start (rw c.new.ensures at c.first_fit.ensures) c.in_ok-s.ensures.ok_part)).room, held_few c.requires.held)
 
 pub copy-requires : goal.copy-requires
 copy-requires c =
-    let room = (run c.requires.held c.requires.lt (start c.first_fit.ensures c.in_ok-s.ensures.ok_part)).room in
+    let room = (run c.requires.held c.requires.lt (start (rw c.new.ensures at c.first_fit.ensures) c.in_ok-s.ensures.ok_part)).room in
     let long = c.requires.held.long in
     let from = c.offset.ensures in
     let to = c.offset-2.ensures in
     let count = c.of_blocks.ensures in
     record {
       count_in_bounds = (omega (arith, held_room c.requires.held), omega arith);
-      apart = apart c.requires.held c.requires.lt (start c.first_fit.ensures c.in_ok-s.ensures.ok_part) _ _ _ from to count;
+      apart = apart c.requires.held c.requires.lt (start (rw c.new.ensures at c.first_fit.ensures) c.in_ok-s.ensures.ok_part) _ _ _ from to count;
     }
 
 pub plus-requires : goal.plus-requires
-plus-requires c = omega (arith, (run c.requires.held c.requires.lt (start c.first_fit.ensures c.in_ok-s.ensures.ok_part)).room, c.requires.lt, held_few c.requires.held)
+plus-requires c = omega (arith, (run c.requires.held c.requires.lt (start (rw c.new.ensures at c.first_fit.ensures) c.in_ok-s.ensures.ok_part)).room, c.requires.lt, held_few c.requires.held)
 
 pub clear_blocks-requires : goal.clear_blocks-requires
 clear_blocks-requires c =
-    let room = (run c.requires.held c.requires.lt (start c.first_fit.ensures c.in_ok-s.ensures.ok_part)).room in
+    let room = (run c.requires.held c.requires.lt (start (rw c.new.ensures at c.first_fit.ensures) c.in_ok-s.ensures.ok_part)).room in
     let few = held_few c.requires.held in
     let end = c.plus.ensures in
     let more = c.requires.lt in
@@ -101,7 +101,7 @@ release-requires c = (c.place.ensures.is_table, omega (arith, held_room c.requir
 
 pub returns : goal.returns
 returns c =
-    moves c.requires.held c.requires.lt (start c.first_fit.ensures c.in_ok-s.ensures.ok_part) _ _ _ _ _ _ _ _ _
+    moves c.requires.held c.requires.lt (start (rw c.new.ensures at c.first_fit.ensures) c.in_ok-s.ensures.ok_part) _ _ _ _ _ _ _ _ _
     c.place.ensures
     c.offset.ensures c.offset-2.ensures c.of_blocks.ensures c.copy.ensures
     c.plus.ensures c.clear_blocks.ensures
