@@ -17,7 +17,7 @@ knows c = known _ _ _ _ _ _ (c.in_ok-root_list.ensures _ refl)
 
 -- few blocks are used
 few : (c : After-count-used) → c.count-used.result.used ≤ 4096
-few c = omega (arith, c.count-used.ensures.0, (knows (goal.at.After-count-used c).In_ok-root_list).few)
+few c = omega (arith, (rw c.new.ensures at c.count-used.ensures).0, (knows (goal.at.After-count-used c).In_ok-root_list).few)
 
 -- their bytes
 size : (c : After-index) → c.index.result ≡ 16 * c.count-used.result.used
@@ -30,8 +30,8 @@ returns-in_err-root_list c =
     let p = err_from_is_err_and c.from_residual.result c.from_residual.ensures.1 in
     rw (p.1, p.2) (image_refused _ _ _ _ _ _ _ (c.in_err-root_list.ensures _ refl))
 
-pub count-used-requires : goal.count-used-requires
-count-used-requires c = (knows (goal.at.count-used-requires c).In_ok-root_list).is
+pub new-requires : goal.new-requires
+new-requires c = (knows (goal.at.new-requires c).In_ok-root_list).is
 
 pub overflow_add-length : goal.overflow_add-length
 overflow_add-length c = in_32_bits (record { fits = omega (arith, (knows (goal.at.overflow_add-length c).In_ok-root_list).is.sized.few) })
@@ -53,7 +53,7 @@ overflow_add-length-3 c =
 pub returns-then-image-length : goal.returns-then-image-length
 returns-then-image-length c =
     let at = goal.at.returns-then-image-length c in
-    image_short _ _ _ _ _ _ (c.in_ok-root_list.ensures _ refl) (omega (arith, c.if-image-length.true, size at.After-index, (knows at.In_ok-root_list).long, c.count-used.ensures.0))
+    image_short _ _ _ _ _ _ (c.in_ok-root_list.ensures _ refl) (omega (arith, c.if-image-length.true, size at.After-index, (knows at.In_ok-root_list).long, (rw c.new.ensures at c.count-used.ensures).0))
 
 pub write_sections-requires-clause-table : goal.write_sections-requires-clause-table
 write_sections-requires-clause-table c = let k = knows (goal.at.write_sections-requires-clause-table c).In_ok-root_list in (k.is, (k.whole, k.address))
@@ -69,6 +69,6 @@ returns c =
     let at = goal.at.returns c in
     let size_is = size at.After-index in
     let k = knows at.In_ok-root_list in
-    let same = c.count-used.ensures.0 in
+    let same = (rw c.new.ensures at c.count-used.ensures).0 in
     image_done _ _ _ _ _ _ (c.in_ok-root_list.ensures _ refl) (omega (arith, c.if-image-length.false, size_is, k.long, same)) (omega (arith, size_is, k.long, same))
     (λ i. (c.type_inv.table i).fits) c.write_sections.ensures

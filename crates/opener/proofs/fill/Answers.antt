@@ -8,7 +8,7 @@ use lib.ListN.{length, take, drop}
 use borrow.Author.Rules.{rules}
 use Rattle.rules.specs.Entries.{entries_of}
 use Rattle.rules.specs.Tables.{used}
-use Rattle.rules.specs.Planes.{entries_in, IsTable, Holds}
+use Rattle.rules.specs.Planes.{entries_in, Holds}
 use Rattle.rules.specs.Files.{pool_of, File as FileOf, file_of, entries_for, roots_of}
 use Rattle.laws.proofs.Entries.{length_entries_of}
 use Rattle.laws.proofs.Tables.{used_le}
@@ -56,10 +56,8 @@ module _ {image : List ℕ} {file : File} {t : ℕ} {pool table roots : List ℕ
     holds : Holds t (entries_for f.table) table'
     holds = rw table_part at unpacked
 
-    scattered : IsTable t table' × ((length pool ≡ 16 * length (entries_in t table'))
-        × (length (take (from_blocks + n - from_blocks) (drop from_blocks image)) ≡ 16 * used (entries_in t table')))
-    scattered =
-        (holds.is_table, (omega (arith, s.whole, length_entries_in t table'), ap (length {A = ℕ}) blocks_part ∙ blocks_long s.says ∙ rw (holds.entries, s.says.used)))
+    scattered : (length pool ≡ 16 * length (entries_in t table')) × (length (take (from_blocks + n - from_blocks) (drop from_blocks image)) ≡ 16 * used (entries_in t table'))
+    scattered = (omega (arith, s.whole, length_entries_in t table'), ap (length {A = ℕ}) blocks_part ∙ blocks_long s.says ∙ rw (holds.entries, s.says.used))
 
     pool_is : {pool' : List ℕ} → pool' ≡ pool_of (entries_in t table') (take (from_blocks + n - from_blocks) (drop from_blocks image)) → pool' ≡ pool_of (entries_for f.table) f.blocks.body
     pool_is e = rw (holds.entries, blocks_part) at e
@@ -81,8 +79,11 @@ pub overflow_add-blocks_end : goal.overflow_add-blocks_end
 overflow_add-blocks_end c =
     in_slice c.args.image.now (omega (arith, size (goal.at.overflow_add-blocks_end c).After-index, c.requires.says.long, c.requires.bytes)) (search rules)
 
+pub new-requires : goal.new-requires
+new-requires c = c.unpack.ensures.is_table
+
 pub scatter-requires : goal.scatter-requires
-scatter-requires c = scattered c.requires (size (goal.at.scatter-requires c).After-index) c.unpack.ensures
+scatter-requires c = rw c.new.ensures (scattered c.requires (size (goal.at.scatter-requires c).After-index) c.unpack.ensures)
 
 pub overflow_add-words : goal.overflow_add-words
 overflow_add-words c = in_slice c.args.image.now (search rules) (search rules)
@@ -93,6 +94,6 @@ returns c =
     let suits = c.requires in
     record {
       entries = holds suits size_is c.unpack.ensures;
-      blocks = pool_is suits size_is c.unpack.ensures c.scatter.ensures;
+      blocks = pool_is suits size_is c.unpack.ensures (rw c.new.ensures at c.scatter.ensures);
       words = rw (words_part suits size_is) at c.set_part.ensures;
     }
