@@ -70,6 +70,7 @@ impl<'a> Table<'a> {
     ghost use Rattle.entries.specs.Lent.{entries_of};
 
     // The lent bytes as a table of 4t blocks.
+    #[inline]
     pub fn new(t: usize, bytes: &'a [u8]) -> Table<'a>
         requires { IsTable t bytes.now }
         ensures { entries_of result ≡ entries_in t bytes.now }
@@ -78,6 +79,7 @@ impl<'a> Table<'a> {
     }
 
     // How many blocks it rules.
+    #[inline]
     pub fn blocks(&self) -> usize
         ensures { result ≡ length (entries_of self.now) }
     {
@@ -85,6 +87,7 @@ impl<'a> Table<'a> {
     }
 
     // Its two planes.
+    #[inline]
     pub fn planes(&self) -> Planes<'a>
         ensures hold { InPlanes (entries_of self.now) result.lows.now result.highs.now }
         ensures lows { length result.lows.now ≡ plane_bytes self.now.t }
@@ -98,6 +101,7 @@ impl<'a> Table<'a> {
     }
 
     // The entry of block k.
+    #[inline]
     pub fn entry_at(&self, k: Block) -> Entry
         requires { k.0 < length (entries_of self.now) }
         ensures { number_of result ≡ entry_at (entries_of self.now) k.0 }
@@ -113,6 +117,7 @@ impl<'a> Table<'a> {
     }
 
     // Whether block k's low bit is LOW and its high bit the other: so is a HEAD for LOW 1, and a TAIL for LOW 0. Where the low bit tells, the high one is not read.
+    #[inline]
     fn is<const LOW: u8>(&self, k: Block) -> bool
         requires { (LOW < 2) × (k.0 < length (entries_of self.now)) }
         ensures { result ≡ eqb (entry_at (entries_of self.now) k.0) (2 - LOW) }
@@ -126,6 +131,7 @@ impl<'a> Table<'a> {
     }
 
     // Whether block k is HEAD.
+    #[inline]
     pub fn is_head(&self, k: Block) -> bool
         requires { k.0 < length (entries_of self.now) }
         ensures { result ≡ is_head (entry_at (entries_of self.now) k.0) }
@@ -134,6 +140,7 @@ impl<'a> Table<'a> {
     }
 
     // Whether block k is TAIL.
+    #[inline]
     pub fn is_tail(&self, k: Block) -> bool
         requires { k.0 < length (entries_of self.now) }
         ensures { result ≡ is_tail (entry_at (entries_of self.now) k.0) }
@@ -279,6 +286,7 @@ pub struct Planes<'a> {
 
 impl Planes<'_> {
     // The entries of the blocks in number i of the planes.
+    #[inline]
     pub fn words_at<W: FromBytes>(&self, i: usize) -> Lanes<W>
         requires { (W.BYTES * i + W.BYTES ≤ length self.now.lows.now) × (W.BYTES * i + W.BYTES ≤ length self.now.highs.now) }
         ensures { InParts (8 * W.BYTES) self.now.lows.now self.now.highs.now i (W.value result.low) (W.value result.high) }
@@ -291,6 +299,7 @@ impl Planes<'_> {
     }
 
     // The same where the planes end in these blocks. Past the end they are FREE.
+    #[inline]
     pub fn last_words<W: FromBytes>(&self, i: usize) -> Lanes<W>
         requires { (W.BYTES * i ≤ length self.now.lows.now) × ((length self.now.lows.now ≤ W.BYTES * i + W.BYTES) × (length self.now.highs.now ≡ length self.now.lows.now)) }
         ensures { InParts (8 * W.BYTES) self.now.lows.now self.now.highs.now i (W.value result.low) (W.value result.high) }

@@ -15,13 +15,15 @@ pub fn block_count(table: &Table, k: Block) -> usize
     requires { k.0 < length (entries_of table.now) }
     ensures { (result ≡ block_count (entries_of table.now) k.0) × (k.0 + result ≤ length (entries_of table.now)) }
 {
-    let left = k.until(table.blocks());
-    for count in 1..left {
-        if !table.is_tail(k.plus(count)) {
-            return count;
+    let n = table.blocks();
+    let first = k.index();
+    let second = first + 1;
+    for at in second..n {
+        if !table.is_tail(Block::first().plus(at)) {
+            return at - first;
         }
     }
-    left
+    n - first
 }
 
 // Whether the count blocks from `from` on are blocks of the table, and FREE.

@@ -7,5 +7,5 @@ use Rattle.rules.specs.Tables.{entry_at}
 use Rattle.entries.specs.Lent.{entries_of}
 use Rattle.table.proofs.block_count.Given as goal
 
-abbrev pub invariant-loop-count : goal.invariant-loop-count
-invariant-loop-count l = (j : ℕ) → j < l.count → 0 < j → entry_at (entries_of l.table) (l.k.0 + j) ≡ TAIL
+abbrev pub invariant-loop-at : goal.invariant-loop-at
+invariant-loop-at l = (j : ℕ) → l.first + j < l.at → 0 < j → entry_at (entries_of l.table) (l.first + j) ≡ TAIL
