@@ -14,24 +14,51 @@ use entries::Table;
 use numbers::{Address, Block, Bytes};
 use refusals::Refusal;
 
+// A heap that is lent to be read: its base, its t, and the bytes of its pool and table. Nothing of it is tested. A function that writes takes the four one by one:
+// C lends pool and table each to be read or to be written, and a struct of them would need a clause for each that it only reads.
+#[derive(Clone, Copy)]
+pub struct HeapView<'a> {
+    pub base: Address,
+    pub t: usize,
+    pub pool: &'a [u8],
+    pub table: &'a [u8],
+}
+
+impl<'a> HeapView<'a> {
+    // The four that are lent, as one.
+    pub fn new(base: Address, t: usize, pool: &'a [u8], table: &'a [u8]) -> HeapView<'a>
+        ensures base { result.base ≡ base }
+        ensures t { result.t ≡ t }
+        ensures pool { result.pool.now ≡ pool.now }
+        ensures table { result.table.now ≡ table.now }
+    {
+        HeapView {
+            base,
+            t,
+            pool,
+            table,
+        }
+    }
+}
+
 // Whether t is from 1 to 1,024, and the table's length, the pool's length and the base suit it.
-pub fn good_shape(base: Address, t: usize, pool: &[u8], table: &[u8]) -> bool
-    ensures { result ≡ both (good_shape base.0 (heap_at t pool.now table.now)) ((planes t).fits table.now) }
+pub fn good_shape(heap: &HeapView) -> bool
+    ensures { result ≡ both (good_shape heap.now.base.0 (heap_at heap.now.t heap.now.pool.now heap.now.table.now)) ((planes heap.now.t).fits heap.now.table.now) }
 {
-    if t < 1 {
+    if heap.t < 1 {
         return false;
     }
-    if refusals::MAX_T < t {
+    if refusals::MAX_T < heap.t {
         return false;
     }
-    if !entries::fits(t, table) {
+    if !entries::fits(heap.t, heap.table) {
         return false;
     }
-    let n = entries::blocks(t);
-    if !Bytes::of_blocks(n).is_length_of(pool) {
+    let n = entries::blocks(heap.t);
+    if !Bytes::of_blocks(n).is_length_of(heap.pool) {
         return false;
     }
-    base.is_base(n)
+    heap.base.is_base(n)
 }
 
 // Whether no spare bit is set and the table is well-formed.
@@ -46,29 +73,23 @@ fn is_sound(t: usize, table: &[u8]) -> bool
 }
 
 // Refusals 1 and 2, of every call but init and an opening.
-pub fn heap(base: Address, t: usize, pool: &[u8], table: &[u8]) -> Result<(), Refusal>
-    ensures { refused_by result ≡ refusal_by t pool.now table.now (λ (h : Heap). heap_tests base.0 h) }
+pub fn heap(heap: &HeapView) -> Result<(), Refusal>
+    ensures { refused_by result ≡ refusal_by heap.now.t heap.now.pool.now heap.now.table.now (λ (h : Heap). heap_tests heap.now.base.0 h) }
 {
-    if !good_shape(base, t, pool, table) {
+    if !good_shape(heap) {
         return Err(Refusal::BadShape);
     }
-    if !is_sound(t, table) {
+    if !is_sound(heap.t, heap.table) {
         return Err(Refusal::BadTable);
     }
     Ok(())
 }
 
 // Refusals 1, 2 and 5, of a request for room.
-pub fn request(
-    base: Address,
-    t: usize,
-    pool: &[u8],
-    table: &[u8],
-    bytes: Bytes,
-) -> Result<(), Refusal>
-    ensures { refused_by result ≡ refusal_by t pool.now table.now (λ (h : Heap). request_tests base.0 h bytes.0) }
+pub fn request(heap: &HeapView, bytes: Bytes) -> Result<(), Refusal>
+    ensures { refused_by result ≡ refusal_by heap.now.t heap.now.pool.now heap.now.table.now (λ (h : Heap). request_tests heap.now.base.0 h bytes.0) }
 {
-    heap(base, t, pool, table)?;
+    self::heap(heap)?;
     if bytes.is_zero() {
         return Err(Refusal::ZeroBytes);
     }
@@ -76,26 +97,19 @@ pub fn request(
 }
 
 // Refusals 1, 2, 6 and 7, of a call that names an object.
-pub fn object(base: Address, t: usize, pool: &[u8], table: &[u8], k: Block) -> Result<(), Refusal>
-    ensures { refused_by result ≡ refusal_by t pool.now table.now (λ (h : Heap). object_tests base.0 h k.0) }
+pub fn object(heap: &HeapView, k: Block) -> Result<(), Refusal>
+    ensures { refused_by result ≡ refusal_by heap.now.t heap.now.pool.now heap.now.table.now (λ (h : Heap). object_tests heap.now.base.0 h k.0) }
 {
-    heap(base, t, pool, table)?;
-    named(&Table::new(t, table), k)
+    self::heap(heap)?;
+    named(&Table::new(heap.t, heap.table), k)
 }
 
 // Refusals 1, 2, 5, 6 and 7, of a request for an object.
-pub fn resize(
-    base: Address,
-    t: usize,
-    pool: &[u8],
-    table: &[u8],
-    k: Block,
-    bytes: Bytes,
-) -> Result<(), Refusal>
-    ensures { refused_by result ≡ refusal_by t pool.now table.now (λ (h : Heap). resize_tests base.0 h k.0 bytes.0) }
+pub fn resize(heap: &HeapView, k: Block, bytes: Bytes) -> Result<(), Refusal>
+    ensures { refused_by result ≡ refusal_by heap.now.t heap.now.pool.now heap.now.table.now (λ (h : Heap). resize_tests heap.now.base.0 h k.0 bytes.0) }
 {
-    request(base, t, pool, table, bytes)?;
-    named(&Table::new(t, table), k)
+    request(heap, bytes)?;
+    named(&Table::new(heap.t, heap.table), k)
 }
 
 // Refusals 6 and 7: whether block k names an object.
@@ -123,19 +137,13 @@ pub fn object_word(table: &Table, k: Block, i: usize) -> Result<(), Refusal>
 }
 
 // Refusals 1, 2 and 3, of a root list of so many bytes: the tests depend on its length alone.
-pub fn root_list(
-    base: Address,
-    t: usize,
-    pool: &[u8],
-    table: &[u8],
-    bytes: usize,
-) -> Result<(), Refusal>
-    ensures { (roots : List ℕ) → length roots ≡ bytes → refused_by result ≡ refusal_by t pool.now table.now (λ (h : Heap). root_tests base.0 h roots) }
+pub fn root_list(heap: &HeapView, bytes: usize) -> Result<(), Refusal>
+    ensures { (roots : List ℕ) → length roots ≡ bytes → refused_by result ≡ refusal_by heap.now.t heap.now.pool.now heap.now.table.now (λ (h : Heap). root_tests heap.now.base.0 h roots) }
 {
     if bytes % 4 != 0 {
         return Err(Refusal::BadShape);
     }
-    heap(base, t, pool, table)?;
+    self::heap(heap)?;
     if refusals::MAX_ROOTS < bytes / 4 {
         return Err(Refusal::TooManyRoots);
     }
@@ -143,21 +151,14 @@ pub fn root_list(
 }
 
 // Refusals 1 to 4, of a collection with so many bytes of roots.
-pub fn collection(
-    base: Address,
-    t: usize,
-    pool: &[u8],
-    table: &[u8],
-    bytes: usize,
-    stack: &[u8],
-) -> Result<(), Refusal>
+pub fn collection(heap: &HeapView, bytes: usize, stack: &[u8]) -> Result<(), Refusal>
     ensures { (roots : List ℕ) → length roots ≡ bytes
-        → refused_by result ≡ refusal_by t pool.now table.now (λ (h : Heap). collection_tests base.0 h roots stack.now) }
+        → refused_by result ≡ refusal_by heap.now.t heap.now.pool.now heap.now.table.now (λ (h : Heap). collection_tests heap.now.base.0 h roots stack.now) }
 {
     if stack.len() % 4 != 0 {
         return Err(Refusal::BadShape);
     }
-    root_list(base, t, pool, table, bytes)?;
+    root_list(heap, bytes)?;
     if refusals::MAX_STACK_ENTRIES < stack.len() / 4 {
         return Err(Refusal::StackTooLong);
     }

@@ -39,30 +39,30 @@ module _ (base t : ℕ) (pool table : List ℕ) where
 counted : (t : ℕ) (table : List ℕ) {n : ℕ} → n ≡ length (entries_in t table) → n ≡ 4 * t
 counted t table e = e ∙ length_entries_in t table
 
-pub returns-then-t-lt1 : goal.returns-then-t-lt1
-returns-then-t-lt1 c = shapeless _ _ _ _ (λ s. omega (arith, s.some, length_entries_in c.args.t c.args.table.now))
+pub returns-then-heap-lt1 : goal.returns-then-heap-lt1
+returns-then-heap-lt1 c = shapeless _ _ _ _ (λ s. omega (arith, s.some, length_entries_in c.args.heap.now.t c.args.heap.now.table.now))
 
-pub returns-then-t-gt-MAX_T : goal.returns-then-t-gt-MAX_T
-returns-then-t-gt-MAX_T c = shapeless _ _ _ _ (λ s. omega (arith, s.few, length_entries_in c.args.t c.args.table.now))
+pub returns-then-heap-gt-MAX_T : goal.returns-then-heap-gt-MAX_T
+returns-then-heap-gt-MAX_T c = shapeless _ _ _ _ (λ s. omega (arith, s.few, length_entries_in c.args.heap.now.t c.args.heap.now.table.now))
 
 pub returns-then-not-fits : goal.returns-then-not-fits
 returns-then-not-fits c = other_length _ _ _ _ (sym c.fits.ensures ∙ c.if-not-fits.true)
 
 pub of_blocks-requires : goal.of_blocks-requires
-of_blocks-requires c = omega (arith, counted _ _ (c.blocks-n.ensures c.args.table.now))
+of_blocks-requires c = omega (arith, counted _ _ (c.blocks-n.ensures c.args.heap.now.table.now))
 
 pub returns-then-not-is_length_of : goal.returns-then-not-is_length_of
 returns-then-not-is_length_of c =
-    let a = c.args in
+    let a = c.args.heap.now in
     let other = eqb-false (length a.pool.now) c.of_blocks.result.0 (sym c.is_length_of.ensures ∙ c.if-not-is_length_of.true) in
     shapeless _ _ _ _ (λ s. other (omega (arith, s.pool, c.blocks-n.ensures a.table.now)))
 
 pub is_base-requires : goal.is_base-requires
-is_base-requires c = omega (arith, counted _ _ (c.blocks-n.ensures c.args.table.now))
+is_base-requires c = omega (arith, counted _ _ (c.blocks-n.ensures c.args.heap.now.table.now))
 
 pub returns : goal.returns
 returns c =
-    let n = c.blocks-n.ensures c.args.table.now in
+    let n = c.blocks-n.ensures c.args.heap.now.table.now in
     let few = counted _ _ n in
     let long = eqb-true _ _ (sym c.is_length_of.ensures ∙ c.if-not-is_length_of.false) in
     c.is_base.ensures

@@ -9,7 +9,7 @@ good_shape-requires c = tt
 
 pub returns-then-not-good_shape : goal.returns-then-not-good_shape
 returns-then-not-good_shape c =
-    let a = c.args in
+    let a = c.args.heap.now in
     ill_shaped a.t a.table.now (good_shape a.base.0 (heap_at a.t a.pool.now a.table.now)) c.good_shape.ensures c.if-not-good_shape.true
 
 pub is_sound-requires : goal.is_sound-requires
@@ -17,10 +17,10 @@ is_sound-requires c = sized_by _ _ _ _ c.good_shape.ensures (c.if-not-good_shape
 
 pub returns-then-not-is_sound : goal.returns-then-not-is_sound
 returns-then-not-is_sound c =
-    let a = c.args in
+    let a = c.args.heap.now in
     ill_formed a.t a.table.now (good_shape a.base.0 (heap_at a.t a.pool.now a.table.now)) c.good_shape.ensures c.if-not-good_shape.false c.is_sound.ensures c.if-not-is_sound.true
 
 pub returns : goal.returns
 returns c =
-    let a = c.args in
+    let a = c.args.heap.now in
     neither a.t a.table.now (good_shape a.base.0 (heap_at a.t a.pool.now a.table.now)) c.good_shape.ensures c.if-not-good_shape.false c.is_sound.ensures c.if-not-is_sound.false
