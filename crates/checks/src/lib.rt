@@ -7,6 +7,7 @@ ghost use Rattle.rules.specs.Tables.{well_formed};
 ghost use Rattle.rules.specs.Planes.{entries_in, spare_free, planes, Sized, IsTable, heap_at};
 ghost use Rattle.rules.specs.Outcomes.{Heap};
 ghost use Rattle.rules.specs.Refusals.{first_of, good_shape, heap_tests, request_tests, name_tests, no_word, object_tests, resize_tests, root_tests, collection_tests};
+ghost use Rattle.laws.specs.Meaning.{AllBytes};
 ghost use Rattle.refusals.specs.Codes.{refused_by};
 ghost use Rattle.checks.specs.Refusal.{refusal_by};
 
@@ -22,6 +23,7 @@ pub struct HeapView<'a> {
     pub t: usize,
     pub pool: &'a [u8],
     pub table: &'a [u8],
+    pub ghost are_bytes: { AllBytes table.now },
 }
 
 impl<'a> HeapView<'a> {
