@@ -10,6 +10,7 @@ ghost use Rattle.rules.specs.Memory.{memory, AcceptedIn, perform};
 ghost use Rattle.refusals.specs.Codes.{refused_by};
 ghost use Rattle.heap.specs.Answers.{status, surveyed, loaded, linked, next_by};
 
+use checks::HeapView;
 use entries::Table;
 use numbers::{Address, Block};
 use refusals::Refusal;
@@ -26,7 +27,7 @@ pub struct Surveyed {
 pub fn init(base: Address, t: usize, pool: &[u8], table: &mut [u8]) -> Result<(), Refusal>
     ensures { status result pool.now table.new ≡ perform (planes t) (Init base.0) [] (memory pool.now table.old) }
 {
-    if !checks::good_shape(base, t, pool, &*table) {
+    if !checks::good_shape(&HeapView::new(base, t, pool, &*table)) {
         return Err(Refusal::BadShape);
     }
     entries::clear(table);
@@ -34,11 +35,11 @@ pub fn init(base: Address, t: usize, pool: &[u8], table: &mut [u8]) -> Result<()
 }
 
 // Used blocks, objects, and the longest run of FREE blocks.
-pub fn survey(base: Address, t: usize, pool: &[u8], table: &[u8]) -> Result<Surveyed, Refusal>
-    ensures { surveyed result pool.now table.now ≡ perform (planes t) (Survey base.0) [] (memory pool.now table.now) }
+pub fn survey(heap: &HeapView) -> Result<Surveyed, Refusal>
+    ensures { surveyed result heap.now.pool.now heap.now.table.now ≡ perform (planes heap.now.t) (Survey heap.now.base.0) [] (memory heap.now.pool.now heap.now.table.now) }
 {
-    checks::heap(base, t, pool, table)?;
-    let table = Table::new(t, table);
+    checks::heap(heap)?;
+    let table = Table::new(heap.t, heap.table);
     let counts = whole::count(&table);
     Ok(Surveyed {
         used: counts.used as u32,
@@ -47,41 +48,50 @@ pub fn survey(base: Address, t: usize, pool: &[u8], table: &[u8]) -> Result<Surv
     })
 }
 
+// A heap that is lent to be read and that `check` has passed: its table is not tested again.
+#[derive(Clone, Copy)]
+pub struct Checked<'a> {
+    pub view: HeapView<'a>,
+    pub ghost accepted: { AcceptedIn (perform (planes view.t) (Survey view.base.0) [] (memory view.pool.now view.table.now)) },
+}
+
 // Refusals 1 and 2, by which every call that reads the table is refused first.
-pub fn check(base: Address, t: usize, pool: &[u8], table: &[u8]) -> Result<(), Refusal>
-    ensures { refused_by result ≡ (perform (planes t) (Survey base.0) [] (memory pool.now table.now)).answer.refusal }
+pub fn check<'a>(heap: &HeapView<'a>) -> Result<Checked<'a>, Refusal>
+    ensures refusal { refused_by result ≡ (perform (planes heap.now.t) (Survey heap.now.base.0) [] (memory heap.now.pool.now heap.now.table.now)).answer.refusal }
+    ensures heap { IfOk result (λ c. c.view ≡ heap.now) }
 {
-    checks::heap(base, t, pool, table)
+    checks::heap(heap)?;
+    Ok(Checked { view: *heap })
 }
 
 // Word i of the object with head k.
-pub fn load(
-    base: Address,
-    t: usize,
-    pool: &[u8],
-    table: &[u8],
-    k: Block,
-    i: usize,
-) -> Result<u32, Refusal>
-    ensures { loaded result pool.now table.now ≡ perform (planes t) (Load base.0 k.0 i) [] (memory pool.now table.now) }
+pub fn load(heap: &HeapView, k: Block, i: usize) -> Result<u32, Refusal>
+    ensures { loaded result heap.now.pool.now heap.now.table.now ≡ perform (planes heap.now.t) (Load heap.now.base.0 k.0 i) [] (memory heap.now.pool.now heap.now.table.now) }
 {
-    check(base, t, pool, table)?;
-    load_checked(base, t, pool, table, k, i)
+    let heap = check(heap)?;
+    heap.load_checked(k, i)
 }
 
-// A load from a heap that `check` has passed: the table is not tested again.
-pub fn load_checked(
-    base: Address,
-    t: usize,
-    pool: &[u8],
-    table: &[u8],
-    k: Block,
-    i: usize,
-) -> Result<u32, Refusal>
-    requires { AcceptedIn (perform (planes t) (Survey base.0) [] (memory pool.now table.now)) }
-    ensures { loaded result pool.now table.now ≡ perform (planes t) (Load base.0 k.0 i) [] (memory pool.now table.now) }
-{
-    Ok(memory::word(pool, word_index(t, table, k, i)?))
+impl<'a> Checked<'a> {
+    // A load that does not test the table again.
+    pub fn load_checked(&self, k: Block, i: usize) -> Result<u32, Refusal>
+        ensures { loaded result self.now.view.pool.now self.now.view.table.now ≡ perform (planes self.now.view.t) (Load self.now.view.base.0 k.0 i) [] (memory self.now.view.pool.now self.now.view.table.now) }
+    {
+        let at = word_index(self.view.t, self.view.table, k, i)?;
+        Ok(memory::word(self.view.pool, at))
+    }
+
+    // Word 0 of the object with head k, if it has two blocks: one test in place of three loads.
+    pub fn load_link(&self, k: Block) -> Option<u32>
+        ensures { linked result ≡ next_by (λ (i : ℕ). (perform (planes self.now.view.t) (Load self.now.view.base.0 k.0 i) [] (memory self.now.view.pool.now self.now.view.table.now)).answer) }
+    {
+        let table = Table::new(self.view.t, self.view.table);
+        if k.is_below(table.blocks()) && table.is_pair(k) {
+            Some(memory::word(self.view.pool, k.first_word()))
+        } else {
+            None
+        }
+    }
 }
 
 // The index of word i of the object with head k among the pool's words.
@@ -92,19 +102,6 @@ fn word_index(t: usize, table: &[u8], k: Block, i: usize) -> Result<usize, Refus
 {
     checks::object_word(&Table::new(t, table), k, i)?;
     Ok(k.first_word() + i)
-}
-
-// Word 0 of the object with head k, if it has two blocks, on a heap that `check` has passed: one test in place of three loads.
-pub fn load_link(base: Address, t: usize, pool: &[u8], table: &[u8], k: Block) -> Option<u32>
-    requires { AcceptedIn (perform (planes t) (Survey base.0) [] (memory pool.now table.now)) }
-    ensures { linked result ≡ next_by (λ (i : ℕ). (perform (planes t) (Load base.0 k.0 i) [] (memory pool.now table.now)).answer) }
-{
-    let table = Table::new(t, table);
-    if k.is_below(table.blocks()) && table.is_pair(k) {
-        Some(memory::word(pool, k.first_word()))
-    } else {
-        None
-    }
 }
 
 // w becomes word i of the object with head k.
@@ -119,7 +116,7 @@ pub fn store(
 ) -> Result<(), Refusal>
     ensures { status result pool.new table.now ≡ perform (planes t) (Store base.0 k.0 i w) [] (memory pool.old table.now) }
 {
-    check(base, t, &*pool, table)?;
+    check(&HeapView::new(base, t, &*pool, table))?;
     store_checked(base, t, pool, table, k, i, w)
 }
 

@@ -18,19 +18,19 @@ new-table-requires c = (survey_checked _ _ _ _ c.in_ok-heap.ensures).is
 pub overflow_cast-result : goal.overflow_cast-result
 overflow_cast-result c =
     let a = c.args in
-    omega (arith, (survey_checked _ _ _ _ c.in_ok-heap.ensures).shape.few, (rw c.new-table.ensures at c.count-counts.ensures).0, used_le (entries_in a.t a.table.now))
+    omega (arith, (survey_checked _ _ _ _ c.in_ok-heap.ensures).shape.few, (rw c.new-table.ensures at c.count-counts.ensures).0, used_le (entries_in a.heap.now.t a.heap.now.table.now))
 
 pub overflow_cast-result-2 : goal.overflow_cast-result-2
 overflow_cast-result-2 c =
     let a = c.args in
-    omega (arith, (survey_checked _ _ _ _ c.in_ok-heap.ensures).shape.few, (rw c.new-table.ensures at c.count-counts.ensures).1, objects_le (entries_in a.t a.table.now))
+    omega (arith, (survey_checked _ _ _ _ c.in_ok-heap.ensures).shape.few, (rw c.new-table.ensures at c.count-counts.ensures).1, objects_le (entries_in a.heap.now.t a.heap.now.table.now))
 
 pub overflow_cast-result-3 : goal.overflow_cast-result-3
 overflow_cast-result-3 c =
     let a = c.args in
-    omega (arith, (survey_checked _ _ _ _ c.in_ok-heap.ensures).shape.few, rw c.new-table.ensures at c.longest.ensures, (longest_says (entries_in a.t a.table.now)).run.room)
+    omega (arith, (survey_checked _ _ _ _ c.in_ok-heap.ensures).shape.few, rw c.new-table.ensures at c.longest.ensures, (longest_says (entries_in a.heap.now.t a.heap.now.table.now)).run.room)
 
 pub returns : goal.returns
 returns c =
-    survey_done _ _ _ _ c.in_ok-heap.ensures _ _ _ (λ i. (c.type_inv.table i).fits)
+    survey_done _ _ _ _ c.in_ok-heap.ensures _ _ _ c.args.heap.now.are_bytes
     (rw c.new-table.ensures at c.count-counts.ensures).0 (rw c.new-table.ensures at c.count-counts.ensures).1 (rw c.new-table.ensures at c.longest.ensures)
