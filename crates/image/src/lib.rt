@@ -10,55 +10,41 @@ ghost use Rattle.rules.specs.Runs.{WriteImage};
 ghost use Rattle.rules.specs.Memory.{memory, with_buffer, perform};
 ghost use Rattle.image.specs.Answers.{written};
 
+use checks::HeapView;
 use entries::Table;
-use numbers::{Address, Bytes};
+use numbers::Bytes;
 use refusals::Refusal;
 
 // The four sections, one behind the other: the base, the packed table, the used blocks, the roots.
-fn write_sections(
-    base: Address,
-    t: usize,
-    pool: &[u8],
-    table: &[u8],
-    roots: &[u8],
-    image: &mut [u8],
-    used: usize,
-)
-    requires table { IsTable t table.now × ((length pool.now ≡ 16 * length (entries_in t table.now)) × (base.0 < 2 ^ 32)) }
-    requires used_value { (used ≡ used_of (entries_in t table.now)) × (12 + t + 16 * used + length roots.now ≤ length image.old) }
-    ensures { image.new ≡ sets image.old 0 (image_of base.0 (heap_at t pool.now table.now) roots.now) }
+fn write_sections(heap: &HeapView, roots: &[u8], image: &mut [u8], used: usize)
+    requires table { IsTable heap.now.t heap.now.table.now × ((length heap.now.pool.now ≡ 16 * length (entries_in heap.now.t heap.now.table.now)) × (heap.now.base.0 < 2 ^ 32)) }
+    requires used_value { (used ≡ used_of (entries_in heap.now.t heap.now.table.now)) × (12 + heap.now.t + 16 * used + length roots.now ≤ length image.old) }
+    ensures { image.new ≡ sets image.old 0 (image_of heap.now.base.0 (heap_at heap.now.t heap.now.pool.now heap.now.table.now) roots.now) }
 {
     memory::set_two_bytes(&mut *image, 0, 1);
-    memory::set_four_bytes(&mut *image, 2, base.to_word());
-    memory::set_two_bytes(&mut *image, 6, t);
-    let table = Table::new(t, table);
+    memory::set_four_bytes(&mut *image, 2, heap.base.to_word());
+    memory::set_two_bytes(&mut *image, 6, heap.t);
+    let table = Table::new(heap.t, heap.table);
     packing::pack(&table, &mut *image, 8);
-    let blocks = 8 + t;
+    let blocks = 8 + heap.t;
     memory::set_two_bytes(&mut *image, blocks, used);
-    transfer::gather(pool, &table, &mut *image, blocks + 2);
+    transfer::gather(heap.pool, &table, &mut *image, blocks + 2);
     let list = blocks + 2 + Bytes::of_blocks(used).index();
     memory::set_two_bytes(&mut *image, list, roots.len() / 4);
     memory::set_part(&mut *image, list + 2, roots);
 }
 
 // The image of the heap and the roots, from the front of the buffer on, and how long it is. What is behind it stays.
-pub fn write(
-    base: Address,
-    t: usize,
-    pool: &[u8],
-    table: &[u8],
-    roots: &[u8],
-    image: &mut [u8],
-) -> Result<u32, Refusal>
-    ensures { written result pool.now table.now image.new
-        ≡ with_buffer image.old (perform (planes t) (WriteImage base.0 roots.now (length image.old)) [] (memory pool.now table.now)) }
+pub fn write(heap: &HeapView, roots: &[u8], image: &mut [u8]) -> Result<u32, Refusal>
+    ensures { written result heap.now.pool.now heap.now.table.now image.new
+        ≡ with_buffer image.old (perform (planes heap.now.t) (WriteImage heap.now.base.0 roots.now (length image.old)) [] (memory heap.now.pool.now heap.now.table.now)) }
 {
-    checks::root_list(base, t, pool, table, roots.len())?;
-    let used = whole::count(&Table::new(t, table)).used;
-    let length = 12 + t + Bytes::of_blocks(used).index() + roots.len();
+    checks::root_list(heap, roots.len())?;
+    let used = whole::count(&Table::new(heap.t, heap.table)).used;
+    let length = 12 + heap.t + Bytes::of_blocks(used).index() + roots.len();
     if image.len() < length {
         return Err(Refusal::OutputTooShort);
     }
-    write_sections(base, t, pool, table, roots, image, used);
+    write_sections(heap, roots, image, used);
     Ok(length as u32)
 }

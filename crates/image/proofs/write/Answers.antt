@@ -12,7 +12,7 @@ use Rattle.image.proofs.write.Goals.{In_ok-root_list, After-count-used, After-in
 -- ---- what is known on the way
 
 -- the tests of the heap and the roots have passed
-knows : (c : In_ok-root_list) → Known c.args.t c.args.base.0 c.args.pool.now c.args.table.now c.args.roots.now c.args.image.now (c.in_ok-root_list.ensures _ refl)
+knows : (c : In_ok-root_list) → let h = c.args.heap.now in Known h.t h.base.0 h.pool.now h.table.now c.args.roots.now c.args.image.now (c.in_ok-root_list.ensures _ refl)
 knows c = known _ _ _ _ _ _ (c.in_ok-root_list.ensures _ refl)
 
 -- few blocks are used
@@ -71,4 +71,4 @@ returns c =
     let k = knows at.In_ok-root_list in
     let same = (rw c.new.ensures at c.count-used.ensures).0 in
     image_done _ _ _ _ _ _ (c.in_ok-root_list.ensures _ refl) (omega (arith, c.if-image-length.false, size_is, k.long, same)) (omega (arith, size_is, k.long, same))
-    (λ i. (c.type_inv.table i).fits) c.write_sections.ensures
+    c.args.heap.now.are_bytes c.write_sections.ensures

@@ -36,8 +36,8 @@ size c = omega (arith, c.index.ensures, c.of_blocks.ensures)
 
 pub pack-requires : goal.pack-requires
 pack-requires c =
-    let a = c.args in
-    rw c.new-table.ensures (omega (arith, length_entries_in a.t a.table.now, c.requires.used_value.1))
+    let h = c.args.heap.now in
+    rw c.new-table.ensures (omega (arith, length_entries_in h.t h.table.now, c.requires.used_value.1))
 
 pub overflow_add-blocks : goal.overflow_add-blocks
 overflow_add-blocks c = in_32_bits (search rules)
@@ -63,19 +63,20 @@ pub returns : goal.returns
 returns c =
     let size_is = size (goal.at.returns c).After-index in
     let a = c.args in
-    let es = entries_in a.t a.table.now in
-    let entries = length_entries_in a.t a.table.now in
+    let h = a.heap.now in
+    let es = entries_in h.t h.table.now in
+    let entries = length_entries_in h.t h.table.now in
     let count = c.requires.used_value.0 in
     let first =
-    section_next 1 (bytes_of a.base.0) {m = 6} (begins_empty a.image.now) c.set_two_bytes.ensures (c.set_four_bytes.ensures ∙ word_at _ 2 c.to_word.ensures)
-    (omega arith) (omega arith) (omega arith) (omega (arith, length_bytes_of a.base.0)) in
+    section_next 1 (bytes_of h.base.0) {m = 6} (begins_empty a.image.now) c.set_two_bytes.ensures (c.set_four_bytes.ensures ∙ word_at _ 2 c.to_word.ensures)
+    (omega arith) (omega arith) (omega arith) (omega (arith, length_bytes_of h.base.0)) in
     let second =
-    section_next (length es / 4) (table_of es) {m = 8 + a.t} first c.set_two_bytes-2.ensures (rw c.new-table.ensures at c.pack.ensures)
+    section_next (length es / 4) (table_of es) {m = 8 + h.t} first c.set_two_bytes-2.ensures (rw c.new-table.ensures at c.pack.ensures)
     (omega arith) (omega arith) (omega (arith, entries)) (omega (arith, entries, length_table_of es)) in
     let third =
-    section_next (used_of es) (used_from a.pool.now 0 es) {m = 10 + a.t + 16 * a.used} second c.set_two_bytes-3.ensures (rw c.new-table.ensures at c.gather.ensures)
-    (omega arith) (omega arith) (omega (arith, count)) (omega (arith, count, length_used a.pool.now 0 es (omega (arith, c.requires.table.1.0)))) in
+    section_next (used_of es) (used_from h.pool.now 0 es) {m = 10 + h.t + 16 * a.used} second c.set_two_bytes-3.ensures (rw c.new-table.ensures at c.gather.ensures)
+    (omega arith) (omega arith) (omega (arith, count)) (omega (arith, count, length_used h.pool.now 0 es (omega (arith, c.requires.table.1.0)))) in
     let fourth =
-    section_next (length a.roots.now / 4) a.roots.now {m = 12 + a.t + 16 * a.used + length a.roots.now} third c.set_two_bytes-4.ensures c.set_part.ensures
+    section_next (length a.roots.now / 4) a.roots.now {m = 12 + h.t + 16 * a.used + length a.roots.now} third c.set_two_bytes-4.ensures c.set_part.ensures
     (omega (arith, size_is)) (omega (arith, size_is)) (omega arith) (omega arith) in
-    all_sections a.base.0 (heap_at a.t a.pool.now a.table.now) a.roots.now _ _ _ fourth
+    all_sections h.base.0 (heap_at h.t h.pool.now h.table.now) a.roots.now _ _ _ fourth
