@@ -11,6 +11,7 @@ ghost use Rattle.rules.specs.Memory.{memory, perform};
 ghost use Rattle.visitor.specs.Variables.{context_of, Shape};
 ghost use Rattle.collector.specs.Answers.{outcome_of, result_of};
 
+use checks::HeapView;
 use numbers::Address;
 use refusals::Refusal;
 
@@ -63,7 +64,7 @@ pub fn collect(
     ensures { result_of result pool.now table.new stack.new
         ≡ perform (planes t) (Collect base.0 roots.now) stack.old (memory pool.now table.old) }
 {
-    checks::collection(base, t, pool, &*table, roots.len(), &*stack)?;
+    checks::collection(&HeapView::new(base, t, pool, &*table), roots.len(), &*stack)?;
     Ok(run(base, t, pool, table, 0, roots, stack))
 }
 
@@ -81,6 +82,10 @@ pub fn collect_with(
     ensures { result_of result pool.now table.new stack.new
         ≡ perform (planes t) (Collect base.0 (bytes_of first ++ roots.now)) stack.old (memory pool.now table.old) }
 {
-    checks::collection(base, t, pool, &*table, roots.len() + 4, &*stack)?;
+    checks::collection(
+        &HeapView::new(base, t, pool, &*table),
+        roots.len() + 4,
+        &*stack,
+    )?;
     Ok(run(base, t, pool, table, first, roots, stack))
 }
