@@ -11,6 +11,7 @@ ghost use Rattle.parser.specs.Reading.{Says};
 ghost use Rattle.opener.specs.Answers.{opened};
 ghost use Rattle.opener.specs.Filling.{lent_tests, Suits, Filled};
 
+use checks::HeapView;
 use entries::Table;
 use numbers::{Address, Bytes};
 use parser::File;
@@ -41,7 +42,7 @@ fn check(
     if roots.len() % 4 != 0 {
         return Err(Refusal::BadShape);
     }
-    if !checks::good_shape(Address::from(file.base), t, pool, table) {
+    if !checks::good_shape(&HeapView::new(Address::from(file.base), t, pool, table)) {
         return Err(Refusal::BadShape);
     }
     let end = 8 + t;

@@ -80,7 +80,7 @@ module _ {image : List ℕ} {file : File} (says : Says image file) (t : ℕ) (po
 
 -- whether the shape is good
 shape_is : (c : After-good_shape) → c.good_shape.result ≡ both (good_shape c.args.file.base (heap_at c.args.t c.args.pool.now c.args.table.now)) ((planes c.args.t).fits c.args.table.now)
-shape_is c = rw c.from.ensures at c.good_shape.ensures
+shape_is c = let e = c.new.ensures in rw (e.base, e.t, e.pool, e.table, c.from.ensures) at c.good_shape.ensures
 
 pub returns-then-file-t : goal.returns-then-file-t
 returns-then-file-t c = other_size c.requires _ _ _ _ c.if-file-t.true
