@@ -8,6 +8,7 @@ ghost use Rattle.rules.specs.Runs.{Allocate, Free, Reallocate};
 ghost use Rattle.rules.specs.Memory.{memory, perform};
 ghost use Rattle.allocator.specs.Answers.{placed, freed};
 
+use checks::HeapView;
 use entries::Table;
 use numbers::{Address, Block, Bytes};
 use objects::Placed;
@@ -23,7 +24,7 @@ pub fn allocate(
 ) -> Result<Placed, Refusal>
     ensures { placed result pool.new table.new ≡ perform (planes t) (Allocate base.0 bytes.0) [] (memory pool.old table.old) }
 {
-    checks::request(base, t, &*pool, &*table, bytes)?;
+    checks::request(&HeapView::new(base, t, &*pool, &*table), bytes)?;
     if !bytes.fits_in(&*pool) {
         return Err(Refusal::NoRoom);
     }
@@ -46,7 +47,7 @@ pub fn free(
 ) -> Result<i32, Refusal>
     ensures { freed result pool.now table.new ≡ perform (planes t) (Free base.0 k.0) [] (memory pool.now table.old) }
 {
-    checks::object(base, t, pool, &*table, k)?;
+    checks::object(&HeapView::new(base, t, pool, &*table), k)?;
     Ok(objects::free_object(t, table, k))
 }
 
@@ -61,7 +62,7 @@ pub fn reallocate(
 ) -> Result<Placed, Refusal>
     ensures { placed result pool.new table.new ≡ perform (planes t) (Reallocate base.0 k.0 bytes.0) [] (memory pool.old table.old) }
 {
-    checks::resize(base, t, &*pool, &*table, k, bytes)?;
+    checks::resize(&HeapView::new(base, t, &*pool, &*table), k, bytes)?;
     if !bytes.fits_in(&*pool) {
         return Err(Refusal::NoRoom);
     }
