@@ -17,7 +17,7 @@ pub returns-in_err-next : goal.returns-in_err-next
 returns-in_err-next c = rw c.from_residual-in_err-next.ensures (steps_other _ _ _ c.args.w _ c.in_ok-k.ensures c.in_err-next.ensures)
 
 pub overflow_add-result : goal.overflow_add-result
-overflow_add-result c = in_32_bits (record { fits = omega (arith, c.requires.1) })
+overflow_add-result c = in_32_bits (record { fits = omega (arith, c.requires) })
 
 pub returns : goal.returns
 returns c =

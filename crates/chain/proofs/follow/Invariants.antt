@@ -6,8 +6,8 @@ use Rattle.chain.specs.Walks.{loads_in}
 use Rattle.chain.proofs.Walking.{Walks}
 use Rattle.chain.proofs.follow.Given as goal
 
-abbrev pub invariant-loop-base : goal.invariant-loop-base
-invariant-loop-base l = let loads = loads_in l.base.0 l.t l.pool l.table in Walks loads l.base.0 l.index (heads_from loads l.base.0 4096 l.fn.first.0) l.w
+abbrev pub invariant-loop-w : goal.invariant-loop-w
+invariant-loop-w l = let heap = l.fn.heap.view in let loads = loads_in heap.base.0 heap.t heap.pool.now heap.table.now in Walks loads heap.base.0 l.index (heads_from loads heap.base.0 4096 l.fn.first.0) l.w
 
-abbrev pub decreases-loop-base : goal.decreases-loop-base
-decreases-loop-base l = 4096 - l.w.count
+abbrev pub decreases-loop-w : goal.decreases-loop-w
+decreases-loop-w l = 4096 - l.w.count
