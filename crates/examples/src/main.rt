@@ -4,6 +4,7 @@
 
 mod show;
 
+use checks::HeapView;
 use numbers::{Address, Block, Bytes};
 use show::{Place, Planes, Root, Size};
 use std::io;
@@ -96,12 +97,12 @@ fn reallocate(
 
 fn survey(out: &impl Print, example: u64, pool: &[u8], table: &[u8]) -> io::Result<()> {
     print!(out; "example {example}: {} survey", Planes(table))?;
-    let (refusal, used, objects, longest) = match heap::survey(
+    let (refusal, used, objects, longest) = match heap::survey(&HeapView::new(
         Address::from(BASE),
         size(pool),
         pool,
         table,
-    ) {
+    )) {
         Ok(found) => (0, found.used, found.objects, found.longest),
         Err(refusal) => (u32::from(refusal), 0, 0, 0),
     };
@@ -124,10 +125,7 @@ fn load(
         Planes(table)
     )?;
     let (refusal, value) = match heap::load(
-        Address::from(BASE),
-        size(pool),
-        pool,
-        table,
+        &HeapView::new(Address::from(BASE), size(pool), pool, table),
         Block::of_number(k),
         i,
     ) {
