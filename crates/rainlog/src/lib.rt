@@ -2,7 +2,7 @@
 // Every call here is made of public calls of the heap and of the collection: this layer reads and writes no byte itself.
 #![tactic(auto)]
 
-ghost use Rattle.std.specs.Prelude.{◌≡◌, []};
+ghost use Rattle.std.specs.Prelude.{◌≡◌, [], IfOk};
 ghost use Rattle.rules.specs.Planes.{planes};
 ghost use Rattle.rules.specs.Memory.{memory};
 ghost use Rattle.programs.specs.Programs.{run};
@@ -12,6 +12,8 @@ ghost use Rattle.appender.specs.Answers.{logs};
 ghost use Rattle.rainlog.specs.Answers.{Tests, Sought, reads, drops};
 
 use appender::{Declined, Logged};
+use checks::HeapView;
+use heap::Checked;
 use numbers::{Address, Block};
 use refusals::Refusal;
 
@@ -23,15 +25,9 @@ pub struct Readout {
 }
 
 // Refusals 1, 2, 3 and 4 of an append.
-fn check(
-    base: Address,
-    t: usize,
-    pool: &[u8],
-    table: &[u8],
-    roots: &[u8],
-    stack: &[u8],
-) -> Result<(), Refusal>
-    ensures { Tests (planes t) base.0 roots.now stack.now (memory pool.now table.now) (refused_by result) }
+fn check<'a>(heap: &HeapView<'a>, roots: &[u8], stack: &[u8]) -> Result<Checked<'a>, Refusal>
+    ensures tests { Tests (planes heap.now.t) heap.now.base.0 roots.now stack.now (memory heap.now.pool.now heap.now.table.now) (refused_by result) }
+    ensures heap { IfOk result (λ c. c.view ≡ heap.now) }
 {
     if roots.len() % 4 != 0 {
         return Err(Refusal::BadShape);
@@ -39,14 +35,14 @@ fn check(
     if stack.len() % 4 != 0 {
         return Err(Refusal::BadShape);
     }
-    heap::check(base, t, pool, table)?;
+    let checked = heap::check(heap)?;
     if refusals::MAX_ROOTS <= roots.len() / 4 {
         return Err(Refusal::TooManyRoots);
     }
     if refusals::MAX_STACK_ENTRIES < stack.len() / 4 {
         return Err(Refusal::StackTooLong);
     }
-    Ok(())
+    Ok(checked)
 }
 
 // An entry more, at the end.
@@ -64,8 +60,8 @@ pub fn append(
     ensures { logs result pool.new table.new stack.new
         ≡ run (planes t) (append_program base.0 first.0 time tips roots.now stack.old) stack.old (memory pool.old table.old) }
 {
-    check(base, t, &*pool, &*table, roots, &*stack)?;
-    let w = chain::follow(base, t, &*pool, &*table, first, 0).ok_or(Refusal::NoLog)?;
+    let heap = check(&HeapView::new(base, t, &*pool, &*table), roots, &*stack)?;
+    let w = chain::follow(&heap, first, 0).ok_or(Refusal::NoLog)?;
     appender::add(
         base,
         t,
@@ -80,36 +76,22 @@ pub fn append(
     )
 }
 
-// The block of an entry, counted from 0, and refusals 1, 2, 18 and 19.
-fn entry(
-    base: Address,
-    t: usize,
-    pool: &[u8],
-    table: &[u8],
-    first: Address,
-    index: u64,
-) -> Result<Block, Refusal>
-    ensures { Sought t base.0 first.0 index pool.now table.now result }
+// The block of an entry, counted from 0, and refusals 18 and 19.
+fn entry(heap: &Checked, first: Address, index: u64) -> Result<Block, Refusal>
+    ensures { Sought heap.now.view.t heap.now.view.base.0 first.0 index heap.now.view.pool.now heap.now.view.table.now result }
 {
-    heap::check(base, t, pool, table)?;
-    let w = chain::follow(base, t, pool, table, first, index).ok_or(Refusal::NoLog)?;
+    let w = chain::follow(heap, first, index).ok_or(Refusal::NoLog)?;
     w.wanted.ok_or(Refusal::NoEntry)
 }
 
 // The time and the tip count of an entry, counted from 0.
-pub fn read(
-    base: Address,
-    t: usize,
-    pool: &[u8],
-    table: &[u8],
-    first: Address,
-    index: u64,
-) -> Result<Readout, Refusal>
-    ensures { reads result pool.now table.now ≡ run (planes t) (read_program base.0 first.0 index) [] (memory pool.now table.now) }
+pub fn read(heap: &HeapView, first: Address, index: u64) -> Result<Readout, Refusal>
+    ensures { reads result heap.now.pool.now heap.now.table.now ≡ run (planes heap.now.t) (read_program heap.now.base.0 first.0 index) [] (memory heap.now.pool.now heap.now.table.now) }
 {
-    let k = entry(base, t, pool, table, first, index)?;
-    let time = heap::load_checked(base, t, pool, table, k, 1)?;
-    let tips = heap::load_checked(base, t, pool, table, k, 2)?;
+    let heap = heap::check(heap)?;
+    let k = entry(&heap, first, index)?;
+    let time = heap.load_checked(k, 1)?;
+    let tips = heap.load_checked(k, 2)?;
     Ok(Readout { time, tips })
 }
 
@@ -123,8 +105,9 @@ pub fn drop(
 ) -> Result<Logged, Refusal>
     ensures { drops result pool.now table.new ≡ run (planes t) (drop_program base.0 first.0) [] (memory pool.now table.old) }
 {
-    let k = entry(base, t, pool, &*table, first, 0)?;
-    let next = heap::load_checked(base, t, pool, &*table, k, 0)?;
+    let heap = heap::check(&HeapView::new(base, t, pool, &*table))?;
+    let k = entry(&heap, first, 0)?;
+    let next = heap.load_checked(k, 0)?;
     let change = allocator::free(base, t, pool, table, k)?;
     Ok(Logged {
         first: next,

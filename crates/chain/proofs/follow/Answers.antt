@@ -1,6 +1,5 @@
 -- What is left of the heads leads to what all of them come to, turn by turn.
 -- Assumes nothing.
-use mathlib.Core.Path.{refl}
 use native.Mathlib.Omega.{arith}
 use Rattle.chain.proofs.Walking.{ended, too_many, below, stopped, walk_on}
 use Rattle.chain.proofs.follow.Goals as goal

@@ -1,5 +1,4 @@
 -- `heap::store` meets its contract: once the heap is checked it is `store_checked`. Assumes nothing.
-use mathlib.Core.Path.{sym}
 use Rattle.std.proofs.lemmas.Result.{err_from_is_err_and}
 use Rattle.refusals.proofs.Codes.{not_accepted}
 use Rattle.heap.proofs.Ends.{store_refused, word_first}

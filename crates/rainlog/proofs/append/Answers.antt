@@ -28,22 +28,34 @@ few_roots f base roots stack m tests = go (leb 4096 (length roots / 4)) refl
         let same : run f (tested base roots stack (decline 0)) stack m ≡ run f (tested base roots stack (decline 1)) stack m = rw e refl in
         absurd (omega (arith, ap (λ (x : Ran Reply). x.reply.refusal) (tests.passes refl (decline 0) ∙ same ∙ sym (tests.passes refl (decline 1)))))
 
-pub returns-in_err-check : goal.returns-in_err-check
-returns-in_err-check c =
+pub returns-in_err-heap : goal.returns-in_err-heap
+returns-in_err-heap c =
+    let v = c.new.ensures in
     let p = err_from_is_err_and c.from_residual.result c.from_residual.ensures.1 in
-    rw (p.1, p.2) (append_refused _ _ _ _ (search rules) _ _ _ _ _ _ c.in_err-check.ensures)
+    rw (p.1, p.2) (append_refused _ _ _ _ (search rules) _ _ _ _ _ _ (rw (v.base, v.t, v.pool, v.table) at c.in_err-heap.ensures.tests))
 
 pub returns-in_err-w : goal.returns-in_err-w
 returns-in_err-w c =
+    let v = c.new.ensures in
     let p = err_from_is_err_and c.from_residual-in_err-w.result c.from_residual-in_err-w.ensures.1 in
     rw (p.1, p.2)
-    (append_no_log _ _ _ _ (search rules) _ _ _ _ _ c.in_ok-check.ensures c.follow.ensures _ c.in_err-w.ensures.ok_part c.in_err-w.ensures.value)
+    (append_no_log _ _ _ _ (search rules) _ _ _ _ _ (rw (v.base, v.t, v.pool, v.table) at c.in_ok-heap.ensures.tests)
+    (rw (c.in_ok-heap.ensures.heap, v.base, v.t, v.pool, v.table) at c.follow.ensures) _ c.in_err-w.ensures.ok_part c.in_err-w.ensures.value)
 
 pub to_word-requires : goal.to_word-requires
-to_word-requires c = append_word _ _ _ _ (search rules) _ _ _ 0 0 c.in_ok-check.ensures c.follow.ensures c.in_ok-w.ensures.ok_part
+to_word-requires c =
+    let v = c.new.ensures in
+    append_word _ _ _ _ (search rules) _ _ _ 0 0 (rw (v.base, v.t, v.pool, v.table) at c.in_ok-heap.ensures.tests)
+    (rw (c.in_ok-heap.ensures.heap, v.base, v.t, v.pool, v.table) at c.follow.ensures) c.in_ok-w.ensures.ok_part
 
 pub add-requires : goal.add-requires
-add-requires c = (few_roots _ _ _ _ _ c.in_ok-check.ensures, c.in_ok-check.ensures.accepts refl)
+add-requires c =
+    let v = c.new.ensures in
+    let tests = rw (v.base, v.t, v.pool, v.table) at c.in_ok-heap.ensures.tests in
+    (few_roots _ _ _ _ _ tests, tests.accepts refl)
 
 pub returns : goal.returns
-returns c = append_done _ _ _ _ (search rules) _ _ _ _ _ c.in_ok-check.ensures c.follow.ensures c.in_ok-w.ensures.ok_part c.to_word.ensures c.add.ensures
+returns c =
+    let v = c.new.ensures in
+    append_done _ _ _ _ (search rules) _ _ _ _ _ (rw (v.base, v.t, v.pool, v.table) at c.in_ok-heap.ensures.tests)
+    (rw (c.in_ok-heap.ensures.heap, v.base, v.t, v.pool, v.table) at c.follow.ensures) c.in_ok-w.ensures.ok_part c.to_word.ensures c.add.ensures
