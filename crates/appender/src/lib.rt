@@ -68,7 +68,8 @@ fn enter(
     }
 }
 
-// There is no room for an entry: a collection from the first address and the caller's roots may make some.
+// There is no room for an entry: a collection from the first address and the caller's roots may make some. It allocates as `add` does, but not with the same answer:
+// what the collection changed counts here, on a refusal too.
 fn add_again(
     base: Address,
     t: usize,

@@ -1,5 +1,6 @@
 // The entry points for C: numbers and byte slices in, the refusal number out, every other answer through a pointer.
-// A slice is a pointer and a length; include/blockheap.h declares the same functions.
+// A slice is a pointer and a length; include/blockheap.h declares the same functions. They stand twice, here and in `blockheap`, since no crate may depend on a
+// static library, and a library exports nothing to C.
 #![tactic(auto)]
 
 ghost use Rattle.std.specs.Prelude.{◌≡◌, [], length as length_of};

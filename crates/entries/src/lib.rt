@@ -58,7 +58,8 @@ fn bit(b: u8, j: usize) -> u8
     ((u32::from(b) >> j) & 1) as u8
 }
 
-// A table of 4t blocks that is lent to be read. No spare bit of it is set; what its entries are is not tested.
+// A table of 4t blocks that is lent to be read. No spare bit of it is set; what its entries are is not tested. What writes a table takes t and the bytes, and asks
+// by a clause that they are one: a struct of a `&mut` and a fact about it gets no generated proof.
 #[derive(Clone, Copy)]
 pub struct Table<'a> {
     t: usize,

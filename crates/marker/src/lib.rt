@@ -1,4 +1,5 @@
 // Marking: the objects that are reachable from the roots become MARK, with a bounded mark stack and rescans after an overflow.
+// Heap and mark stack are handed on one by one, as C lends them: table and stack are written (see `entries::Table`).
 #![tactic(auto)]
 
 ghost use Rattle.std.specs.Prelude.{◌≡◌, true, false, ◌∷◌, ◌/◌, ◌≤◌, ◌<◌, length};

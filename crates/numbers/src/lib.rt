@@ -61,7 +61,7 @@ impl Block {
         Block(0)
     }
 
-    // The block whose number a caller gave, clamped. There may be no such block.
+    // The block whose number a caller gave, clamped. There may be no such block. No `From`, here and of `Bytes`: what is clamped is another number.
     pub fn of_number(n: u64) -> Block
         ensures { result.0 ≡ clamped_to n }
     {
@@ -83,7 +83,7 @@ impl Block {
         Block(self.0 + count)
     }
 
-    // Whether it is one of n blocks.
+    // Whether it is one of n blocks. A count is no block, so the order of blocks would need one made of it.
     pub fn is_below(self, n: usize) -> bool
         ensures { result ≡ nat_lt self.0 n }
     {
@@ -124,7 +124,7 @@ impl Block {
         4 * self.0
     }
 
-    // The number as a word of the mark stack holds it.
+    // The number as a word of the mark stack holds it. No `From`, here and of `Address`: it asks that the number fits.
     pub fn to_word(self) -> u32
         requires { self.0 < 2 ^ 32 }
         ensures { result ≡ self.0 }
@@ -148,7 +148,7 @@ impl Bytes {
         self.0
     }
 
-    // Whether there are none.
+    // Whether there are none. `==` would need a zero of the kind beside it.
     pub fn is_zero(self) -> bool
         ensures { result ≡ (self.0 == 0) }
     {

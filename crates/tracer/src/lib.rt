@@ -1,4 +1,5 @@
 // A trace of one object: its words are visited, and then those of the last pushed one, until the mark stack is empty.
+// Heap and mark stack are handed on one by one, as in `marker`.
 #![tactic(auto)]
 
 ghost use Rattle.std.specs.Prelude.{◌≡◌, ◌/◌, ◌≤◌, ◌<◌, length};

@@ -86,7 +86,7 @@ pub fn gather(pool: &[u8], table: &Table, image: &mut [u8], at: usize)
     }
 }
 
-// Of the 64 blocks from block 64 * i on, those that have a bit in `used` get the next blocks of the bytes, of which `passed` come before. Returns how many are passed then.
+// As `copy_group`, the other way; only the copy itself is the same in both. Of the 64 blocks from block 64 * i on, those that have a bit in `used` get the next blocks of the bytes, of which `passed` come before. Returns how many are passed then.
 // A `while`, as in `copy_group`.
 fn place_group(bytes: &[u8], passed: usize, i: usize, used: u64, pool: &mut [u8]) -> usize
     requires i_bound { (i < 64) × ((passed + used_of (lanes used) ≤ 4096) × (16 * (passed + used_of (lanes used)) ≤ length bytes.now)) }

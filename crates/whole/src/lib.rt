@@ -70,7 +70,7 @@ fn test_eight(planes: &Planes, at: usize, before: u32) -> Tested
     }
 }
 
-// The same of byte `at` of both planes.
+// The same of byte `at` of both planes, which has its own way to read; what is between is `test` in both.
 fn test_one(planes: &Planes, at: usize, before: u32) -> Tested
     requires { (before < 2) × ((at < length planes.now.lows.now) × (at < length planes.now.highs.now)) }
     ensures { TestsOn planes.now.lows.now planes.now.highs.now at 1 before result.bad result.before }
