@@ -10,6 +10,7 @@ ghost use Rattle.objects.specs.Answers.{place_of};
 ghost use Rattle.logs.specs.Log.{logged, readout};
 ghost use Rattle.services.specs.Services.{HeapCall, Append, Read, Drop, answered, replied, serve};
 
+use checks::HeapView;
 use numbers::{Address, Block, Bytes};
 use objects::Placed;
 use refusals::Refusal;
@@ -164,7 +165,7 @@ pub fn blockheap_survey(
     ensures { served (answered (findings result used.new objects.new longest.new)) (lending pool.now table.now) [] []
         ≡ serve t (HeapCall (Survey base)) [] (lending pool.now table.now) }
 {
-    match heap::survey(Address::from(base), numbers::clamped(t), pool, table) {
+    match heap::survey(&HeapView::new(Address::from(base), numbers::clamped(t), pool, table)) {
         Ok(found) => {
             *used = found.used;
             *objects = found.objects;
@@ -193,10 +194,7 @@ pub fn blockheap_load(
         ≡ serve t (HeapCall (Load base block word)) [] (lending pool.now table.now) }
 {
     match heap::load(
-        Address::from(base),
-        numbers::clamped(t),
-        pool,
-        table,
+        &HeapView::new(Address::from(base), numbers::clamped(t), pool, table),
         Block::of_number(block),
         numbers::clamped(word),
     ) {
@@ -247,10 +245,7 @@ pub fn blockheap_write_image(
         ≡ into_buffer image.old (serve t (HeapCall (WriteImage base roots.now (length_of image.old))) [] (lending pool.now table.now)) }
 {
     match image::write(
-        Address::from(base),
-        numbers::clamped(t),
-        pool,
-        table,
+        &HeapView::new(Address::from(base), numbers::clamped(t), pool, table),
         roots,
         image,
     ) {
@@ -345,10 +340,7 @@ pub fn blockheap_log_read(
         ≡ serve t (Read base first index) [] (lending pool.now table.now) }
 {
     match rainlog::read(
-        Address::from(base),
-        numbers::clamped(t),
-        pool,
-        table,
+        &HeapView::new(Address::from(base), numbers::clamped(t), pool, table),
         Address::from(first),
         index,
     ) {
