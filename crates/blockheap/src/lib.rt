@@ -1,5 +1,5 @@
 // The calls as a caller that is not written in Rattle makes them: numbers and byte slices in, the refusal number out, every other answer through a
-// reference. The crate blockheap_c exports each for C under the same name.
+// reference. The crate blockheap_c exports each for C under the same name. C has no Result: it gets the number of a refusal, and 0 for each answer that a refused call does not have.
 #![tactic(auto)]
 
 ghost use Rattle.std.specs.Prelude.{◌≡◌, ◌^◌, ◌<◌, [], length as length_of, IfOk};
