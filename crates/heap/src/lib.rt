@@ -56,6 +56,7 @@ pub struct Checked<'a> {
 }
 
 // Refusals 1 and 2, by which every call that reads the table is refused first.
+#[inline]
 pub fn check<'a>(heap: &HeapView<'a>) -> Result<Checked<'a>, Refusal>
     ensures refusal { refused_by result ≡ (perform (planes heap.now.t) (Survey heap.now.base.0) [] (memory heap.now.pool.now heap.now.table.now)).answer.refusal }
     ensures heap { IfOk result (λ c. c.view ≡ heap.now) }
@@ -74,6 +75,7 @@ pub fn load(heap: &HeapView, k: Block, i: usize) -> Result<u32, Refusal>
 
 impl<'a> Checked<'a> {
     // A load that does not test the table again.
+    #[inline]
     pub fn load_checked(&self, k: Block, i: usize) -> Result<u32, Refusal>
         ensures { loaded result self.now.view.pool.now self.now.view.table.now ≡ perform (planes self.now.view.t) (Load self.now.view.base.0 k.0 i) [] (memory self.now.view.pool.now self.now.view.table.now) }
     {
