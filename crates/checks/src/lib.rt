@@ -15,8 +15,9 @@ use entries::Table;
 use numbers::{Address, Block, Bytes};
 use refusals::Refusal;
 
-// A heap that is lent to be read: its base, its t, and the bytes of its pool and table. Nothing of it is tested. A function that writes takes the four one by one:
-// C lends pool and table each to be read or to be written, and a struct of them would need a clause for each that it only reads.
+// A heap that is lent to be read: its base, its t, and the bytes of its pool and table. Nothing of it is tested; that the table is bytes, its type says.
+// A function that writes takes the four one by one: C lends pool and table each to be read or to be written, and a struct of `&mut`s would need a clause for each
+// reference that it keeps, and could have no ghost field.
 #[derive(Clone, Copy)]
 pub struct HeapView<'a> {
     pub base: Address,
