@@ -4,7 +4,7 @@
 ghost use Rattle.std.specs.Prelude.{◌≡◌, List, [], ◌∷◌, ◌++◌, ℕ, length};
 ghost use Rattle.rules.specs.Tests.{both};
 ghost use Rattle.rules.specs.Tables.{well_formed};
-ghost use Rattle.rules.specs.Planes.{entries_in, spare_free, planes, Sized, IsTable, heap_at};
+ghost use Rattle.rules.specs.Planes.{entries_in, spare_free, planes, Sized, heap_at};
 ghost use Rattle.rules.specs.Outcomes.{Heap};
 ghost use Rattle.rules.specs.Refusals.{first_of, good_shape, heap_tests, request_tests, name_tests, no_word, object_tests, resize_tests, root_tests, collection_tests};
 ghost use Rattle.laws.specs.Meaning.{AllBytes};

@@ -68,7 +68,7 @@ pub fn collect(
     Ok(run(base, t, pool, table, 0, roots, stack))
 }
 
-// A collection from a root word and then the caller's roots, one fewer than `collect` takes.
+// A collection from a root word and then the caller's roots, one fewer than `collect` takes. It tests one root more, and so is no `collect`; `run` does the work of both.
 pub fn collect_with(
     base: Address,
     t: usize,

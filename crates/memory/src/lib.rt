@@ -11,7 +11,7 @@ ghost use Rattle.memory.specs.Bits.{BitsFrom};
 
 use numbers::Bytes;
 
-// Word i of the bytes.
+// Word i of the bytes. `bits` reads the same four bytes, and promises their bits: this one promises the number that the rules make of them.
 pub fn word(bytes: &[u8], i: usize) -> u32
     requires { 4 * i + 4 ≤ length bytes.now }
     ensures { result ≡ word_at bytes.now i }

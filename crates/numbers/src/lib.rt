@@ -61,7 +61,7 @@ impl Block {
         Block(0)
     }
 
-    // The block whose number a caller gave, clamped. There may be no such block. No `From`, here and of `Bytes`: what is clamped is another number.
+    // The block whose number a caller gave, clamped. There may be no such block. No `From`, here and of `Bytes`: what is clamped is another number. One line for each kind: a trait would be longer.
     pub fn of_number(n: u64) -> Block
         ensures { result.0 ≡ clamped_to n }
     {
@@ -124,7 +124,7 @@ impl Block {
         4 * self.0
     }
 
-    // The number as a word of the mark stack holds it. No `From`, here and of `Address`: it asks that the number fits.
+    // The number as a word of the mark stack holds it. No `From`, here and of `Address`: it asks that the number fits. One line for each: a trait would be longer.
     pub fn to_word(self) -> u32
         requires { self.0 < 2 ^ 32 }
         ensures { result ≡ self.0 }
@@ -239,7 +239,7 @@ impl Address {
         self.0 as u32
     }
 
-    // Whether it is 0, which is the address of no block.
+    // Whether it is 0, which is the address of no block: a test by its name, as that of `Bytes`.
     pub fn is_zero(self) -> bool
         ensures { result ≡ (self.0 == 0) }
     {

@@ -24,7 +24,7 @@ pub struct Readout {
     pub tips: u32,
 }
 
-// Refusals 1, 2, 3 and 4 of an append.
+// Refusals 1, 2, 3 and 4 of an append: those of a collection with one root more. `checks` has them too, but a log is made of public calls of the heap alone.
 fn check<'a>(heap: &HeapView<'a>, roots: &[u8], stack: &[u8]) -> Result<Checked<'a>, Refusal>
     ensures tests { Tests (planes heap.now.t) heap.now.base.0 roots.now stack.now (memory heap.now.pool.now heap.now.table.now) (refused_by result) }
     ensures heap { IfOk result (λ c. c.view ≡ heap.now) }

@@ -5,7 +5,6 @@
 ghost use Rattle.std.specs.Prelude.{◌≡◌, false, ℕ, ◌+◌, ◌-◌, ◌*◌, ◌≤◌, ◌<◌, max, leb, length};
 ghost use Rattle.rules.specs.Tests.{pick};
 ghost use Rattle.rules.specs.Bits.{bit_of};
-ghost use Rattle.rules.specs.Planes.{entries_in, IsTable};
 ghost use Rattle.search.specs.Starts.{NoStart, AllSet, NoneSet, Starts, Next, FreeFor};
 ghost use Rattle.entries.specs.Lent.{entries_of};
 

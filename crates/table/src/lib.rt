@@ -94,7 +94,7 @@ pub fn release(t: usize, table: &mut [u8], k: Block, count: usize)
     entries::set_run(t, table, k, count, Entry::Free);
 }
 
-// The count blocks from k on become TAIL.
+// The count blocks from k on become TAIL. This and `release` are the names of two acts, each a call of the one function that does both.
 pub fn extend(t: usize, table: &mut [u8], k: Block, count: usize)
     requires { IsTable t table.old × (k.0 + count ≤ length (entries_in t table.old)) }
     ensures { Holds t (extended (entries_in t table.old) k.0 count) table.new }

@@ -43,6 +43,10 @@ pub record Remains (image₀ : List ℕ) (at : ℕ) (all image : List ℕ) (to :
 pub record Splits (rest part others : List ℕ) : Type 0 where
   pub is : rest ≡ part ++ others
 
+-- at first it is all
+pub remains_all : (image : List ℕ) (at : ℕ) (all : List ℕ) → Remains image at all image at all
+remains_all image at all = record { long = refl; end = refl; same = refl }
+
 module _ {image₀ : List ℕ} {at : ℕ} {all image : List ℕ} {to : ℕ} {rest : List ℕ} (r : Remains image₀ at all image to rest) where
   -- all is stored
   pub remains_none : rest ≡ [] → (image ≡ sets image₀ at all) × (to ≡ at + length all)

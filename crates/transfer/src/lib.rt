@@ -74,7 +74,7 @@ fn copy_group(pool: &[u8], i: usize, used: u64, image: &mut [u8], at: usize) -> 
     to
 }
 
-// The used blocks are copied, from `at` on, 64 blocks at a time.
+// The used blocks are copied, from `at` on, 64 blocks at a time. `scatter` goes the other way: only the head of the loop is the same.
 pub fn gather(pool: &[u8], table: &Table, image: &mut [u8], at: usize)
     requires { (length pool.now ≡ 16 * length (entries_of table.now)) × (at + 16 * used_of (entries_of table.now) ≤ length image.old) }
     ensures { image.new ≡ sets image.old at (used_from pool.now 0 (entries_of table.now)) }

@@ -97,6 +97,7 @@ pub fn well_formed(table: &Table) -> bool
         bad = bad | r.bad;
         before = r.before;
     }
+    // The bytes behind the last eight: the same turn, of one byte.
     let grouped = 8 * groups;
     for j in grouped..half {
         let r = test_one(&planes, j, before);
@@ -197,6 +198,7 @@ pub fn sweep(t: usize, table: &mut [u8])
     for i in 0..words {
         keeping = sweep_four(&mut *table, half, 4 * i, keeping);
     }
+    // The bytes behind the last word: the same turn, of one byte.
     let swept = 4 * words;
     for j in swept..half {
         keeping = sweep_one(&mut *table, half, j, keeping);
