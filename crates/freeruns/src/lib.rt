@@ -9,7 +9,7 @@ ghost use Rattle.entries.specs.Lent.{entries_of};
 
 use entries::Table;
 
-// The first of 64 bits that is set, by the zeros below it; 64 if there is none.
+// The first of 64 bits that is set, by the zeros below it; 64 if there is none, as the library counts them.
 pub fn first(bits: u64) -> usize
     ensures { Zeros bits result }
 {

@@ -155,7 +155,7 @@ impl Bytes {
         self.0 == 0
     }
 
-    // Whether the part has so many bytes or more.
+    // Whether the part has so many bytes or more. A part is no count, so no order of counts serves, here and for its exact length.
     pub fn fits_in(self, part: &[u8]) -> bool
         ensures { result ≡ nat_le self.0 (length part.now) }
     {
@@ -272,7 +272,7 @@ impl Address {
         }
     }
 
-    // The block from this base on whose address is the word w. Of other words a number that is too large: the difference is rotated, so that
+    // The block from this base on whose address is the word w. Of other words a number that is too large, which the one caller tests anyway: the difference is rotated, so that
     // what is no multiple of 16 comes to the highest bits.
     pub fn block_of(self, w: u32) -> Block
         requires { self.0 < 2 ^ 32 }

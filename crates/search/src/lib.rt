@@ -93,7 +93,7 @@ fn bits_from(at: usize, from: usize) -> u32
     u32::MAX << from.saturating_sub(32 * at)
 }
 
-// The first block from `from` on at which count blocks may start, or the end of the table.
+// The first block from `from` on at which count blocks may start, or the end of the table, which ends the caller's loop as any block does that is too near to it.
 pub fn next(table: &Table, from: Block, count: usize) -> Block
     requires { (from.0 ≤ length (entries_of table.now)) × (0 < count) }
     ensures { Next (entries_of table.now) count from.0 result.0 }
