@@ -4,10 +4,11 @@ use mathlib.Core.Path.{◌≡◌, refl, sym, ap, ◌∙◌}
 use mathlib.Core.Bool.{Bool, true, false}
 use mathlib.Core.List.{List, [], ◌∷◌}
 use mathlib.Core.Option.{Option, some, none, none-ne-some, some-injective}
-use Prim.Native.Nat.{ℕ, zero, suc, ◌-◌, ◌≤◌, ◌<◌}
+use Prim.Native.Nat.{ℕ, zero, suc, ◌+◌, ◌-◌, ◌≤◌, ◌<◌}
 use native.Mathlib.Omega.{arith}
 use native.Mathlib.Decide.{ℕ_discrete}
 use lib.Dec.{eqb}
+use lib.ListN.{length}
 use borrow.Author.Tests.{eq-eqb, ne_eqb, eqb-true}
 use Rattle.std.specs.Prelude.{Some, None}
 use Rattle.rules.specs.Tests.{pick, both}
@@ -61,6 +62,12 @@ abbrev pub pass_on : ℕ → Passed → Option (List ℕ) → Option Passed
 pass_on index p none = none
 pass_on index p (some ks) = some (pass_all index p ks)
 
+-- the number of all, from 0
+pass_count : (index : ℕ) (ks : List ℕ) (p : Passed) → (pass_all index p ks).count ≡ p.count + length ks
+unfolding pass_all
+pass_count index [] p = omega arith
+pass_count index (k ∷ ks) p = omega (arith, pass_count index ks (pass index p k))
+
 -- what was found, or else what was known before
 abbrev or_known : Option ℕ → Option ℕ → Option ℕ
 or_known none y = y
@@ -111,7 +118,9 @@ none_passed = record { count = 0; last = none; wanted = none }
 found_all : (index : ℕ) (w : Walk) (ks : List ℕ) → pass_all index none_passed ks ≡ passed_by w → Found index w ks
 found_all index w ks same =
     let z : index - 0 ≡ index = omega arith in
+    let passed : w.count ≡ 0 + length ks = sym (ap (λ (p : Passed). p.count) same) ∙ pass_count index ks none_passed in
     record {
+      count = omega (arith, passed);
       last = sym (or_none (last_of ks)) ∙ sym (pass_last index ks none_passed) ∙ ap (λ (p : Passed). p.last) same;
       wanted = sym (or_none (at_index ks index)) ∙ rw z at (sym (pass_wanted index ks none_passed (omega arith))) ∙ ap (λ (p : Passed). p.wanted) same;
     }

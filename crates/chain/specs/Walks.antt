@@ -1,6 +1,6 @@
 -- A walk along the heads of a log's entries: what it has to find.
 -- Assumes nothing.
-use Rattle.std.specs.Prelude.{◌≡◌, List, [], ℕ, suc, eqb, Option as Maybe, IsNone, IsSomeAnd}
+use Rattle.std.specs.Prelude.{◌≡◌, List, [], ℕ, suc, eqb, length, Option as Maybe, IsNone, IsSomeAnd}
 use Rattle.std.proofs.Math.Option.{Option, some, none}
 use Rattle.rules.specs.Tests.{pick}
 use Rattle.rules.specs.Runs.{Load}
@@ -37,8 +37,9 @@ Steps index w (some l) r = IsSomeAnd r (λ x. (x.at.0 ≡ l.next) × (passed_by 
 abbrev pub last_by : Walk → Option ℕ
 last_by w = found w.last
 
--- what a walk that came to the end has found of the heads
+-- what a walk that came to the end has found of the heads: how many there are, the last one, and the one with the wanted index
 pub record Found (index : ℕ) (w : Walk) (ks : List ℕ) : Type 0 where
+  pub count : w.count ≡ length ks
   pub last : last_of ks ≡ last_by w
   pub wanted : at_index ks index ≡ found w.wanted
 
