@@ -55,6 +55,17 @@ pub struct Checked<'a> {
     pub ghost accepted: { AcceptedIn (perform (planes view.t) (Survey view.base.0) [] (memory view.pool.now view.table.now)) },
 }
 
+// The four that are lent, as one: for what is made of calls of the heap alone, as a log is.
+#[inline]
+pub fn view<'a>(base: Address, t: usize, pool: &'a [u8], table: &'a [u8]) -> HeapView<'a>
+    ensures base { result.base ≡ base }
+    ensures t { result.t ≡ t }
+    ensures pool { result.pool.now ≡ pool.now }
+    ensures table { result.table.now ≡ table.now }
+{
+    HeapView::new(base, t, pool, table)
+}
+
 // Refusals 1 and 2, by which every call that reads the table is refused first.
 #[inline]
 pub fn check<'a>(heap: &HeapView<'a>) -> Result<Checked<'a>, Refusal>

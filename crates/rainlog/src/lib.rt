@@ -60,7 +60,7 @@ pub fn append(
     ensures { logs result pool.new table.new stack.new
         ≡ run (planes t) (append_program base.0 first.0 time tips roots.now stack.old) stack.old (memory pool.old table.old) }
 {
-    let heap = check(&HeapView::new(base, t, &*pool, &*table), roots, &*stack)?;
+    let heap = check(&heap::view(base, t, &*pool, &*table), roots, &*stack)?;
     let w = chain::follow(&heap, first, 0).ok_or(Refusal::NoLog)?;
     appender::add(
         base,
@@ -105,7 +105,7 @@ pub fn drop(
 ) -> Result<Logged, Refusal>
     ensures { drops result pool.now table.new ≡ run (planes t) (drop_program base.0 first.0) [] (memory pool.now table.old) }
 {
-    let heap = heap::check(&HeapView::new(base, t, pool, &*table))?;
+    let heap = heap::check(&heap::view(base, t, pool, &*table))?;
     let k = entry(&heap, first, 0)?;
     let next = heap.load_checked(k, 0)?;
     let change = allocator::free(base, t, pool, table, k)?;

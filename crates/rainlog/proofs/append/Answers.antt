@@ -34,15 +34,15 @@ few_roots f base roots stack m tests = go (leb 4096 (length roots / 4)) refl
 
 -- the checked heap is the one that was lent: so are the tests of it
 tests : (c : In_ok-heap) → Tests (planes c.args.t) c.args.base.0 c.args.roots.now c.args.stack.now (memory c.args.pool.now c.args.table.now) 0
-tests c = let v = c.new.ensures in rw (v.base, v.t, v.pool, v.table) at c.in_ok-heap.ensures.tests
+tests c = let v = c.view.ensures in rw (v.base, v.t, v.pool, v.table) at c.in_ok-heap.ensures.tests
 
 -- and the walk
 walked : (c : After-follow) → let a = c.args in Walked 0 c.follow.result (heads_from (loads_in a.base.0 a.t a.pool.now a.table.now) a.base.0 4096 a.first.0)
-walked c = let v = c.new.ensures in rw (c.in_ok-heap.ensures.heap, v.base, v.t, v.pool, v.table) at c.follow.ensures
+walked c = let v = c.view.ensures in rw (c.in_ok-heap.ensures.heap, v.base, v.t, v.pool, v.table) at c.follow.ensures
 
 pub returns-in_err-heap : goal.returns-in_err-heap
 returns-in_err-heap c =
-    let v = c.new.ensures in
+    let v = c.view.ensures in
     let p = err_from_is_err_and c.from_residual.result c.from_residual.ensures.1 in
     rw (p.1, p.2) (append_refused _ _ _ _ (search rules) _ _ _ _ _ _ (rw (v.base, v.t, v.pool, v.table) at c.in_err-heap.ensures.tests))
 
