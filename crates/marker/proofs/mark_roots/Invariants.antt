@@ -15,4 +15,4 @@ invariant-loop-i l =
     IsTable l.t l.table
     × (length l.table ≡ length l.fn.table)
     × (length l.stack ≡ length l.fn.stack)
-    × (mark_roots (context_of l.base.0 l.pool l.fn.stack) (drop l.i (words_of l.roots)) (idle l.t l.table l.overflow) ≡ mark_roots (context_of l.base.0 l.pool l.fn.stack) (l.first ∷ words_of l.roots) (idle l.t l.fn.table false))
+    × (mark_roots (context_of l.base.0 l.pool l.fn.stack) (drop l.i (l.first ∷ words_of l.roots)) (idle l.t l.table l.overflow) ≡ mark_roots (context_of l.base.0 l.pool l.fn.stack) (l.first ∷ words_of l.roots) (idle l.t l.fn.table false))
