@@ -114,6 +114,7 @@ fn erase_project(project: &Path, out: &Path) -> Result<()> {
     parsed.retain(|parser| parser.tokens.len() > parser.erased.len() + 1);
     check_methods(&parsed)?;
     check_capitals(&parsed)?;
+    check_selves(&parsed)?;
     let root = root(&parsed);
     for folder in ["src", "casts"] {
         let out = out.join(folder);
@@ -162,6 +163,32 @@ fn check_capitals(crates: &[Parser]) -> Result<()> {
     Ok(())
 }
 
+/// `Self::` of a number names what a trait of the source gives that number, or what Rust's own has by the number's name.
+fn check_selves(crates: &[Parser]) -> Result<()> {
+    for parser in crates {
+        for (at, kind) in &parser.selves {
+            let (token, name) = (&parser.tokens[*at], parser.tokens[at + 2].text);
+            let has_it = |(given, to): &(&str, &str)| to == kind && members(crates, given).any(|member| member.name == name);
+            let is_given = crates.iter().flat_map(|parser| &parser.given).any(has_it);
+            if !is_given && !is_of_number(kind, name) {
+                return parser.source.refuse(token.from, &format!("`{}`, of which it does not know `{name}`", token.text));
+            }
+        }
+    }
+    Ok(())
+}
+
+/// Whether Rust's own number has it, and on every host the same.
+fn is_of_number(kind: &str, name: &str) -> bool {
+    OF_NUMBERS.contains(&name) || kind != "usize" && OF_FIXED.contains(&name)
+}
+
+/// What the traits of that name have.
+fn members<'a>(crates: &'a [Parser], name: &'a str) -> impl Iterator<Item = &'a Member<'a>> {
+    let traits = crates.iter().flat_map(|parser| &parser.traits);
+    traits.filter(move |made| made.name == name).flat_map(|made| &made.members)
+}
+
 /// The text of lib.rs.
 fn root(crates: &[Parser]) -> String {
     let mut text = HEAD.to_string();
@@ -176,19 +203,17 @@ fn root(crates: &[Parser]) -> String {
 }
 
 /// For each trait of the source that one of Rust's own types is given, a module that compiles only if that type has no
-/// function of such a name already: Rust would call that one.
+/// function or constant of such a name already: Rust would take that one.
 fn probes(crates: &[Parser]) -> String {
     let mut text = String::new();
-    for (name, kind) in crates.iter().flat_map(|parser| &parser.given) {
-        let is_it = |made: &&Trait| made.name == *name;
-        let functions = crates.iter().flat_map(|parser| &parser.traits).find(is_it).map_or(&[][..], |made| &made.functions);
-        let (mut own, mut calls) = (String::new(), String::new());
-        for function in functions {
-            own += &format!(" fn {function}() -> Own {{ Own }}");
-            calls += &format!(" let _: Own = <{kind}>::{function}();");
+    for (given, kind) in crates.iter().flat_map(|parser| &parser.given) {
+        let (mut own, mut uses) = (String::new(), String::new());
+        for Member { name, is_function } in members(crates, given) {
+            own += &if *is_function { format!(" fn {name}() -> Own {{ Own }}") } else { format!(" const {name}: Own = Own;") };
+            uses += &format!(" let _: Own = <{kind}>::{name}{};", if *is_function { "()" } else { "" });
         }
-        text += &format!("\nmod {name}_of_{kind} {{\n    struct Own;\n    trait Probe {{{own} }}\n    impl Probe for {kind} {{}}\n");
-        text += &format!("    fn probe() {{{calls} }}\n}}\n");
+        text += &format!("\nmod {given}_of_{kind} {{\n    struct Own;\n    trait Probe {{{own} }}\n    impl Probe for {kind} {{}}\n");
+        text += &format!("    fn probe() {{{uses} }}\n}}\n");
     }
     text
 }
@@ -417,23 +442,32 @@ struct Parser<'a> {
     traits: Vec<Trait<'a>>,
     /// The traits that Rust's own types are given, each with the type.
     given: Vec<(&'a str, &'a str)>,
+    /// The type of Rust's own that the item gives a trait, if it does.
+    taker: &'a str,
+    /// Where `Self::` stands for such a type, each with the type.
+    selves: Vec<(usize, &'a str)>,
     /// The closures that are open, by their depth.
     closures: Vec<usize>,
 }
 
-/// A trait, and the names of its functions.
 struct Trait<'a> {
     name: &'a str,
-    functions: Vec<&'a str>,
+    members: Vec<Member<'a>>,
+}
+
+/// A function or a constant of a trait.
+struct Member<'a> {
+    name: &'a str,
+    is_function: bool,
 }
 
 impl<'a> Parser<'a> {
     /// The whole source, parsed.
     fn of(source: &'a Crate) -> Result<Parser<'a>> {
         let (tokens, erased, calls, entries) = (source.tokens()?, vec![], vec![], vec![]);
-        let (capitals, methods, traits, given, closures) = (vec![], vec![], vec![], vec![], vec![]);
+        let (capitals, methods, traits, given, taker, selves, closures) = (vec![], vec![], vec![], vec![], "", vec![], vec![]);
         let mut parser =
-            Parser { source, tokens, at: 0, erased, calls, entries, capitals, methods, traits, given, closures };
+            Parser { source, tokens, at: 0, erased, calls, entries, capitals, methods, traits, given, taker, selves, closures };
         while !parser.text().is_empty() {
             parser.item()?;
         }
@@ -531,6 +565,7 @@ impl<'a> Parser<'a> {
     }
 
     fn item(&mut self) -> Result<()> {
+        self.taker = "";
         if is_ghost_use(self.text()) || self.at == 0 && self.text().starts_with("#![tactic(") {
             self.erase();
             return Ok(());
@@ -590,11 +625,13 @@ impl<'a> Parser<'a> {
         self.up_to(";")
     }
 
-    fn constant_and_type(&mut self) -> Result<()> {
+    /// A constant before its value, and its name.
+    fn constant_and_type(&mut self) -> Result<&'a str> {
         self.form("const")?;
-        self.declare()?;
+        let name = self.declare()?;
         self.form(":")?;
-        self.kind()
+        self.kind()?;
+        Ok(name)
     }
 
     // ---- Types
@@ -719,7 +756,7 @@ impl<'a> Parser<'a> {
 
     fn declared_trait(&mut self) -> Result<()> {
         self.form("trait")?;
-        let mut made = Trait { name: self.declare()?, functions: Vec::new() };
+        let mut made = Trait { name: self.declare()?, members: Vec::new() };
         self.bounds()?;
         self.form("{")?;
         while !self.accept("}") {
@@ -728,11 +765,11 @@ impl<'a> Parser<'a> {
             }
             let is_function = self.function_attributes();
             if self.text() == "const" && !is_function {
-                self.constant_and_type()?;
+                made.members.push(Member { name: self.constant_and_type()?, is_function: false });
                 self.form(";")?;
                 continue;
             }
-            made.functions.push(self.signature()?);
+            made.members.push(Member { name: self.signature()?, is_function: true });
             if !self.accept(";") {
                 self.body()?;
             }
@@ -753,7 +790,9 @@ impl<'a> Parser<'a> {
             if self.tokens[parameters].iter().any(|token| token.text == self.text()) {
                 return self.refuse("a parameter, which is any type");
             }
+            let kind = self.at;
             self.given(name)?;
+            self.taker = self.own_in(kind);
         }
         self.form("{")?;
         if is_given && name == MODEL {
@@ -779,6 +818,13 @@ impl<'a> Parser<'a> {
             self.given.push((name, kind));
         }
         self.arguments()
+    }
+
+    /// The first number of Rust's own, or bool, in a type up to here that does not begin with a name of the source.
+    fn own_in(&self, first: usize) -> &'a str {
+        let kind = &self.tokens[first..self.at];
+        let is_own = |token: &&Token| NUMBERS.contains(&token.text) || token.text == "bool";
+        kind.iter().find(is_own).filter(|_| !is_capital(kind[0].text)).map_or("", |token| token.text)
     }
 
     /// The rest of an `impl Model`, which has only ghost members and is erased whole.
@@ -960,6 +1006,10 @@ impl<'a> Parser<'a> {
             "::" if word_length(before) == 0 || word_length(next) == 0 => self.refuse("which is not between two words"),
             _ if FUNCTIONS.iter().any(|function| rest.starts_with(function)) => Ok(()),
             _ if NUMBERS.contains(&text) && next == "::" => self.number_function(),
+            "Self" if next == "::" && !self.taker.is_empty() => {
+                self.selves.push((self.at, self.taker));
+                Ok(())
+            }
             _ if is_number(text) && next == "." && before != "." => self.refuse("a number with a point"),
             _ if text.starts_with('\'') && (["break", "continue"].contains(&before) || next == ":") => Ok(()),
             _ if is_name(text) || is_number(text) || WORDS_IN_BODIES.contains(&text) => Ok(()),
@@ -973,7 +1023,7 @@ impl<'a> Parser<'a> {
     /// What one of Rust's own numbers has, by its name.
     fn number_function(&self) -> Result<()> {
         let name = self.tokens[self.at + 2].text;
-        if OF_NUMBERS.contains(&name) || self.text() != "usize" && OF_FIXED.contains(&name) {
+        if is_of_number(self.text(), name) {
             return Ok(());
         }
         self.refuse(&format!("of which it does not know `{name}`"))
