@@ -807,11 +807,11 @@ impl<'a> Parser<'a> {
     /// The type that is given a trait: one of the source, or a number, where the trait is the source's too.
     fn given(&mut self, name: &'a str) -> Result<()> {
         let kind = self.text();
+        if CAPITALS.contains(&kind) || CAPITALS.contains(&name) && ![GIVEN, MODEL].contains(&name) {
+            return self.refuse(&format!("which is given `{name}`"));
+        }
         if name == GIVEN {
             return self.kind();
-        }
-        if CAPITALS.contains(&kind) || CAPITALS.contains(&name) && name != MODEL {
-            return self.refuse(&format!("which is given `{name}`"));
         }
         self.form("TYPE")?;
         if !is_capital(kind) {
@@ -1010,6 +1010,7 @@ impl<'a> Parser<'a> {
                 self.selves.push((self.at, self.taker));
                 Ok(())
             }
+            _ if CAPITALS.contains(&text) && next == "::" => self.variant(),
             _ if is_number(text) && next == "." && before != "." => self.refuse("a number with a point"),
             _ if text.starts_with('\'') && (["break", "continue"].contains(&before) || next == ":") => Ok(()),
             _ if is_name(text) || is_number(text) || WORDS_IN_BODIES.contains(&text) => Ok(()),
@@ -1024,6 +1025,15 @@ impl<'a> Parser<'a> {
     fn number_function(&self) -> Result<()> {
         let name = self.tokens[self.at + 2].text;
         if is_of_number(self.text(), name) {
+            return Ok(());
+        }
+        self.refuse(&format!("of which it does not know `{name}`"))
+    }
+
+    /// Of a type or trait of Rust's own only what begins with a capital is named behind it, as `Option::Some`.
+    fn variant(&self) -> Result<()> {
+        let name = self.tokens[self.at + 2].text;
+        if is_capital(name) {
             return Ok(());
         }
         self.refuse(&format!("of which it does not know `{name}`"))
