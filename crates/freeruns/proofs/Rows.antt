@@ -262,17 +262,18 @@ row_inside bits j n small few whole = go (dec_lt 32 (j + n))
     go (yes l) = absurd (omega (arith, rw e at (whole.row (32 - j) (omega arith)), none_above bits 32 small (omega arith)))
     go (no l) = omega arith
 
--- the first of the places where a row of n + 1 bits starts: the whole row there is longer than n
+-- where a row of n + 1 bits starts, the whole row is longer than n
+pub whole_longer : (bits n j count : ℕ) → Row (bits + 2 ^ 32 * 0) (n + 1) j → WholeRow bits j count → n < count
+whole_longer bits n j count row whole = go (dec_lt n count)
+  where
+    go : Dec (n < count) → n < count
+    go (yes l) = l
+    go (no l) = absurd (whole.next (alone_row bits (n + 1) j row count (omega arith)))
+
+-- so it is at the first of the places where one starts
 module _ (bits n starts s : ℕ) (small : starts < 2 ^ 32) (some : starts ≢ 0) (r : RowStarts bits 0 (n + 1) starts) (z : ZerosOf 32 starts s) where
   pub starts_inside : s < 32
   starts_inside = first_of 32 starts s small some z
 
-  pub whole_longer : (count : ℕ) → WholeRow bits s count → n < count
-  whole_longer count whole = go (dec_lt n count)
-    where
-      row : Row (bits + 2 ^ 32 * 0) (n + 1) s
-      row = r.only s starts_inside (λ e. omega (arith, e, z.next starts_inside))
-
-      go : Dec (n < count) → n < count
-      go (yes l) = l
-      go (no l) = absurd (whole.next (alone_row bits (n + 1) s row count (omega arith)))
+  pub first_longer : (count : ℕ) → WholeRow bits s count → n < count
+  first_longer count = whole_longer bits n s count (r.only s starts_inside (λ e. omega (arith, e, z.next starts_inside)))

@@ -5,7 +5,7 @@ use Prim.Native.Nat.{◌<◌}
 use native.Mathlib.Omega.{arith}
 use borrow.Author.Rules.{rules}
 use Rattle.laws.proofs.Widths.{in_32_bits}
-use Rattle.freeruns.proofs.Rows.{zeros_below, none_longer, whole_longer}
+use Rattle.freeruns.proofs.Rows.{zeros_below, none_longer, first_longer}
 use Rattle.freeruns.proofs.longer_row.Goals as goal
 
 pub overflow_add-best : goal.overflow_add-best
@@ -23,13 +23,13 @@ returns-then-found-eq0 c =
 pub loop-best-smaller : goal.loop-best-smaller
 loop-best-smaller c =
     let longer : c.loop-best.best < c.row_from-best.result =
-    whole_longer _ _ _ _ (omega arith) c.if-found-eq0.false c.row_starts-found.ensures (zeros_below 32 _) _ c.row_from-best.ensures in
+    first_longer _ _ _ _ (omega arith) c.if-found-eq0.false c.row_starts-found.ensures (zeros_below 32 _) _ c.row_from-best.ensures in
     omega (arith, longer)
 
 pub loop-best-preserved : goal.loop-best-preserved
 loop-best-preserved c =
     let longer : c.loop-best.best < c.row_from-best.result =
-    whole_longer _ _ _ _ (omega arith) c.if-found-eq0.false c.row_starts-found.ensures (zeros_below 32 _) _ c.row_from-best.ensures in
+    first_longer _ _ _ _ (omega arith) c.if-found-eq0.false c.row_starts-found.ensures (zeros_below 32 _) _ c.row_from-best.ensures in
     (omega (arith, longer), inr (_, c.row_from-best.ensures.row))
 
 pub returns : goal.returns
