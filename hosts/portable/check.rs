@@ -218,7 +218,7 @@ fn is_known_attribute(lines: &[&str], i: usize) -> bool {
     let derived = line.strip_prefix("#[derive(").and_then(|rest| rest.strip_suffix(")]"));
     let is_derive = derived.is_some_and(|names| names.split(", ").all(|name| DERIVED.contains(&name)));
     is_derive && precedes(lines, i, &["pub struct ", "struct ", "pub enum ", "enum "])
-        || line == "#[inline]" && precedes_function(lines, i)
+        || ["#[inline]", "#[inline(always)]"].contains(&line) && precedes_function(lines, i)
 }
 
 fn precedes(lines: &[&str], i: usize, starts: &[&str]) -> bool {
@@ -226,7 +226,7 @@ fn precedes(lines: &[&str], i: usize, starts: &[&str]) -> bool {
 }
 
 fn precedes_function(lines: &[&str], i: usize) -> bool {
-    precedes(lines, i, &["pub fn ", "fn ", EXPORT, "#[tactic(", "#[inline]"])
+    precedes(lines, i, &["pub fn ", "fn ", EXPORT, "#[tactic(", "#[inline"])
 }
 
 /// Whether a clause begins here: one of two words, a name or none, and a brace.

@@ -66,13 +66,15 @@ const NO_NAMES: [&str; 41] = [
     "struct", "super", "trait", "try", "type", "u128", "union", "unsafe", "use", "where",
 ];
 /// Longer signs first.
-const SIGNS: [&str; 43] = [
+const SIGNS: [&str; 44] = [
     "\"C\"", "..=", "::", "->", "=>", "==", "!=", "<=", ">=", "<<", ">>", "&&", "||", "+=", "-=", "&=", "|=", "^=", "..", "{", "}",
-    "(", ")", "[", "]", ",", ";", ":", ".", "=", "<", ">", "+", "-", "*", "/", "%", "&", "|", "^", "!", "?", "#[inline]",
+    "(", ")", "[", "]", ",", ";", ":", ".", "=", "<", ">", "+", "-", "*", "/", "%", "&", "|", "^", "!", "?", INLINE[0],
+    INLINE[1],
 ];
 /// Longer signs of Rust that begin as one of these, and what begins a comment that it does not know.
 const UNKNOWN_SIGNS: [&str; 9] = ["///", "//!", "/*", "<<=", ">>=", "...", "*=", "/=", "%="];
-const INLINE: &str = "#[inline]";
+/// Hints to the compiler, which change no meaning.
+const INLINE: [&str; 2] = ["#[inline]", "#[inline(always)]"];
 /// How an attribute begins that gives a type what Rust's own library can derive, and what that may be.
 const DERIVE: &str = "#[derive(";
 const DERIVED: [&str; 7] = ["Clone", "Copy", "Debug", "Eq", "Ord", "PartialEq", "PartialOrd"];
@@ -596,7 +598,7 @@ impl<'a> Parser<'a> {
         loop {
             if self.text().starts_with("#[tactic(") {
                 self.erase();
-            } else if !self.accept(INLINE) {
+            } else if !INLINE.iter().any(|hint| self.accept(hint)) {
                 return self.at > first;
             }
         }
@@ -1014,7 +1016,7 @@ impl<'a> Parser<'a> {
             _ if is_number(text) && next == "." && before != "." => self.refuse("a number with a point"),
             _ if text.starts_with('\'') && (["break", "continue"].contains(&before) || next == ":") => Ok(()),
             _ if is_name(text) || is_number(text) || WORDS_IN_BODIES.contains(&text) => Ok(()),
-            _ if SIGNS.contains(&text) && !["->", "\"C\"", INLINE].contains(&text) => Ok(()),
+            _ if SIGNS.contains(&text) && !["->", "\"C\"", INLINE[0], INLINE[1]].contains(&text) => Ok(()),
             _ => self.refuse("which it does not know in a body"),
         }?;
         self.at += 1;
