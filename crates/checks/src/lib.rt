@@ -34,6 +34,7 @@ impl<'a> HeapView<'a> {
         ensures t { result.t ≡ t }
         ensures pool { result.pool.now ≡ pool.now }
         ensures table { result.table.now ≡ table.now }
+        ensures slices { (result.pool ≡ pool.entry) × (result.table ≡ table.entry) }
     {
         HeapView {
             base,

@@ -66,14 +66,17 @@ pub fn view<'a>(base: Address, t: usize, pool: &'a [u8], table: &'a [u8]) -> Hea
     HeapView::new(base, t, pool, table)
 }
 
-// Refusals 1 and 2, by which every call that reads the table is refused first.
-#[inline]
+// Refusals 1 and 2, by which every call that reads the table is refused first. Where it is built for size, a copy of the whole view, or a call that hands it
+// back, would be a call of `memcpy`.
+#[inline(always)]
 pub fn check<'a>(heap: &HeapView<'a>) -> Result<Checked<'a>, Refusal>
     ensures refusal { refused_by result ≡ (perform (planes heap.now.t) (Survey heap.now.base.0) [] (memory heap.now.pool.now heap.now.table.now)).answer.refusal }
     ensures heap { IfOk result (λ c. c.view ≡ heap.now) }
 {
     checks::heap(heap)?;
-    Ok(Checked { view: *heap })
+    Ok(Checked {
+        view: HeapView::new(heap.base, heap.t, heap.pool, heap.table),
+    })
 }
 
 // Word i of the object with head k.

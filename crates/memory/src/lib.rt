@@ -30,11 +30,15 @@ pub fn two_bytes(bytes: &[u8], at: usize) -> usize
 }
 
 // The N bytes from `at` on become these.
+// One by one, as in `set_part`: where it is built for size, `copy_from_slice` would be a call of `memcpy`.
 fn set_bytes<const N: usize>(bytes: &mut [u8], at: usize, these: [u8; N])
     requires { at + N ≤ length bytes.old }
     ensures { bytes.new ≡ sets bytes.old at these.entry }
 {
-    bytes[at..at + N].copy_from_slice(&these);
+    let part = &mut bytes[at..at + N];
+    for i in 0..N {
+        part[i] = these[i];
+    }
 }
 
 // The two bytes from `at` on become the two lowest of n, the lowest first.
