@@ -116,6 +116,7 @@ fn erase_project(project: &Path, out: &Path) -> Result<()> {
     parsed.retain(|parser| parser.tokens.len() > parser.erased.len() + 1);
     check_methods(&parsed)?;
     check_capitals(&parsed)?;
+    check_functions(&parsed)?;
     check_selves(&parsed)?;
     let root = root(&parsed);
     for folder in ["src", "casts"] {
@@ -143,6 +144,22 @@ fn check_methods(crates: &[Parser]) -> Result<()> {
     for parser in crates {
         if let Some(call) = parser.tokens.windows(3).find(is_unknown) {
             return parser.source.refuse(call[1].from, &format!("`{}`, a method that no crate has", call[1].text));
+        }
+    }
+    Ok(())
+}
+
+/// Behind a type, a parameter or `Self` stands a function of the source: not one that a derive or a trait of Rust's own gives it.
+fn check_functions(crates: &[Parser]) -> Result<()> {
+    let own: Vec<&str> = crates.iter().flat_map(|parser| parser.functions.iter().copied()).collect();
+    for parser in crates {
+        for (at, path) in parser.tokens.windows(3).enumerate() {
+            let (kind, name) = (path[0].text, path[2].text);
+            let is_path = (kind == "Self" || is_capital(kind)) && path[1].text == "::" && is_name(name) && !is_capital(name);
+            let is_of_a_number = parser.selves.iter().any(|(number, _)| *number == at);
+            if is_path && !is_of_a_number && !own.contains(&name) && !OF_NUMBERS.contains(&name) {
+                return parser.source.refuse(path[0].from, &format!("`{kind}`, of which it does not know `{name}`"));
+            }
         }
     }
     Ok(())
@@ -441,6 +458,7 @@ struct Parser<'a> {
     capitals: Vec<&'a str>,
     /// The names of the functions that take `self`.
     methods: Vec<&'a str>,
+    functions: Vec<&'a str>,
     traits: Vec<Trait<'a>>,
     /// The traits that Rust's own types are given, each with the type.
     given: Vec<(&'a str, &'a str)>,
@@ -467,9 +485,10 @@ impl<'a> Parser<'a> {
     /// The whole source, parsed.
     fn of(source: &'a Crate) -> Result<Parser<'a>> {
         let (tokens, erased, calls, entries) = (source.tokens()?, vec![], vec![], vec![]);
-        let (capitals, methods, traits, given, taker, selves, closures) = (vec![], vec![], vec![], vec![], "", vec![], vec![]);
+        let (capitals, methods, functions, traits, given) = (vec![], vec![], vec![], vec![], vec![]);
+        let (taker, selves, closures) = ("", vec![], vec![]);
         let mut parser =
-            Parser { source, tokens, at: 0, erased, calls, entries, capitals, methods, traits, given, taker, selves, closures };
+            Parser { source, tokens, at: 0, erased, calls, entries, capitals, methods, functions, traits, given, taker, selves, closures };
         while !parser.text().is_empty() {
             parser.item()?;
         }
@@ -873,6 +892,7 @@ impl<'a> Parser<'a> {
     fn signature(&mut self) -> Result<&'a str> {
         self.form("fn NAME")?;
         let name = self.before();
+        self.functions.push(name);
         self.generics()?;
         self.form("(")?;
         if self.receiver() {
