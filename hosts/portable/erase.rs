@@ -149,15 +149,19 @@ fn check_methods(crates: &[Parser]) -> Result<()> {
     Ok(())
 }
 
-/// Behind a type, a parameter or `Self` stands a function of the source: not one that a derive or a trait of Rust's own gives it.
+/// Behind a type, a parameter or `Self` stands a function of the source, or one that a number has too: not what a derive or a trait of
+/// Rust's own gives it. Behind Rust's own types and traits stands none.
 fn check_functions(crates: &[Parser]) -> Result<()> {
     let own: Vec<&str> = crates.iter().flat_map(|parser| parser.functions.iter().copied()).collect();
     for parser in crates {
         for (at, path) in parser.tokens.windows(3).enumerate() {
-            let (kind, name) = (path[0].text, path[2].text);
-            let is_path = (kind == "Self" || is_capital(kind)) && path[1].text == "::" && is_name(name) && !is_capital(name);
-            let is_of_a_number = parser.selves.iter().any(|(number, _)| *number == at);
-            if is_path && !is_of_a_number && !own.contains(&name) && !OF_NUMBERS.contains(&name) {
+            let name = path[2].text;
+            if path[1].text != "::" || !is_name(name) || is_capital(name) {
+                continue;
+            }
+            let kind = parser.type_before(at);
+            let is_known = own.contains(&name) || OF_NUMBERS.contains(&name) || parser.selves.iter().any(|(number, _)| *number == at);
+            if CAPITALS.contains(&kind) || (kind == "Self" || is_capital(kind)) && !is_known {
                 return parser.source.refuse(path[0].from, &format!("`{kind}`, of which it does not know `{name}`"));
             }
         }
@@ -1032,7 +1036,6 @@ impl<'a> Parser<'a> {
                 self.selves.push((self.at, self.taker));
                 Ok(())
             }
-            _ if CAPITALS.contains(&text) && next == "::" => self.variant(),
             _ if is_number(text) && next == "." && before != "." => self.refuse("a number with a point"),
             _ if text.starts_with('\'') && (["break", "continue"].contains(&before) || next == ":") => Ok(()),
             _ if is_name(text) || is_number(text) || WORDS_IN_BODIES.contains(&text) => Ok(()),
@@ -1052,13 +1055,20 @@ impl<'a> Parser<'a> {
         self.refuse(&format!("of which it does not know `{name}`"))
     }
 
-    /// Of a type or trait of Rust's own only what begins with a capital is named behind it, as `Option::Some`.
-    fn variant(&self) -> Result<()> {
-        let name = self.tokens[self.at + 2].text;
-        if is_capital(name) {
-            return Ok(());
+    /// The name of a type whose arguments, if it has some, end with that token.
+    fn type_before(&self, last: usize) -> &'a str {
+        let mut open = 0;
+        for at in (0..=last).rev() {
+            match self.tokens[at].text {
+                ">" => open += 1,
+                ">>" => open += 2,
+                "<" => open -= 1,
+                "::" => {}
+                text if open == 0 => return text,
+                _ => {}
+            }
         }
-        self.refuse(&format!("of which it does not know `{name}`"))
+        ""
     }
 
     /// A method that may show how wide a usize is has a call before it, or another name.
